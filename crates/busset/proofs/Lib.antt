@@ -1,0 +1,6 @@
+pub mod Tests
+pub mod Digits
+pub mod Sums
+pub mod Sizes
+pub mod Members
+pub mod Words

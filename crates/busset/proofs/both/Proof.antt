@@ -1,0 +1,9 @@
+use Rattle.busset.proofs.Words.{both-law}
+use Rattle.busset.proofs.both.Statement.{statement}
+use Rattle.busset.proofs.both.Tie as tie
+
+returns : tie.Need-returns
+returns c = both-law (c .args .s) (c .args .t)
+
+pub both-spec : {M : Type 1} → statement M
+both-spec = tie.close (tie.spec returns)

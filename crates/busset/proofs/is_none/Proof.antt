@@ -1,0 +1,11 @@
+use mathlib.Core.Path.{sym, _∙_}
+use Rattle.busset.proofs.Tests.{decides-eq, decides-by}
+use Rattle.busset.proofs.Words.{decides-set, set-empty}
+use Rattle.busset.proofs.is_none.Statement.{statement}
+use Rattle.busset.proofs.is_none.Tie as tie
+
+returns : tie.Need-returns
+returns c = decides-by (λ e. e ∙ set-empty) (λ e. e ∙ sym set-empty) (decides-set (c .args .s) 0 (decides-eq (c .args .s) 0))
+
+pub is-none-spec : {M : Type 1} → statement M
+is-none-spec = tie.close (tie.spec returns)

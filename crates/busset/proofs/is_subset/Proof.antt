@@ -1,0 +1,10 @@
+use borrow.Author.Needs.{needs}
+use Rattle.busset.proofs.Words.{subset-test}
+use Rattle.busset.proofs.is_subset.Statement.{statement}
+use Rattle.busset.proofs.is_subset.Tie as tie
+
+returns : tie.Need-returns
+returns c = subset-test 64 (search needs) (search needs)
+
+pub is-subset-spec : {M : Type 1} → statement M
+is-subset-spec = tie.close (tie.spec returns)

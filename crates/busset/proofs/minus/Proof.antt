@@ -1,0 +1,10 @@
+use borrow.Author.Needs.{needs}
+use Rattle.busset.proofs.Words.{minus-law}
+use Rattle.busset.proofs.minus.Statement.{statement}
+use Rattle.busset.proofs.minus.Tie as tie
+
+returns : tie.Need-returns
+returns c = minus-law 64 (search needs) (search needs)
+
+pub minus-spec : {M : Type 1} → statement M
+minus-spec = tie.close (tie.spec returns)
