@@ -1,0 +1,4 @@
+pub mod Reasons
+pub mod Leasts
+pub mod Lists
+pub mod Shuffles

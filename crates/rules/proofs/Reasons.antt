@@ -1,0 +1,49 @@
+-- The reasons: they go on holding in a larger set, and a set is closed under O1 and O2 exactly when it is closed under them.
+-- A later rule adds a case to each of these laws, and no other theorem names a reason.
+use mathlib.Core.Path.{_≡_}
+use mathlib.Core.Logic.{⊎-elim}
+use Prim.Native.Nat.{ℕ}
+use native.Mathlib.Omega.{arith}
+use Rattle.busset.specs.Sets.{Bus, In, Out, Sub}
+use Rattle.busset.proofs.Members.{in-or, sub-of}
+use Rattle.step.specs.declared.Reason.{Reason}
+use Rattle.step.specs.declared.Reason.the-variants.{OwnUnit, NeighbourOf, ZeroInjection}
+use Rattle.rules.specs.Grids.{Grid, Proper}
+use Rattle.rules.specs.Observation.{O1, Closed}
+use Rattle.rules.specs.Steps.{ByUnit, ByZero, Holds, HasReasoned, ReasonNames}
+
+-- a reason that holds goes on holding in a larger set
+pub holds-more : (g : Grid) (s t b : ℕ) → Sub s t → (r : Reason) → Holds g s b r → Holds g t b r
+holds-more g s t b sub OwnUnit h = h
+holds-more g s t b sub (NeighbourOf p) h = h
+holds-more g s t b sub (ZeroInjection w) h = record {
+  class = h .class;
+  observed = omega (arith, sub w, h .observed);
+  joined = h .joined;
+  others = λ a m ne. omega (arith, sub a, h .others a m ne);
+}
+
+pub closed-reasoned : (g : Grid) (s : ℕ) → Closed g s → HasReasoned g s
+closed-reasoned g s cl b OwnUnit h = cl .o1 .own b h
+closed-reasoned g s cl b (NeighbourOf p) h = omega (arith, cl .o1 .near p (h .unit) b, h .joined)
+closed-reasoned g s cl b (ZeroInjection w) h = cl .o2 w (h .class) (h .observed) b (h .joined) (h .others)
+
+pub reasoned-closed : (g : Grid) (s : ℕ) → HasReasoned g s → Closed g s
+reasoned-closed g s has = record {
+  o1 = record {
+    own = λ b h. has b OwnUnit h;
+    near = λ p h. sub-of (g .nbr p) s (λ b j. has b (NeighbourOf p) (record { unit = h; joined = j }));
+  };
+  o2 = λ w z o b j rest. has b (ZeroInjection w) (record { class = z; observed = o; joined = j; others = rest });
+}
+
+-- a bus for which a reason holds is a bus of the grid, and so is the one that the reason names
+pub holds-bus : (g : Grid) (s b : ℕ) → Proper g → (r : Reason) → Holds g s b r → Bus (g .n) b
+holds-bus g s b v OwnUnit h = v .units b h
+holds-bus g s b v (NeighbourOf p) h = v .lines p b (h .joined) .to
+holds-bus g s b v (ZeroInjection w) h = v .lines w b (h .joined) .to
+
+pub holds-names : (g : Grid) (s b : ℕ) → Proper g → (r : Reason) → Holds g s b r → ReasonNames (g .n) r
+holds-names g s b v OwnUnit h = tt
+holds-names g s b v (NeighbourOf p) h = v .lines p b (h .joined) .from
+holds-names g s b v (ZeroInjection w) h = v .lines w b (h .joined) .from

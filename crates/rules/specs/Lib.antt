@@ -1,0 +1,5 @@
+pub mod Grids
+pub mod Observation
+pub mod Steps
+pub mod Weaving
+pub mod Figures

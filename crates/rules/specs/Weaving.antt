@@ -1,0 +1,74 @@
+-- Weaving a received list, shuffles of the desks' lists, and what demand 3 says of weaving one.
+use mathlib.Core.Path.{_≡_}
+use mathlib.Core.List.{List, [], _∷_}
+use mathlib.Core.Logic.{_⊎_}
+use Prim.Native.Nat.{ℕ, zero, suc}
+use lib.ListN.{length}
+use Rattle.busset.specs.Sets.{bit, In, Out, empty, add, size}
+use Rattle.step.specs.declared.Step.{Step}
+use Rattle.rules.specs.Grids.{Grid}
+use Rattle.rules.specs.Observation.{Least}
+use Rattle.rules.specs.Steps.{Holds, reached, Accepted, Finished}
+
+-- ---- weaving
+
+-- a step is written where the digit of its bus is 0, and passed over where it is 1
+abbrev pub unlessSeen : ℕ → Step → List Step → List Step
+unlessSeen zero x xs = x ∷ xs
+unlessSeen (suc d) x xs = xs
+
+-- what weaving writes from s on: in order, each step whose bus is not yet observed
+abbrev pub wovenFrom : ℕ → List Step → List Step
+wovenFrom s [] = []
+wovenFrom s (x ∷ xs) = unlessSeen (bit s (x .bus)) x (wovenFrom (add s (x .bus)) xs)
+
+-- no step is bad from s on: the reason of each step holds, where its bus is not yet observed
+abbrev pub WeavableFrom : Grid → ℕ → List Step → Type 0
+WeavableFrom g s [] = Unit {0}
+WeavableFrom g s (x ∷ xs) = (Out s (x .bus) → Holds g s (x .bus) (x .reason)) × WeavableFrom g (add s (x .bus)) xs
+
+-- what weaving writes
+abbrev pub woven : List Step → List Step
+woven xs = wovenFrom empty xs
+
+-- weaving meets no bad step
+abbrev pub Weavable : Grid → List Step → Type 0
+Weavable g xs = WeavableFrom g empty xs
+
+-- ---- shuffles
+
+-- P holds of each of a list
+abbrev pub Each {ℓ} : {A : Type ℓ} → (A → Type 0) → List A → Type 0
+Each P [] = Unit {0}
+Each P (x ∷ xs) = P x × Each P xs
+
+-- P holds of at least one of a list
+abbrev pub Some {ℓ} : {A : Type ℓ} → (A → Type 0) → List A → Type 0
+Some P [] = ⊥
+Some P (x ∷ xs) = P x ⊎ Some P xs
+
+-- x is the first step of one of the lists, and the lists after it are those without it
+pub data Taken : Step → List (List Step) → List (List Step) → Type 0 where
+  here : {x : Step} {xs : List Step} {xss : List (List Step)} → Taken x ((x ∷ xs) ∷ xss) (xs ∷ xss)
+  there : {x : Step} {xs : List Step} {xss yss : List (List Step)} → Taken x xss yss → Taken x (xs ∷ xss) (xs ∷ yss)
+
+-- zs has the steps of all the lists, and those of each list in that list's order
+pub data Shuffle : List (List Step) → List Step → Type 0 where
+  none : {xss : List (List Step)} → Each (λ xs. xs ≡ []) xss → Shuffle xss []
+  next : {x : Step} {xss yss : List (List Step)} {zs : List Step} → Taken x xss yss → Shuffle yss zs → Shuffle xss (x ∷ zs)
+
+-- ---- demand 3
+
+-- what weaving a shuffle of the desks' lists comes to
+pub record Woven (g : Grid) (desks : List (List Step)) (received : List Step) : Type 0 where
+  -- it never refuses
+  pub weavable : Weavable g received
+  -- it writes a list that is itself accepted
+  pub accepted : Accepted g (woven received)
+  -- it ends with exactly the buses at least one desk observed
+  pub all : (b : ℕ) → Some (λ xs. In (reached xs) b) desks → In (reached (woven received)) b
+  pub only : (b : ℕ) → In (reached (woven received)) b → Some (λ xs. In (reached xs) b) desks
+  -- with one step for each
+  pub each-once : length (woven received) ≡ size (reached (woven received))
+  -- if any desk had finished, that is the observed set
+  pub least : Some (λ xs. Finished g (reached xs)) desks → Least g (reached (woven received))
