@@ -1,11 +1,13 @@
 -- Membership: what is in `add`, `less`, `meet` and `upTo`, and in what `With` and `Without` give.
 use mathlib.Core.Path.{_≡_, sym, ap, _∙_, subst⁻¹}
+use mathlib.Core.Bool.{Bool}
 use mathlib.Core.Logic.{_⊎_, inl, inr, ⊎-elim}
 use Prim.Native.Nat.{ℕ, zero, suc, _+_, _-_, _^_, _≤_, _<_, max, min}
 use native.Mathlib.Nat.{eq-zero-or-pos, le-antisymm}
 use native.Mathlib.Omega.{arith}
-use Rattle.busset.specs.Sets.{Bus, bit, In, Out, Sub, empty, add, less, meet, upTo, Union, Both, With, Without, All}
-use Rattle.busset.proofs.Tests.{below-or, same-or}
+use Rattle.busset.specs.Deciding.{Decides}
+use Rattle.busset.specs.Sets.{Bus, bit, In, Out, Sub, Within, empty, add, less, meet, upTo, Union, Both, With, Without, All}
+use Rattle.busset.proofs.Tests.{below-or, same-or, decides-by}
 use Rattle.busset.proofs.Digits.{bit-or, bit-and, bit-less, bit-zero, bit-mod, bit-mod-out, bit-one-same, bit-one-other, ext}
 
 -- ---- cases
@@ -127,3 +129,9 @@ without-of {P} {s} {b} {r} w p h a z =
 pub without-sub : {s b r : ℕ} → Without s b r → Sub r s
 without-sub {s} {b} {r} w a =
     ⊎-elim (λ (e : a ≡ b). subst⁻¹ (λ (x : ℕ). bit r x ≤ bit s x) e (omega (arith, w .here))) (λ (ne : a ≡ b → ⊥). omega (arith, w .there a ne)) (same-or a b)
+
+-- ---- the buses 1 to n
+
+pub within-test : (s : ℕ) {n a : ℕ} {r : Bool} → All n a → Decides (Sub s a) r → Decides (Within n s) r
+within-test s {n} {a} al d =
+    decides-by (λ sub b h. al .only b (omega (arith, sub b))) (λ w. sub-of s a (λ b h. al .has b (w b h))) d

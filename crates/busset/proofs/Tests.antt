@@ -1,18 +1,21 @@
 -- Tests that answer yes or no, and cases on numbers.
-use mathlib.Core.Path.{_≡_, sym, ap, _∙_}
+use mathlib.Core.Path.{_≡_, refl, sym, ap, _∙_}
 use mathlib.Core.Bool.{Bool, true, false}
 use mathlib.Core.Logic.{_⊎_, inl, inr, ⊎-elim}
 use Prim.Native.Nat.{ℕ, _+_, _-_, _≤_, _<_}
 use native.Mathlib.Nat.{eq-zero-or-pos}
 use native.Mathlib.Omega.{arith}
-use lib.Dec.{eqb}
-use borrow.Author.Tests.{eqb-true, eq-eqb}
+use lib.Dec.{eqb, leb}
+use borrow.Author.Tests.{eqb-true, eq-eqb, leb-true, le-leb}
 use Rattle.busset.specs.Deciding.{Decides}
 
 -- ---- tests
 
 pub decides-eq : (m n : ℕ) → Decides (m ≡ n) (eqb m n)
 decides-eq m n = record { yes = eqb-true m n; no = eq-eqb m n }
+
+pub decides-le : (m n : ℕ) → Decides (m ≤ n) (leb m n)
+decides-le m n = record { yes = leb-true m n; no = le-leb m n }
 
 pub decides-by : {P Q : Type 0} {r : Bool} → (Q → P) → (P → Q) → Decides Q r → Decides P r
 decides-by f g d = record { yes = λ e. f (d .yes e); no = λ p. d .no (g p) }
@@ -25,6 +28,9 @@ refutes d e p = true-is-not-false (sym (d .no p) ∙ e)
 
 pub decides-no : {P : Type 0} → (P → ⊥) → Decides P false
 decides-no f = record { yes = λ e. absurd (true-is-not-false (sym e)); no = λ p. absurd (f p) }
+
+pub decides-yes : {P : Type 0} → P → Decides P true
+decides-yes p = record { yes = λ e. p; no = λ q. refl }
 
 -- ---- cases
 

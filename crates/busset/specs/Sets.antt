@@ -27,6 +27,10 @@ Out s b = bit s b ≡ 0
 abbrev pub Sub : ℕ → ℕ → Type 0
 Sub s t = (b : ℕ) → bit s b ≤ bit t b
 
+-- every bus of s is 1 to n
+abbrev pub Within : ℕ → ℕ → Type 0
+Within n s = (b : ℕ) → In s b → Bus n b
+
 -- ---- sets made from others
 
 -- the set with no bus

@@ -2,7 +2,7 @@
 ghost use mathlib.Core.Path.{_≡_};
 ghost use Prim.Native.Nat.{_≤_};
 ghost use Rattle.busset.specs.Deciding.{Decides};
-ghost use Rattle.busset.specs.Sets.{Bus, In, Sub, Union, Both, Minus, With, Without, Lowest, Counted, All, empty, upTo, width, setOf};
+ghost use Rattle.busset.specs.Sets.{Bus, In, Sub, Within, Union, Both, Minus, With, Without, Lowest, Counted, All, empty, upTo, width, setOf};
 
 pub type BusSet = u64;
 
@@ -99,4 +99,12 @@ pub fn up_to(s: BusSet, n: usize) -> BusSet
     ensures { λ r. ⌜ setOf r ≡ upTo n (setOf s) ⌝ }
 {
     both(s, all(n))
+}
+
+// Whether every bus of s is 1 to n.
+pub fn is_within(s: BusSet, n: usize) -> bool
+    requires { ⌜ n ≤ width ⌝ }
+    ensures { λ r. ⌜ Decides (Within n (setOf s)) r ⌝ }
+{
+    is_subset(s, all(n))
 }

@@ -1,7 +1,7 @@
 -- The grid, with no machine word in it: a set of buses is a number of any length (busset).
 use mathlib.Core.Path.{_≡_}
 use Prim.Native.Nat.{ℕ, zero, suc, _+_}
-use Rattle.busset.specs.Sets.{Bus, In, size, upTo}
+use Rattle.busset.specs.Sets.{Bus, In, Within, size, upTo}
 
 -- n buses numbered from 1, the neighbours of each, the Z buses, and the buses with a unit. Sites play no part in observation.
 pub record Grid : Type 0 where
@@ -10,24 +10,24 @@ pub record Grid : Type 0 where
   pub zero : ℕ
   pub units : ℕ
 
--- a line between a and b: it joins two different buses of the grid, and is the same seen from both ends
-pub record Line (g : Grid) (a b : ℕ) : Type 0 where
-  pub from : Bus (g .n) a
-  pub to : Bus (g .n) b
+-- a and b, joined as seen from a, have a line: they are two different buses, 1 to n, and it is the same seen from b
+pub record Line (n : ℕ) (nbr : ℕ → ℕ) (a b : ℕ) : Type 0 where
+  pub from : Bus n a
+  pub to : Bus n b
   pub differ : a ≡ b → ⊥
-  pub back : In (g .nbr b) a
+  pub back : In (nbr b) a
 
 -- every line is one, and every Z bus and unit is at a bus of the grid
 pub record Proper (g : Grid) : Type 0 where
-  pub lines : (a b : ℕ) → In (g .nbr a) b → Line g a b
-  pub zeros : (b : ℕ) → In (g .zero) b → Bus (g .n) b
-  pub units : (b : ℕ) → In (g .units) b → Bus (g .n) b
+  pub lines : (a b : ℕ) → In (g .nbr a) b → Line (g .n) (g .nbr) a b
+  pub zeros : Within (g .n) (g .zero)
+  pub units : Within (g .n) (g .units)
 
 -- the sum of f over the buses 1 to n
 unfoldable pub total : ℕ → (ℕ → ℕ) → ℕ
 total zero f = 0
 total (suc n) f = total n f + f (suc n)
 
--- how many lines the grid has: each is counted at its higher bus
-unfoldable pub lineCount : Grid → ℕ
-lineCount g = total (g .n) (λ b. size (upTo b (g .nbr b)))
+-- how many lines there are: each is counted at its higher bus
+abbrev pub lineCount : ℕ → (ℕ → ℕ) → ℕ
+lineCount n nbr = total n (λ b. size (upTo b (nbr b)))

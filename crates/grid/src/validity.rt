@@ -1,0 +1,93 @@
+// Whether a case value is valid: what refusal 5 does not refuse.
+ghost use mathlib.Core.Path.{_≡_};
+ghost use Prim.Native.Nat.{ℕ, _≤_};
+ghost use lib.ListN.{length};
+ghost use Rattle.busset.specs.Deciding.{Decides};
+ghost use Rattle.busset.specs.Sets.{Bus, In, width};
+ghost use Rattle.rules.specs.Grids.{Line, lineCount};
+ghost use Rattle.grid.specs.Cases.{neighbours, Valid, Lines, LinesAt};
+use crate::Case;
+use busset::BusSet;
+
+// Whether a and b, joined as seen from a, have a line.
+pub fn is_line(n: usize, nbr: &[BusSet; 64], a: usize, b: usize) -> bool
+    requires { ⌜ Bus width a × Bus width b ⌝ }
+    ensures { λ r. ⌜ Decides (Line n (neighbours (now (nbr .entry))) a b) r ⌝ }
+{
+    if n < a {
+        return false;
+    }
+    if n < b {
+        return false;
+    }
+    if a == b {
+        return false;
+    }
+    busset::has(crate::row(nbr, b), a)
+}
+
+// Whether all that b is joined to is joined to it by a line.
+pub fn has_lines(n: usize, nbr: &[BusSet; 64], b: usize) -> bool
+    requires { ⌜ Bus width b ⌝ }
+    ensures { λ r. ⌜ Decides (LinesAt n (neighbours (now (nbr .entry))) b) r ⌝ }
+{
+    let mut left = crate::row(nbr, b);
+    while !busset::is_none(left) {
+        let a = busset::lowest(left);
+        if !is_line(n, nbr, b, a) {
+            return false;
+        }
+        left = busset::without(left, a);
+    }
+    true
+}
+
+// Whether all that is joined is joined by a line.
+pub fn all_lines(n: usize, nbr: &[BusSet; 64]) -> bool
+    requires { ⌜ length (now nbr) ≡ 64 ⌝ }
+    ensures { λ r. ⌜ Decides (Lines n (neighbours (now (nbr .entry)))) r ⌝ }
+{
+    for b in 1..=64 {
+        if !has_lines(n, nbr, b) {
+            return false;
+        }
+    }
+    true
+}
+
+pub fn count_lines(n: usize, nbr: &[BusSet; 64]) -> usize
+    requires { ⌜ n ≤ width ⌝ }
+    ensures { λ r. ⌜ r ≡ lineCount n (neighbours (now (nbr .entry))) ⌝ }
+{
+    let mut sum: usize = 0;
+    for b in 1..n + 1 {
+        sum += busset::count(busset::up_to(crate::row(nbr, b), b));
+    }
+    sum
+}
+
+pub fn is_valid(case: Case) -> bool
+    ensures { λ r. ⌜ Decides (Valid case) r ⌝ }
+{
+    let n = case.n;
+    if n < 1 {
+        return false;
+    }
+    if 64 < n {
+        return false;
+    }
+    if !busset::is_within(case.zero, n) {
+        return false;
+    }
+    if !busset::is_within(case.site, n) {
+        return false;
+    }
+    if !busset::is_within(case.units, n) {
+        return false;
+    }
+    let nbr = case.nbr;
+    if !all_lines(n, &nbr) {
+        return false;
+    }
+    count_lines(n, &nbr) <= 256
+}
