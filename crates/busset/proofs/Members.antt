@@ -1,4 +1,4 @@
--- Membership: what is in `add`, `less`, `meet` and `upTo`, and in what `With` and `Without` give.
+-- Membership: what is in `add`, `meet`, `lack`, `less` and `upTo`, and in what `With` and `Without` give.
 use mathlib.Core.Path.{_≡_, sym, ap, _∙_, subst⁻¹}
 use mathlib.Core.Bool.{Bool}
 use mathlib.Core.Logic.{_⊎_, inl, inr, ⊎-elim}
@@ -6,7 +6,7 @@ use Prim.Native.Nat.{ℕ, zero, suc, _+_, _-_, _^_, _≤_, _<_, max, min}
 use native.Mathlib.Nat.{eq-zero-or-pos, le-antisymm}
 use native.Mathlib.Omega.{arith}
 use Rattle.busset.specs.Deciding.{Decides}
-use Rattle.busset.specs.Sets.{Bus, bit, In, Out, Sub, Within, empty, add, less, meet, upTo, Union, Both, With, Without, All}
+use Rattle.busset.specs.Sets.{Bus, bit, In, Out, Sub, Within, empty, add, meet, lack, less, upTo, Both, Minus, With, Without, All}
 use Rattle.busset.proofs.Tests.{below-or, same-or, decides-by}
 use Rattle.busset.proofs.Digits.{bit-or, bit-and, bit-less, bit-zero, bit-mod, bit-mod-out, bit-one-same, bit-one-other, ext}
 
@@ -69,15 +69,22 @@ with-add {s} {b} {r} w =
     (λ (ne : a ≡ b → ⊥). omega (arith, w .there a ne, add-there s b a ne))
     (same-or a b))
 
--- ---- less one, the buses of both, the buses up to n
+-- ---- the buses of both, of one alone, all but one, and those up to n
+
+pub lack-at : (s t b : ℕ) → bit (lack s t) b ≡ bit s b - bit t b
+unfolding lack
+lack-at s t b = bit-less s t b
+
+pub minus-lack : {s t r : ℕ} → Minus s t r → r ≡ lack s t
+minus-lack {s} {t} {r} m = ext r (lack s t) (λ b. m .at b ∙ sym (lack-at s t b))
 
 pub less-here : (s b : ℕ) → Out (less s b) b
 unfolding less
-less-here s b = omega (arith, bit-less s (2 ^ b) b, bit-one-same b)
+less-here s b = omega (arith, lack-at s (2 ^ b) b, bit-one-same b)
 
 pub less-there : (s b a : ℕ) → (a ≡ b → ⊥) → bit (less s b) a ≡ bit s a
 unfolding less
-less-there s b a ne = omega (arith, bit-less s (2 ^ b) a, bit-one-other b a (λ e. ne (sym e)))
+less-there s b a ne = omega (arith, lack-at s (2 ^ b) a, bit-one-other b a (λ e. ne (sym e)))
 
 pub meet-at : (s t b : ℕ) → bit (meet s t) b ≡ min (bit s b) (bit t b)
 unfolding meet
@@ -125,6 +132,14 @@ both-upTo {n} {s} {a} {r} al z h = ext r (upTo n s) (λ b. ⊎-elim (in-it b) (p
 pub without-of : {P : ℕ → Type 0} {s b r : ℕ} → Without s b r → P b → ((a : ℕ) → Out s a → P a) → (a : ℕ) → Out r a → P a
 without-of {P} {s} {b} {r} w p h a z =
     ⊎-elim (λ (e : a ≡ b). subst⁻¹ P e p) (λ (ne : a ≡ b → ⊥). h a (omega (arith, w .there a ne))) (same-or a b)
+
+pub without-less : {s b r : ℕ} → Without s b r → r ≡ less s b
+without-less {s} {b} {r} w =
+    ext r (less s b)
+    (λ a. ⊎-elim
+    (λ (e : a ≡ b). subst⁻¹ (λ (x : ℕ). bit r x ≡ bit (less s b) x) e (omega (arith, w .here, less-here s b)))
+    (λ (ne : a ≡ b → ⊥). omega (arith, w .there a ne, less-there s b a ne))
+    (same-or a b))
 
 pub without-sub : {s b r : ℕ} → Without s b r → Sub r s
 without-sub {s} {b} {r} w a =

@@ -5,13 +5,12 @@ use Prim.Native.Nat.{ℕ, zero, suc, _+_, _-_, _*_, _/_, _^_, _≤_, _<_, max, m
 use native.Mathlib.Nat.{lt-of-lt-of-le}
 use native.Mathlib.Omega.{arith}
 use lib.Pow.{pow-mono}
-use lib.Bits.{bitAnd}
 use lib.Count.{ones, ones-step, ones-ones}
-use Rattle.busset.specs.Sets.{Bus, bit, In, Out, Sub, empty, add, less, size}
+use Rattle.busset.specs.Sets.{Bus, bit, In, Out, Sub, Within, empty, add, lack, less, size}
 use Rattle.busset.proofs.Tests.{below-or, same-or}
-use Rattle.busset.proofs.Digits.{below-pow, bit-in, bit-suc, bit-ones, bit-less, bit-one-same, bit-one-other, ext}
+use Rattle.busset.proofs.Digits.{below-pow, bit-in, bit-suc, bit-ones, bit-one-same, bit-one-other, ext}
 use Rattle.busset.proofs.Sums.{sum, sum-le, sum-ap, sum-plus, sum-one, sum-two, sum-single, ones-sum}
-use Rattle.busset.proofs.Members.{out-of, sub-of, add-here, add-there, less-here, less-there}
+use Rattle.busset.proofs.Members.{out-of, sub-of, lack-at, add-here, add-there, less-here, less-there}
 
 -- a width with room for a set
 room : (s k : ℕ) → s ≤ k → s < 2 ^ k
@@ -74,13 +73,13 @@ size-less s b h = one-more (less s b) s b h (less-here s b) (λ a ne. sym (less-
 
 -- a set that holds another and is not larger is the same
 pub size-same : (s t : ℕ) → Sub s t → size t ≤ size s → s ≡ t
-size-same s t sub l = ext s t (λ b. omega (arith, gone b, bit-less t s b, sub b))
+size-same s t sub l = ext s t (λ b. omega (arith, gone b, lack-at t s b, sub b))
   where
-    rest : size t ≡ size s + size (t - bitAnd t s)
-    rest = size-parts t s (t - bitAnd t s) (λ b. omega (arith, bit-less t s b, sub b))
+    rest : size t ≡ size s + size (lack t s)
+    rest = size-parts t s (lack t s) (λ b. omega (arith, lack-at t s b, sub b))
 
-    gone : (b : ℕ) → Out (t - bitAnd t s) b
-    gone b = out-of (t - bitAnd t s) b (λ h. let some : 0 < size (t - bitAnd t s) = size-some (t - bitAnd t s) b h in omega (arith, rest))
+    gone : (b : ℕ) → Out (lack t s) b
+    gone b = out-of (lack t s) b (λ h. let some : 0 < size (lack t s) = size-some (lack t s) b h in omega (arith, rest))
 
 -- a set that holds another and is not the same is larger
 pub size-lt : (s t : ℕ) → Sub s t → (t ≡ s → ⊥) → size s < size t
@@ -95,7 +94,7 @@ size-double w = ones-step (2 * w) ∙ omega (arith, ap ones (half w))
     half : (w : ℕ) → 2 * w / 2 ≡ w
     half w = omega arith
 
-pub size-most : (n s : ℕ) → ((b : ℕ) → In s b → Bus n b) → size s ≤ n
+pub size-most : (n s : ℕ) → Within n s → size s ≤ n
 size-most n s h =
     let all = 2 * (2 ^ n - 1) in
     omega (arith, size-le s all (sub-of s all (λ b p. has b (h b p))), size-double (2 ^ n - 1), ones-ones n)

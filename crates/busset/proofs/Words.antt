@@ -15,7 +15,7 @@ use Rattle.busset.specs.Sets.{Bus, bit, In, Out, Sub, empty, size, less,
 use Rattle.busset.proofs.Tests.{decides-eq, decides-by, same-or, below-or}
 use Rattle.busset.proofs.Digits.{bit-suc, bit-low, bit-or, bit-and, and-not, bit-in, bit-out, bit-zero, bit-ones, bit-one-same, bit-one-other, half-lt, ext}
 use Rattle.busset.proofs.Members.{empty-of}
-use Rattle.busset.proofs.Sizes.{one-more, size-double}
+use Rattle.busset.proofs.Sizes.{one-more, size-double, size-most}
 
 -- ---- the word and its set
 
@@ -48,6 +48,10 @@ set-empty = refl
 pub set-bus : (k : ℕ) {w : ℕ} (b : ℕ) → w < 2 ^ k → In (setOf w) b → Bus k b
 set-bus k {w} zero h p = absurd (omega (arith, set-zero w))
 set-bus k {w} (suc i) h p = record { some = omega arith; most = bit-in k i h (sym (set-suc w i) ∙ p) }
+
+-- so it holds at most k
+pub set-size : (k : ℕ) {w : ℕ} → w < 2 ^ k → size (setOf w) ≤ k
+set-size k {w} h = size-most k (setOf w) (λ b p. set-bus k b h p)
 
 -- an equation of sets is one of words
 pub decides-set : {r : Bool} (v w : ℕ) → Decides (v ≡ w) r → Decides (setOf v ≡ setOf w) r
@@ -111,11 +115,11 @@ with-law k w {b} bus =
       there = λ a ne. omega (arith, u .at a, o .there a ne, bit-zero a);
     })
 
-pub without-law : {s b z o r : ℕ} → z ≡ empty → In s b → With z b o → Minus s o r → Without s b r
-without-law {s} {b} {z} {o} {r} e h w m = record {
+pub without-law : {s b z o r : ℕ} → z ≡ empty → With z b o → Minus s o r → Without s b r
+without-law {s} {b} {z} {o} {r} e w m = record {
   here = omega (arith, m .at b, w .here);
   there = there;
-  fewer = one-more r s b h (omega (arith, m .at b, w .here)) (λ a ne. sym (there a ne));
+  fewer = λ h. one-more r s b h (omega (arith, m .at b, w .here)) (λ a ne. sym (there a ne));
 }
   where
     there : (a : ℕ) → (a ≡ b → ⊥) → bit r a ≡ bit s a

@@ -41,13 +41,17 @@ empty = 0
 unfoldable pub add : ℕ → ℕ → ℕ
 add s b = bitOr s (2 ^ b)
 
--- the buses of s, less bus b
-unfoldable pub less : ℕ → ℕ → ℕ
-less s b = s - bitAnd s (2 ^ b)
-
 -- the buses that are in s and in t
 unfoldable pub meet : ℕ → ℕ → ℕ
 meet s t = bitAnd s t
+
+-- the buses of s that are not in t
+unfoldable pub lack : ℕ → ℕ → ℕ
+lack s t = s - bitAnd s t
+
+-- the buses of s other than b
+unfoldable pub less : ℕ → ℕ → ℕ
+less s b = lack s (2 ^ b)
 
 -- the buses of s up to n: those above n are ignored
 unfoldable pub upTo : ℕ → ℕ → ℕ
@@ -76,11 +80,11 @@ pub record With (s b r : ℕ) : Type 0 where
   pub here : In r b
   pub there : (a : ℕ) → (a ≡ b → ⊥) → bit r a ≡ bit s a
 
--- r is s without b, which is one bus fewer
+-- r is s without b: one bus fewer, if b was in it
 pub record Without (s b r : ℕ) : Type 0 where
   pub here : Out r b
   pub there : (a : ℕ) → (a ≡ b → ⊥) → bit r a ≡ bit s a
-  pub fewer : size s ≡ suc (size r)
+  pub fewer : In s b → size s ≡ suc (size r)
 
 -- b is the lowest bus of s, 1 to n
 pub record Lowest (n s b : ℕ) : Type 0 where

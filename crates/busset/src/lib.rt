@@ -63,7 +63,7 @@ pub fn with(s: BusSet, b: usize) -> BusSet
 }
 
 pub fn without(s: BusSet, b: usize) -> BusSet
-    requires { ⌜ In (setOf s) b × Bus width b ⌝ }
+    requires { ⌜ Bus width b ⌝ }
     ensures { λ r. ⌜ Without (setOf s) b (setOf r) ⌝ }
 {
     minus(s, with(none(), b))

@@ -73,5 +73,5 @@ pub valid-test : {c : Case} {k : ℕ} {r : Bool} → Bus mostBuses (c .n) → Wi
     → Lines (c .n) (neighbours (c .nbr)) → k ≡ lineCount (c .n) (neighbours (c .nbr)) → Decides (k ≤ mostLines) r → Decides (Valid c) r
 valid-test buses zeros sites units lines e d =
     decides-by
-    (λ l. record { buses = buses; proper = record { lines = lines; zeros = zeros; units = units }; sites = sites; few = omega (arith, e) })
+    (λ l. record { buses = buses; proper = record { lines = lines; zeros = zeros; sites = sites; units = units }; few = omega (arith, e) })
     (λ v. let few = v .few in omega (arith, e)) d

@@ -21,13 +21,13 @@ mostLines = 256
 unfoldable pub neighbours : List ℕ → ℕ → ℕ
 neighbours rows b = setOf (getD (0 ∷ rows) b 0)
 
--- the grid that n, the rows, the Z buses and the units say
-abbrev pub gridWith : ℕ → List ℕ → ℕ → ℕ → Grid
-gridWith n rows zeros units = record { n = n; nbr = neighbours rows; zero = setOf zeros; units = setOf units }
+-- the grid that n, the rows, the Z buses, the Y sites and the units say
+abbrev pub gridWith : ℕ → List ℕ → ℕ → ℕ → ℕ → Grid
+gridWith n rows zeros sites units = record { n = n; nbr = neighbours rows; zero = setOf zeros; site = setOf sites; units = setOf units }
 
 -- the grid that a case value says
 abbrev pub gridOf : Case → Grid
-gridOf c = gridWith (c .n) (c .nbr) (c .zero) (c .units)
+gridOf c = gridWith (c .n) (c .nbr) (c .zero) (c .site) (c .units)
 
 -- ---- validity
 
@@ -43,9 +43,7 @@ Lines n nbr = (b : ℕ) → LinesAt n nbr b
 pub record Valid (c : Case) : Type 0 where
   -- n is 1 to 64
   pub buses : Bus mostBuses (c .n)
-  -- lines are the same seen from both ends, no bus is joined to itself, and no line, unit or class Z is at a bus above n
+  -- lines are the same seen from both ends, no bus is joined to itself, and no line, unit, class Z or site Y is at a bus above n
   pub proper : Proper (gridOf c)
-  -- nor is a site Y
-  pub sites : Within (c .n) (setOf (c .site))
   -- there are at most 256 lines
   pub few : lineCount (c .n) (neighbours (c .nbr)) ≤ mostLines

@@ -3,11 +3,12 @@ use mathlib.Core.Path.{_≡_}
 use Prim.Native.Nat.{ℕ, zero, suc, _+_}
 use Rattle.busset.specs.Sets.{Bus, In, Within, size, upTo}
 
--- n buses numbered from 1, the neighbours of each, the Z buses, and the buses with a unit. Sites play no part in observation.
+-- n buses numbered from 1, the neighbours of each, the Z buses, the Y sites, and the buses with a unit
 pub record Grid : Type 0 where
   pub n : ℕ
   pub nbr : ℕ → ℕ
   pub zero : ℕ
+  pub site : ℕ
   pub units : ℕ
 
 -- a and b, joined as seen from a, have a line: they are two different buses, 1 to n, and it is the same seen from b
@@ -17,10 +18,11 @@ pub record Line (n : ℕ) (nbr : ℕ → ℕ) (a b : ℕ) : Type 0 where
   pub differ : a ≡ b → ⊥
   pub back : In (nbr b) a
 
--- every line is one, and every Z bus and unit is at a bus of the grid
+-- every line is one, and every Z bus, Y site and unit is at a bus 1 to n
 pub record Proper (g : Grid) : Type 0 where
   pub lines : (a b : ℕ) → In (g .nbr a) b → Line (g .n) (g .nbr) a b
   pub zeros : Within (g .n) (g .zero)
+  pub sites : Within (g .n) (g .site)
   pub units : Within (g .n) (g .units)
 
 -- the sum of f over the buses 1 to n

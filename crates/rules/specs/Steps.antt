@@ -12,22 +12,22 @@ use Rattle.rules.specs.Observation.{AllBut}
 -- ---- one step
 
 -- N p: a unit stands at p, joined to b
-pub record ByUnit (g : Grid) (b p : ℕ) : Type 0 where
-  pub unit : In (g .units) p
-  pub joined : In (g .nbr p) b
+pub record ByUnit (nbr : ℕ → ℕ) (units b p : ℕ) : Type 0 where
+  pub unit : In units p
+  pub joined : In (nbr p) b
 
 -- Z w: w is Z, observed, joined to b, and every other neighbour of w is observed
-pub record ByZero (g : Grid) (s b w : ℕ) : Type 0 where
-  pub class : In (g .zero) w
+pub record ByZero (nbr : ℕ → ℕ) (zeros s b w : ℕ) : Type 0 where
+  pub class : In zeros w
   pub observed : In s w
-  pub joined : In (g .nbr w) b
-  pub others : AllBut (g .nbr w) b s
+  pub joined : In (nbr w) b
+  pub others : AllBut (nbr w) b s
 
 -- the reason holds for bus b where s is observed
 abbrev pub Holds : Grid → ℕ → ℕ → Reason → Type 0
 Holds g s b OwnUnit = In (g .units) b
-Holds g s b (NeighbourOf p) = ByUnit g b p
-Holds g s b (ZeroInjection w) = ByZero g s b w
+Holds g s b (NeighbourOf p) = ByUnit (g .nbr) (g .units) b p
+Holds g s b (ZeroInjection w) = ByZero (g .nbr) (g .zero) s b w
 
 -- the step is allowed where s is observed: its bus is not yet observed, and the reason holds
 pub record Allowed (g : Grid) (s : ℕ) (x : Step) : Type 0 where

@@ -13,7 +13,7 @@ minus-requires : tie.Need-minus-requires
 minus-requires c κs = search needs
 
 returns : tie.Need-returns
-returns c = without-law (c .before .before .none .ensures) (c .before .before .before .pre .0) (c .before .with .ensures) (c .minus .ensures)
+returns c = without-law (c .before .before .none .ensures) (c .before .with .ensures) (c .minus .ensures)
 
 pub without-spec : {M : Type 1} → statement M
 without-spec = tie.close (tie.spec none-requires with-requires minus-requires returns)

@@ -37,10 +37,10 @@ returns c =
     decides-no (checked-fails (low .before .before .before .loop .inv) (low .lowest .ensures .has) (refutes (c .before .is-line .ensures) (not-true _ (c .if2 .taken))))
 
 without-requires : tie.Need-without-requires Inv-loop μ-loop
-without-requires c κs = (c .before .before .lowest .ensures .has, c .before .before .lowest .ensures .bus)
+without-requires c κs = search needs
 
 loop-less : tie.Need-loop-less Inv-loop μ-loop
-loop-less c = omega (arith, c .without .ensures .fewer)
+loop-less c = omega (arith, c .without .ensures .fewer (c .before .before .before .lowest .ensures .has))
 
 loop-again : tie.Need-loop-again Inv-loop μ-loop
 loop-again c =

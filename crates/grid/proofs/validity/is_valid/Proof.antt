@@ -22,7 +22,7 @@ is-within-requires-2 : tie.Need-is-within-requires-2
 is-within-requires-2 c κs = search needs
 
 returns-4 : tie.Need-returns-4
-returns-4 c = decides-no (λ v. refutes (c .before .is-within2 .ensures) (not-true _ (c .if4 .taken)) (v .sites))
+returns-4 c = decides-no (λ v. refutes (c .before .is-within2 .ensures) (not-true _ (c .if4 .taken)) (v .proper .sites))
 
 is-within-requires-3 : tie.Need-is-within-requires-3
 is-within-requires-3 c κs = search needs

@@ -1,0 +1,75 @@
+// The observed set: what O1 gives, then sweeps of O2 until one changes nothing.
+ghost use mathlib.Core.Path.{_≡_};
+ghost use Prim.Native.Nat.{ℕ, _≤_};
+ghost use Rattle.busset.specs.Sets.{lack, size, setOf};
+ghost use Rattle.rules.specs.Observation.{Least};
+ghost use Rattle.grid.specs.Cases.{neighbours, gridWith};
+ghost use Rattle.observe.specs.Passes.{Started, Fires, Swept};
+use busset::BusSet;
+
+// The buses m that are not in s, gathered and counted one after another.
+pub fn count_unknown(m: BusSet, s: BusSet) -> usize
+    ensures { λ r. ⌜ r ≡ size (lack (setOf m) (setOf s)) ⌝ }
+{
+    let mut left = busset::minus(m, s);
+    let mut unknown: usize = 0;
+    while !busset::is_none(left) {
+        let b = busset::lowest(left);
+        left = busset::without(left, b);
+        unknown += 1;
+    }
+    unknown
+}
+
+// A Z bus of s with the neighbours m fires, where it can.
+pub fn fire(m: BusSet, s: BusSet) -> BusSet
+    ensures { λ r. ⌜ Fires (setOf m) (setOf s) (setOf r) ⌝ }
+{
+    if count_unknown(m, s) == 1 {
+        busset::union(s, m)
+    } else {
+        s
+    }
+}
+
+// The units and their neighbours.
+pub fn start(nbr: &[BusSet; 64], units: BusSet) -> BusSet
+    ensures { λ r. ⌜ Started (neighbours (now (nbr .entry))) (setOf units) (setOf r) ⌝ }
+{
+    let mut s = units;
+    let mut left = units;
+    while !busset::is_none(left) {
+        let b = busset::lowest(left);
+        s = busset::union(s, grid::row(nbr, b));
+        left = busset::without(left, b);
+    }
+    s
+}
+
+// Each Z bus of s fires, where it can.
+pub fn sweep(nbr: &[BusSet; 64], zero: BusSet, s: BusSet) -> BusSet
+    ensures { λ r. ⌜ Swept (neighbours (now (nbr .entry))) (setOf zero) (setOf s) (setOf r) ⌝ }
+{
+    let mut r = s;
+    let mut left = busset::both(zero, s);
+    while !busset::is_none(left) {
+        let w = busset::lowest(left);
+        r = fire(grid::row(nbr, w), r);
+        left = busset::without(left, w);
+    }
+    r
+}
+
+// The observed set, whatever n and the sites are: no rule reads them.
+pub fn observed(nbr: &[BusSet; 64], zero: BusSet, units: BusSet) -> BusSet
+    ensures { λ r. ⌜ ((n sites : ℕ) → Least (gridWith n (now (nbr .entry)) zero sites units) (setOf r)) ⌝ }
+{
+    let mut s = start(nbr, units);
+    loop {
+        let r = sweep(nbr, zero, s);
+        if busset::same(r, s) {
+            return s;
+        }
+        s = r;
+    }
+}
