@@ -6,6 +6,16 @@ ghost use Rattle.busset.specs.Sets.{Bus, In, Sub, Within, Union, Both, M
 
 pub type BusSet = u64;
 
+// Whether b is a bus number, 1 to n.
+pub fn is_bus(n: usize, b: usize) -> bool
+    ensures { λ r. ⌜ Decides (Bus n b) r ⌝ }
+{
+    if b < 1 {
+        return false;
+    }
+    b <= n
+}
+
 pub fn none() -> BusSet
     ensures { λ r. ⌜ setOf r ≡ empty ⌝ }
 {
