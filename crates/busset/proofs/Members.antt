@@ -1,5 +1,5 @@
 -- Membership: what is in `add`, `meet`, `lack`, `less` and `upTo`, and in what `With` and `Without` give.
-use mathlib.Core.Path.{_≡_, sym, ap, _∙_, subst⁻¹}
+use mathlib.Core.Path.{_≡_, sym, ap, _∙_, subst, subst⁻¹}
 use mathlib.Core.Bool.{Bool}
 use mathlib.Core.Logic.{_⊎_, inl, inr, ⊎-elim}
 use Prim.Native.Nat.{ℕ, zero, suc, _+_, _-_, _^_, _≤_, _<_, max, min}
@@ -12,12 +12,19 @@ use Rattle.busset.proofs.Digits.{bit-or, bit-and, bit-less, bit-zero, b
 
 -- ---- cases
 
+pub bus-more : {n m b : ℕ} → Bus n b → n ≤ m → Bus m b
+bus-more h l = record { some = h .some; most = omega (arith, h .most) }
+
 pub in-or : (s b : ℕ) → In s b ⊎ Out s b
 in-or s b = ⊎-elim (λ e. inr e) (λ h. inl (omega arith)) (eq-zero-or-pos (bit s b))
 
 -- not in is out
 pub out-of : (s b : ℕ) → (In s b → ⊥) → Out s b
 out-of s b n = ⊎-elim (λ (p : In s b). absurd (n p)) (λ (p : Out s b). p) (in-or s b)
+
+-- the same set under another name
+pub decides-in : (b : ℕ) {s t : ℕ} {r : Bool} → s ≡ t → Decides (In s b) r → Decides (In t b) r
+decides-in b e d = decides-by (λ h. subst (λ (x : ℕ). In x b) e h) (λ h. subst⁻¹ (λ (x : ℕ). In x b) e h) d
 
 pub sub-of : (s t : ℕ) → ((b : ℕ) → In s b → In t b) → Sub s t
 sub-of s t h b = ⊎-elim (λ (p : In s b). omega (arith, h b p)) (λ (p : Out s b). omega arith) (in-or s b)

@@ -1,4 +1,4 @@
--- A refusal is known by its number and place, and the first row of a table that applies gives one refusal.
+-- A refusal is known by its number and place, and the first check that fails gives one refusal.
 use mathlib.Core.Path.{_≡_, refl, sym, ap₂, _∙_}
 use mathlib.Core.List.{List, [], _∷_}
 use mathlib.Core.Logic.{inl, inr}
@@ -6,7 +6,7 @@ use Prim.Native.Nat.{ℕ}
 use lib.ListN.{getD}
 use Rattle.grid.specs.declared.refusal.Refusal.{Refusal}
 use Rattle.grid.specs.declared.refusal.Refusal.the-variants.{TextTooLong, WrongForm, OutOfRange, OutOfOrder, InvalidCase, NoRoom, NoSuchBus, AlreadyObserved, ReasonFails, OverBudget, NoCover, TooManySteps, NotJoined}
-use Rattle.grid.specs.Refusals.{numberOf, placeOf, Is, Row, NoneApplies, FirstApplies}
+use Rattle.grid.specs.Refusals.{numberOf, placeOf, Is, Check, Passed, Failed}
 
 -- the refusal with a number and a place
 abbrev refusalOf : ℕ → ℕ → Refusal
@@ -31,19 +31,22 @@ there-and-back NoCover = refl
 there-and-back (TooManySteps p) = refl
 there-and-back NotJoined = refl
 
+pub itself : (r : Refusal) → Is (numberOf r) (placeOf r) r
+itself r = record { numbered = refl; placed = refl }
+
 -- number and place say which refusal it is
 pub refusal-unique : {k p : ℕ} {r q : Refusal} → Is k p r → Is k p q → r ≡ q
 refusal-unique {k} {p} {r} {q} a b =
     sym (there-and-back r) ∙ ap₂ refusalOf (a .numbered ∙ sym (b .numbered)) (a .placed ∙ sym (b .placed)) ∙ there-and-back q
 
--- the first row that applies gives one refusal
-pub first-unique : (rows : List Row) (r q : Refusal) → FirstApplies rows r → FirstApplies rows q → r ≡ q
-first-unique (x ∷ rows) r q (inl a) (inl b) = refusal-unique (a .1) (b .1)
-first-unique (x ∷ rows) r q (inl a) (inr b) = absurd (b .0 (a .0))
-first-unique (x ∷ rows) r q (inr a) (inl b) = absurd (a .0 (b .0))
-first-unique (x ∷ rows) r q (inr a) (inr b) = first-unique rows r q (a .1) (b .1)
+-- the first check that fails gives one refusal
+pub failed-unique : (qs : List Check) (r q : Refusal) → Failed qs r → Failed qs q → r ≡ q
+failed-unique (x ∷ qs) r q (inl a) (inl b) = refusal-unique (a .1) (b .1)
+failed-unique (x ∷ qs) r q (inl a) (inr b) = absurd (a .0 (b .0))
+failed-unique (x ∷ qs) r q (inr a) (inl b) = absurd (b .0 (a .0))
+failed-unique (x ∷ qs) r q (inr a) (inr b) = failed-unique qs r q (a .1) (b .1)
 
--- and it is given only where some row applies
-pub first-or-none : (rows : List Row) (r : Refusal) → FirstApplies rows r → NoneApplies rows → ⊥
-first-or-none (x ∷ rows) r (inl a) n = n .0 (a .0)
-first-or-none (x ∷ rows) r (inr a) n = first-or-none rows r (a .1) (n .1)
+-- and only where some check fails
+pub failed-or-passed : (qs : List Check) (r : Refusal) → Failed qs r → Passed qs → ⊥
+failed-or-passed (x ∷ qs) r (inl a) p = a .0 (p .0)
+failed-or-passed (x ∷ qs) r (inr a) p = failed-or-passed qs r (a .1) (p .1)

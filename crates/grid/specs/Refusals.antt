@@ -47,22 +47,22 @@ pub record Is (number place : ℕ) (r : Refusal) : Type 0 where
 
 -- ---- the order
 
--- a row of the table, as one call reads it: when it gives the refusal, and with which place
-pub record Row : Type 1 where
+-- what a call checks: a condition, and the number and place of the refusal where it fails
+pub record Check : Type 1 where
+  pub wants : Type 0
   pub number : ℕ
   pub place : ℕ
-  pub when : Type 0
 
--- a row, written in a line
-abbrev pub refuse : ℕ → ℕ → Type 0 → Row
-refuse number place when = record { number = number; place = place; when = when }
+-- a check, written in a line
+abbrev pub check : Type 0 → ℕ → ℕ → Check
+check wants number place = record { wants = wants; number = number; place = place }
 
--- no row applies
-abbrev pub NoneApplies : List Row → Type 0
-NoneApplies [] = Unit {0}
-NoneApplies (q ∷ qs) = (q .when → ⊥) × NoneApplies qs
+-- every condition holds
+abbrev pub Passed : List Check → Type 0
+Passed [] = Unit {0}
+Passed (q ∷ qs) = q .wants × Passed qs
 
--- r is the refusal of the first row that applies
-abbrev pub FirstApplies : List Row → Refusal → Type 0
-FirstApplies [] r = ⊥
-FirstApplies (q ∷ qs) r = (q .when × Is (q .number) (q .place) r) ⊎ ((q .when → ⊥) × FirstApplies qs r)
+-- r is the refusal of the first condition that fails
+abbrev pub Failed : List Check → Refusal → Type 0
+Failed [] r = ⊥
+Failed (q ∷ qs) r = ((q .wants → ⊥) × Is (q .number) (q .place) r) ⊎ (q .wants × Failed qs r)

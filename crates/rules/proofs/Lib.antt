@@ -2,3 +2,4 @@ pub mod Reasons
 pub mod Leasts
 pub mod Lists
 pub mod Shuffles
+pub mod Figures

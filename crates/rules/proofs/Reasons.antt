@@ -1,16 +1,16 @@
 -- The reasons: they go on holding in a larger set, and a set is closed under O1 and O2 exactly when it is closed under them.
 -- A later rule adds a case to each of these laws, and no other theorem names a reason.
 use mathlib.Core.Path.{_≡_}
-use mathlib.Core.Logic.{⊎-elim}
-use Prim.Native.Nat.{ℕ}
+use Prim.Native.Nat.{ℕ, _≤_}
 use native.Mathlib.Omega.{arith}
 use Rattle.busset.specs.Sets.{Bus, In, Out, Sub}
-use Rattle.busset.proofs.Members.{in-or, sub-of}
+use Rattle.busset.proofs.Members.{sub-of, bus-more}
 use Rattle.step.specs.declared.Reason.{Reason}
 use Rattle.step.specs.declared.Reason.the-variants.{OwnUnit, NeighbourOf, ZeroInjection}
+use Rattle.step.specs.declared.Step.{Step}
 use Rattle.rules.specs.Grids.{Grid, Proper}
 use Rattle.rules.specs.Observation.{O1, Closed}
-use Rattle.rules.specs.Steps.{ByUnit, ByZero, Holds, HasReasoned, ReasonNames}
+use Rattle.rules.specs.Steps.{ByUnit, ByZero, Holds, HasReasoned, ReasonNames, Names}
 
 -- a reason that holds goes on holding in a larger set
 pub holds-more : (g : Grid) (s t b : ℕ) → Sub s t → (r : Reason) → Holds g s b r → Holds g t b r
@@ -47,3 +47,12 @@ pub holds-names : (g : Grid) (s b : ℕ) → Proper g → (r : Reason) → Holds
 holds-names g s b v OwnUnit h = tt
 holds-names g s b v (NeighbourOf p) h = v .lines p b (h .joined) .from
 holds-names g s b v (ZeroInjection w) h = v .lines w b (h .joined) .from
+
+-- buses 1 to n are buses 1 to m
+pub names-more : {n m : ℕ} {x : Step} → Names n x → n ≤ m → Names m x
+names-more {n} {m} {x} h l = record { bus = bus-more (h .bus) l; reason = go (x .reason) (h .reason) }
+  where
+    go : (r : Reason) → ReasonNames n r → ReasonNames m r
+    go OwnUnit q = tt
+    go (NeighbourOf p) q = bus-more q l
+    go (ZeroInjection w) q = bus-more q l

@@ -1,8 +1,14 @@
 -- The firing figure.
 use Prim.Native.Nat.{ℕ}
-use lib.IntN.{ℤ, pos, _+ℤ_, _-ℤ_}
+use lib.IntN.{ℤ, pos, negℤ, _+ℤ_, _-ℤ_}
+use lib.Signed.{_≤ℤ_}
 use Rattle.busset.specs.Sets.{bit, size, less, meet}
 
 -- 1, less the number of i's neighbours, plus 1 if i is observed, plus the number of observed neighbours of i other than j
 unfoldable pub figure : (ℕ → ℕ) → ℕ → ℕ → ℕ → ℤ
 figure nbr s i j = pos 1 -ℤ pos (size (nbr i)) +ℤ pos (bit s i) +ℤ pos (size (less (meet (nbr i) s) j))
+
+-- z runs from -62 to 1
+pub record Runs (z : ℤ) : Type 0 where
+  pub low : negℤ (pos 62) ≤ℤ z
+  pub high : z ≤ℤ pos 1
