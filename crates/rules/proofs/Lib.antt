@@ -1,5 +1,7 @@
 pub mod Reasons
+pub mod Firing
 pub mod Leasts
 pub mod Lists
 pub mod Shuffles
 pub mod Figures
+pub mod Tests
