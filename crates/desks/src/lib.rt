@@ -1,0 +1,4 @@
+// The desks' lists of steps: replay and weaving.
+pub mod following;
+pub mod lists;
+pub mod records;
