@@ -1,26 +1,26 @@
 use borrow.Author.Needs.{needs}
-use Rattle.desks.proofs.following.settled.Statement.{statement}
-use Rattle.desks.proofs.following.settled.Tie as tie
-use Rattle.desks.proofs.following.settled.Reads as reads
-use Rattle.desks.proofs.following.settled.Lts as lts
+use Rattle.following.proofs.settled.Statement.{statement}
+use Rattle.following.proofs.settled.Tie as tie
+use Rattle.following.proofs.settled.Reads as reads
+use Rattle.following.proofs.settled.Lts as lts
 
--- src/following.rt:196:16
+-- src/lib.rt:195:16
 enum-told : tie.Need-enum-told
 enum-told c = search needs
 
--- src/following.rt:202:23
+-- src/lib.rt:201:23
 enum-known-standing : tie.Need-enum-known-standing
 enum-known-standing c = search needs
 
--- src/following.rt:188:1
+-- src/lib.rt:187:1
 returns : tie.Need-returns
 returns c = ?
 
--- src/following.rt:188:1
+-- src/lib.rt:187:1
 returns-2 : tie.Need-returns-2
 returns-2 c = ?
 
--- src/following.rt:188:1
+-- src/lib.rt:187:1
 returns-3 : tie.Need-returns-3
 returns-3 c = ?
 

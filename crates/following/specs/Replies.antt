@@ -13,16 +13,16 @@ use Rattle.grid.specs.declared.Case.{Case}
 use Rattle.grid.specs.declared.refusal.Refusal.{Refusal}
 use Rattle.grid.specs.Cases.{gridOf}
 use Rattle.grid.specs.Refusals.{Check, check, Passed, Failed}
-use Rattle.desks.specs.Lists.{noStep}
-use Rattle.desks.specs.Following.{checksFrom, beginChecks}
-use Rattle.desks.specs.declared.following.Task.the-variants.{Replay, Weave}
-use Rattle.desks.specs.declared.following.Standing.{Standing}
-use Rattle.desks.specs.declared.following.Standing.the-variants.{Good, Bad}
-use Rattle.desks.specs.declared.following.Following.{Following}
-use Rattle.desks.specs.declared.following.Replayed.{Replayed}
-use Rattle.desks.specs.declared.following.Replayed.the-variants as replayed
-use Rattle.desks.specs.declared.following.Wove.{Wove}
-use Rattle.desks.specs.declared.following.Wove.the-variants as wove
+use Rattle.following.specs.Lists.{noStep}
+use Rattle.following.specs.Following.{checksFrom, beginChecks}
+use Rattle.following.specs.declared.Task.the-variants.{Replay, Weave}
+use Rattle.following.specs.declared.Standing.{Standing}
+use Rattle.following.specs.declared.Standing.the-variants.{Good, Bad}
+use Rattle.following.specs.declared.Following.{Following}
+use Rattle.following.specs.declared.Replayed.{Replayed}
+use Rattle.following.specs.declared.Replayed.the-variants as replayed
+use Rattle.following.specs.declared.Wove.{Wove}
+use Rattle.following.specs.declared.Wove.the-variants as wove
 
 -- ---- replay
 

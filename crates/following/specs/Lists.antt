@@ -5,7 +5,7 @@ use Prim.Native.Nat.{ℕ, suc, _≤_}
 use lib.ListN.{length, take}
 use Rattle.step.specs.declared.Reason.the-variants.{OwnUnit}
 use Rattle.step.specs.declared.Step.{Step}
-use Rattle.desks.specs.declared.lists.StepList.{StepList}
+use Rattle.following.specs.declared.lists.StepList.{StepList}
 
 -- what stands past the end of a list
 abbrev pub noStep : Step

@@ -2,7 +2,7 @@
 ghost use mathlib.Core.Path.{_≡_};
 ghost use Prim.Native.Nat.{_<_};
 ghost use lib.ListN.{getD};
-ghost use Rattle.desks.specs.Lists.{noStep, Listed, listed, Pushed};
+ghost use Rattle.following.specs.Lists.{noStep, Listed, listed, Pushed};
 use step::Reason;
 use step::Step;
 

@@ -1,18 +1,21 @@
-// Following a list step by step: where it begins, where it stands after each step, and how it ends.
+// Following a desk's list step by step: where it begins, where it stands after each step, and how it ends.
 ghost use mathlib.Core.Path.{_≡_};
 ghost use Prim.Native.Nat.{suc, _<_};
 ghost use Rattle.busset.specs.Deciding.{Decides};
 ghost use Rattle.busset.specs.Sets.{Bus, width, setOf};
 ghost use Rattle.rules.specs.Steps.{Finished};
 ghost use Rattle.grid.specs.Cases.{gridOf};
-ghost use Rattle.desks.specs.Following.{Starting, Kept, seenBy, Grown, Ready, Further, Applied, Begun};
-ghost use Rattle.desks.specs.Replies.{EndedAt, SettledAt, countOf};
-use crate::lists::StepList;
-use crate::lists::no_steps;
-use crate::lists::push;
+ghost use Rattle.following.specs.Following.{Starting, Kept, seenBy, Grown, Ready, Further, Applied, Begun};
+ghost use Rattle.following.specs.Replies.{EndedAt, SettledAt, countOf};
+
+pub mod lists;
+
 use busset::BusSet;
 use grid::Case;
 use grid::Refusal;
+use lists::StepList;
+use lists::no_steps;
+use lists::push;
 use step::Step;
 
 // Replay refuses a step for an observed bus; weaving passes over it.

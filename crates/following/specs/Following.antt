@@ -10,12 +10,12 @@ use Rattle.grid.specs.declared.Case.{Case}
 use Rattle.grid.specs.declared.refusal.Refusal.the-variants.{AlreadyObserved}
 use Rattle.grid.specs.Cases.{gridOf, Valid}
 use Rattle.grid.specs.Refusals.{Check, check, Passed, Failed}
-use Rattle.desks.specs.Lists.{Listed, listed, Pushed}
-use Rattle.desks.specs.declared.following.Task.{Task}
-use Rattle.desks.specs.declared.following.Task.the-variants.{Replay, Weave}
-use Rattle.desks.specs.declared.following.Standing.{Standing}
-use Rattle.desks.specs.declared.following.Standing.the-variants.{Good, Bad}
-use Rattle.desks.specs.declared.following.Following.{Following}
+use Rattle.following.specs.Lists.{Listed, listed, Pushed}
+use Rattle.following.specs.declared.Task.{Task}
+use Rattle.following.specs.declared.Task.the-variants.{Replay, Weave}
+use Rattle.following.specs.declared.Standing.{Standing}
+use Rattle.following.specs.declared.Standing.the-variants.{Good, Bad}
+use Rattle.following.specs.declared.Following.{Following}
 
 -- ---- what is checked
 
@@ -116,5 +116,5 @@ BegunAt c count r (Bad q) = Failed (beginChecks c count []) q
 
 -- a list of `count` steps is begun
 pub record Begun (c : Case) (task : Task) (count : ℕ) (r : Following) : Type 0 where
-  pub task : r .task ≡ task
+  pub is-task : r .task ≡ task
   pub at : BegunAt c count r (r .standing)
