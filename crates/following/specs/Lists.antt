@@ -1,8 +1,10 @@
 -- Lists of steps by value.
 use mathlib.Core.Path.{_≡_}
 use mathlib.Core.List.{List, [], _∷_, _++_}
-use Prim.Native.Nat.{ℕ, suc, _≤_}
-use lib.ListN.{length, take}
+use mathlib.Core.Bool.{cond}
+use Prim.Native.Nat.{ℕ, suc, _<_}
+use lib.Dec.{ltb}
+use lib.ListN.{length, take, getD}
 use Rattle.step.specs.declared.Reason.the-variants.{OwnUnit}
 use Rattle.step.specs.declared.Step.{Step}
 use Rattle.following.specs.declared.lists.StepList.{StepList}
@@ -15,6 +17,10 @@ noStep = record { bus = 0; reason = OwnUnit }
 abbrev pub listed : StepList → List Step
 listed l = take (l .n) (l .steps)
 
+-- what stands at i, of 64 places counted from 0
+abbrev pub nthOf : StepList → ℕ → Step
+nthOf l i = cond (ltb i 64) (getD (l .steps) i noStep) noStep
+
 -- l has n steps, and room for 64
 pub record Listed (l : StepList) (n : ℕ) : Type 0 where
   pub count : l .n ≡ n
@@ -22,5 +28,6 @@ pub record Listed (l : StepList) (n : ℕ) : Type 0 where
 
 -- r is l with the step x at its end
 pub record Pushed (l : StepList) (x : Step) (r : StepList) : Type 0 where
-  pub more : listed r ≡ listed l ++ (x ∷ [])
-  pub list : Listed r (suc (l .n))
+  pub more : l .n < length (l .steps) → listed r ≡ listed l ++ (x ∷ [])
+  pub count : r .n ≡ suc (l .n)
+  pub room : length (r .steps) ≡ length (l .steps)

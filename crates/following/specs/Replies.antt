@@ -3,7 +3,7 @@ use mathlib.Core.Path.{_≡_}
 use mathlib.Core.List.{List, [], _∷_, _++_}
 use mathlib.Core.Bool.{Bool}
 use Prim.Native.Nat.{ℕ, zero, suc, _≤_}
-use lib.ListN.{length, drop, getD, set}
+use lib.ListN.{length, drop, set}
 use Rattle.busset.specs.Deciding.{Decides}
 use Rattle.busset.specs.Sets.{empty, setOf}
 use Rattle.step.specs.declared.Step.{Step}
@@ -13,7 +13,8 @@ use Rattle.grid.specs.declared.Case.{Case}
 use Rattle.grid.specs.declared.refusal.Refusal.{Refusal}
 use Rattle.grid.specs.Cases.{gridOf}
 use Rattle.grid.specs.Refusals.{Check, check, Passed, Failed}
-use Rattle.following.specs.Lists.{noStep}
+use Rattle.following.specs.Lists.{nthOf}
+use Rattle.following.specs.declared.lists.StepList.{StepList}
 use Rattle.following.specs.Following.{checksFrom, beginChecks}
 use Rattle.following.specs.declared.Task.the-variants.{Replay, Weave}
 use Rattle.following.specs.declared.Standing.{Standing}
@@ -71,12 +72,12 @@ abbrev pub countOf : Wove → ℕ
 countOf (wove.Written count s) = count
 countOf (wove.Refused r) = 0
 
--- the records with the first k steps of xs in their places
-abbrev pub putFirst : ℕ → List Step → List Step → List Step
-putFirst zero xs before = before
-putFirst (suc k) xs before = set (putFirst k xs before) k (getD xs k noStep)
+-- the records with the first k steps of l in their places
+abbrev pub putFirst : ℕ → StepList → List Step → List Step
+putFirst zero l before = before
+putFirst (suc k) l before = set (putFirst k l before) k (nthOf l k)
 
 -- what is put into the records: as many steps as the answer says
 pub record Put (st : Following) (before after : List Step) (r : Wove) : Type 0 where
   pub settled : SettledAt st (length before) r (st .standing)
-  pub records : after ≡ putFirst (countOf r) (st .list .steps) before
+  pub records : after ≡ putFirst (countOf r) (st .list) before

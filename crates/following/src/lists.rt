@@ -1,8 +1,7 @@
 // A list of at most 64 steps, by value: no list that replay accepts or weaving writes is longer than the grid has buses.
 ghost use mathlib.Core.Path.{_≡_};
 ghost use Prim.Native.Nat.{_<_};
-ghost use lib.ListN.{getD};
-ghost use Rattle.following.specs.Lists.{noStep, Listed, listed, Pushed};
+ghost use Rattle.following.specs.Lists.{nthOf, Listed, Pushed};
 use step::Reason;
 use step::Step;
 
@@ -36,7 +35,7 @@ pub fn push(l: StepList, x: Step) -> StepList
 
 // The step at i, counted from 0.
 pub fn nth(l: StepList, i: usize) -> Step
-    ensures { λ r. ⌜ r ≡ getD (l .steps) i noStep ⌝ }
+    ensures { λ r. ⌜ r ≡ nthOf l i ⌝ }
 {
     if 64 <= i {
         return Step {

@@ -1,47 +1,37 @@
+use mathlib.Core.Logic.{inl, inr}
+use native.Mathlib.Omega.{arith}
+use borrow.Author.Tests.{not-true, not-false}
+use Rattle.busset.proofs.Tests.{refutes}
+use Rattle.grid.proofs.Orders.{itself}
+use Rattle.following.proofs.Starts.{begun-bad, begun-good}
 use borrow.Author.Needs.{needs}
 use Rattle.following.proofs.begin.Statement.{statement}
 use Rattle.following.proofs.begin.Tie as tie
-use Rattle.following.proofs.begin.Reads as reads
-use Rattle.following.proofs.begin.Lts as lts
-use Rattle.following.proofs.starting.Reads as starting-reads
-use Rattle.grid.proofs.validity.is_valid.Reads as is-valid-reads
 
--- src/lib.rt:66:9
 is-valid-requires : tie.Need-is-valid-requires
 is-valid-requires c κs = search needs
 
--- src/lib.rt:67:9
 starting-requires : tie.Need-starting-requires
 starting-requires c κs = search needs
 
--- src/lib.rt:67:9
 returns : tie.Need-returns
-returns c = ?
+returns c = begun-bad (c .starting .ensures) (inl (refutes (c .before .before .is-valid .ensures) (not-true _ (c .before .if1 .taken)), itself _))
 
--- src/lib.rt:70:9
 starting-requires-2 : tie.Need-starting-requires-2
 starting-requires-2 c κs = search needs
 
--- src/lib.rt:70:9
 returns-2 : tie.Need-returns-2
-returns-2 c = ?
+returns-2 c =
+    let valid = c .before .before in
+    begun-bad (c .starting2 .ensures) (inr (valid .before .is-valid .ensures .yes (not-false _ (valid .if1 .left)), inl (λ l. omega arith, itself _)))
 
--- src/lib.rt:72:5
 starting-requires-3 : tie.Need-starting-requires-3
 starting-requires-3 c κs = search needs
 
--- src/lib.rt:63:1
 returns-3 : tie.Need-returns-3
-returns-3 c = ?
+returns-3 c =
+    let valid = c .before .before in
+    begun-good (c .starting3 .ensures) (valid .before .is-valid .ensures .yes (not-false _ (valid .if1 .left))) (omega arith)
 
 pub begin-spec : {M : Type 1} → statement M
-begin-spec =
-    tie.close
-    (tie.spec
-    is-valid-requires
-    starting-requires
-    returns
-    starting-requires-2
-    returns-2
-    starting-requires-3
-    returns-3)
+begin-spec = tie.close (tie.spec is-valid-requires starting-requires returns starting-requires-2 returns-2 starting-requires-3 returns-3)

@@ -1,82 +1,74 @@
+use mathlib.Core.Path.{_≡_}
+use Prim.Native.Nat.{suc, _≤_}
+use native.Mathlib.Omega.{arith}
+use borrow.Author.Tests.{not-true, not-false}
+use Rattle.busset.specs.Sets.{Out, setOf}
+use Rattle.busset.proofs.Tests.{refutes}
+use Rattle.busset.proofs.Members.{out-of}
+use Rattle.rules.specs.Steps.{Names}
+use Rattle.rules.proofs.Reasons.{names-more}
+use Rattle.following.proofs.Going.{further-unnamed, further-fails, further-seen, further-taken, room-left}
 use borrow.Author.Needs.{needs}
 use Rattle.following.proofs.go_on.Statement.{statement}
 use Rattle.following.proofs.go_on.Tie as tie
-use Rattle.following.proofs.go_on.Reads as reads
-use Rattle.following.proofs.go_on.Lts as lts
-use Rattle.busset.proofs.has.Reads as has-reads
-use Rattle.following.proofs.kept.Reads as kept-reads
-use Rattle.following.proofs.next_number.Reads as next-number-reads
-use Rattle.following.proofs.seen.Reads as seen-reads
-use Rattle.following.proofs.taken.Reads as taken-reads
-use Rattle.observe.proofs.testing.holds.Reads as holds-reads
-use Rattle.observe.proofs.testing.names.Reads as names-reads
 
--- src/lib.rt:137:9
+named : (c : tie.Else2) → Names (c .before .before .before .before .args .case .n) (c .before .before .before .before .args .x)
+named c = c .before .names .ensures .yes (not-false _ (c .if2 .left))
+
+at-width : (c : tie.Else2) → Names 64 (c .before .before .before .before .args .x)
+at-width c = names-more (named c) (c .before .before .if1 .left)
+
+new : (c : tie.Else3) → let s = c .before .before .before .before .before .before .args in Out (setOf (s .st .set)) (s .x .bus)
+new c = out-of _ _ (refutes (c .before .has .ensures) (c .if3 .left))
+
 next-number-requires : tie.Need-next-number-requires
 next-number-requires c κs = search needs
 
--- src/lib.rt:139:9
 returns : tie.Need-returns
-returns c = ?
+returns c = λ ready. absurd (omega (arith, ready .valid .buses .most))
 
--- src/lib.rt:141:9
 names-requires : tie.Need-names-requires
 names-requires c κs = search needs
 
--- src/lib.rt:142:9
 kept-requires : tie.Need-kept-requires
 kept-requires c κs = search needs
 
--- src/lib.rt:142:9
 returns-2 : tie.Need-returns-2
-returns-2 c = ?
+returns-2 c = λ ready. further-unnamed (c .kept .ensures) (c .before .before .before .before .next-number .ensures (ready .more)) (refutes (c .before .before .names .ensures) (not-true _ (c .before .if2 .taken)))
 
--- src/lib.rt:144:8
 has-requires : tie.Need-has-requires
-has-requires c κs = ?
+has-requires c κs = at-width c .bus
 
--- src/lib.rt:145:9
 seen-requires : tie.Need-seen-requires
 seen-requires c κs = search needs
 
--- src/lib.rt:145:9
 returns-3 : tie.Need-returns-3
-returns-3 c = ?
+returns-3 c =
+    let named2 = c .before .before .before in
+    λ ready. further-seen ready (c .seen .ensures) (named2 .before .before .before .next-number .ensures (ready .more)) (named named2) (c .before .before .has .ensures .yes (c .before .if3 .taken))
 
--- src/lib.rt:147:9
 holds-requires : tie.Need-holds-requires
-holds-requires c κs = ?
+holds-requires c κs = at-width (c .before .before)
 
--- src/lib.rt:148:9
 kept-requires-2 : tie.Need-kept-requires-2
 kept-requires-2 c κs = search needs
 
--- src/lib.rt:148:9
 returns-4 : tie.Need-returns-4
-returns-4 c = ?
+returns-4 c =
+    let third = c .before .before .before in
+    let second = third .before .before in
+    λ ready. further-fails (c .kept2 .ensures) (second .before .before .before .next-number .ensures (ready .more)) (named second) (new third) (refutes (c .before .before .holds .ensures) (not-true _ (c .before .if4 .taken)))
 
--- src/lib.rt:150:5
 taken-requires : tie.Need-taken-requires
-taken-requires c κs = ?
+taken-requires c κs = at-width (c .before .before .before .before) .bus
 
--- src/lib.rt:132:1
 returns-5 : tie.Need-returns-5
-returns-5 c = ?
+returns-5 c =
+    let third = c .before .before .before in
+    let second = third .before .before in
+    λ ready.
+    further-taken ready (c .taken .ensures (room-left ready (named second) (new third))) (second .before .before .before .next-number .ensures (ready .more)) (named second) (new third)
+    (c .before .before .holds .ensures .yes (not-false _ (c .before .if4 .left)))
 
 pub go-on-spec : {M : Type 1} → statement M
-go-on-spec =
-    tie.close
-    (tie.spec
-    next-number-requires
-    returns
-    names-requires
-    kept-requires
-    returns-2
-    has-requires
-    seen-requires
-    returns-3
-    holds-requires
-    kept-requires-2
-    returns-4
-    taken-requires
-    returns-5)
+go-on-spec = tie.close (tie.spec next-number-requires returns names-requires kept-requires returns-2 has-requires seen-requires returns-3 holds-requires kept-requires-2 returns-4 taken-requires returns-5)

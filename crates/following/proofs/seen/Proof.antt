@@ -1,34 +1,31 @@
+use mathlib.Core.Path.{subst⁻¹}
+use Rattle.following.specs.Following.{Kept, seenBy}
+use Rattle.following.specs.declared.Task.{Task}
 use borrow.Author.Needs.{needs}
 use Rattle.following.proofs.seen.Statement.{statement}
 use Rattle.following.proofs.seen.Tie as tie
-use Rattle.following.proofs.seen.Reads as reads
-use Rattle.following.proofs.seen.Lts as lts
-use Rattle.following.proofs.kept.Reads as kept-reads
 
--- src/lib.rt:106:51
 enum-told : tie.Need-enum-told
 enum-told c = search needs
 
--- src/lib.rt:106:25
 kept-requires : tie.Need-kept-requires
 kept-requires c κs = search needs
 
--- src/lib.rt:107:36
 enum-told-2 : tie.Need-enum-told-2
 enum-told-2 c = search needs
 
--- src/lib.rt:107:24
 kept-requires-2 : tie.Need-kept-requires-2
 kept-requires-2 c κs = search needs
 
--- src/lib.rt:101:1
 returns : tie.Need-returns
-returns c = ?
+returns c =
+    let asked = c .before .before .before .args in
+    subst⁻¹ (λ (t : Task). Kept (asked .st) (asked .k) (seenBy t (asked .k)) (c .kept .result)) (c .before .enum-told .given .1) (c .kept .ensures)
 
--- src/lib.rt:101:1
 returns-2 : tie.Need-returns-2
-returns-2 c = search needs
+returns-2 c =
+    let asked = c .before .before .before .args in
+    subst⁻¹ (λ (t : Task). Kept (asked .st) (asked .k) (seenBy t (asked .k)) (c .kept2 .result)) (c .before .enum-told2 .given .1) (c .kept2 .ensures)
 
 pub seen-spec : {M : Type 1} → statement M
-seen-spec =
-    tie.close (tie.spec enum-told kept-requires enum-told-2 kept-requires-2 returns returns-2)
+seen-spec = tie.close (tie.spec enum-told kept-requires enum-told-2 kept-requires-2 returns returns-2)
