@@ -1,3 +1,4 @@
 pub mod Listing
 pub mod Going
 pub mod Starts
+pub mod Outcomes
