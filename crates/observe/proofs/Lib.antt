@@ -3,3 +3,4 @@ pub mod Firing
 pub mod Passing
 pub mod Signed
 pub mod Holding
+pub mod Nexting

@@ -1,4 +1,5 @@
 // Observation: the observed set, the firing figure, and the test of one step.
 pub mod figures;
+pub mod searching;
 pub mod sweeps;
 pub mod testing;

@@ -1,0 +1,58 @@
+-- The derivation: there is one at most, it is accepted and finished; so it reaches the observed set, with one step for each bus of it.
+use mathlib.Core.Path.{_≡_, refl, sym, ap, ap₂, subst}
+use mathlib.Core.List.{List, [], _∷_}
+use Prim.Native.Nat.{ℕ, _≤_}
+use native.Mathlib.Nat.{le-antisymm}
+use lib.ListN.{length}
+use Rattle.busset.specs.Sets.{empty, add, size}
+use Rattle.step.specs.declared.Reason.{Reason}
+use Rattle.step.specs.declared.Reason.the-variants.{OwnUnit, NeighbourOf, ZeroInjection}
+use Rattle.step.specs.declared.Step.{Step}
+use Rattle.rules.specs.Grids.{Grid}
+use Rattle.rules.specs.Observation.{Least}
+use Rattle.rules.specs.Steps.{Allowed, reachedFrom, AcceptedFrom, reached, Accepted, Finished}
+use Rattle.rules.specs.Derivation.{Before, NextIs, DerivedFrom, finished, next, Derivation}
+use Rattle.rules.proofs.Lists.{finished-least, accepted-length}
+
+before-antisym : (q r : Reason) → Before q r → Before r q → q ≡ r
+before-antisym OwnUnit OwnUnit a b = refl
+before-antisym OwnUnit (NeighbourOf p) a b = absurd b
+before-antisym OwnUnit (ZeroInjection w) a b = absurd b
+before-antisym (NeighbourOf p) OwnUnit a b = absurd a
+before-antisym (NeighbourOf p) (NeighbourOf q) a b = ap NeighbourOf (le-antisymm a b)
+before-antisym (NeighbourOf p) (ZeroInjection w) a b = absurd b
+before-antisym (ZeroInjection w) OwnUnit a b = absurd a
+before-antisym (ZeroInjection w) (NeighbourOf p) a b = absurd a
+before-antisym (ZeroInjection w) (ZeroInjection v) a b = ap ZeroInjection (le-antisymm a b)
+
+pub next-unique : {g : Grid} {s : ℕ} (x y : Step) → NextIs g s x → NextIs g s y → x ≡ y
+next-unique x y hx hy =
+    let e : x .bus ≡ y .bus = le-antisymm (hx .lowest y (hy .allowed)) (hy .lowest x (hx .allowed)) in
+    let r = before-antisym (x .reason) (y .reason) (hx .first y (hy .allowed) (sym e)) (hy .first x (hx .allowed) e) in
+    λ i. record { bus = e i; reason = r i }
+
+none-after : {g : Grid} {s : ℕ} {ys : List Step} → Finished g s → DerivedFrom g s ys → [] ≡ ys
+none-after f (finished h) = refl
+none-after f (next {x = x} n d) = absurd (f x (n .allowed))
+
+same-after : {g : Grid} {s : ℕ} {ys : List Step} (x : Step) (xs : List Step) → NextIs g s x → ((zs : List Step) → DerivedFrom g (add s (x .bus)) zs → xs ≡ zs)
+    → DerivedFrom g s ys → x ∷ xs ≡ ys
+same-after x xs n ih (finished f) = absurd (f x (n .allowed))
+same-after {g} x xs n ih (next {s = s} {x = y} {xs = zs} m d) =
+    let e = next-unique x y n m in
+    ap₂ (λ (a : Step) (l : List Step). a ∷ l) e (ih zs (subst (λ (z : Step). DerivedFrom g (add s (z .bus)) zs) (sym e) d))
+
+pub derived-unique : {g : Grid} {s : ℕ} {xs : List Step} → DerivedFrom g s xs → (ys : List Step) → DerivedFrom g s ys → xs ≡ ys
+derived-unique (finished f) ys e = none-after f e
+derived-unique (next {x = x} {xs = xs} n d) ys e = same-after x xs n (λ zs h. derived-unique d zs h) e
+
+pub derived-accepted : {g : Grid} {s : ℕ} {xs : List Step} → DerivedFrom g s xs → AcceptedFrom g s xs × Finished g (reachedFrom s xs)
+derived-accepted (finished f) = (tt, f)
+derived-accepted (next n d) = let r = derived-accepted d in ((n .allowed, r .0), r .1)
+
+-- demand 2 of the derivation
+pub derivation-least : (g : Grid) (xs : List Step) → Derivation g xs → Least g (reached xs)
+derivation-least g xs d = let r = derived-accepted d in finished-least g xs (r .0) (r .1)
+
+pub derivation-length : (g : Grid) (xs : List Step) → Derivation g xs → length xs ≡ size (reached xs)
+derivation-length g xs d = accepted-length g xs (derived-accepted d .0)
