@@ -1,4 +1,5 @@
 pub mod Listing
+pub mod Extending
 pub mod Going
 pub mod Starts
 pub mod Outcomes

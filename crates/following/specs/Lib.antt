@@ -1,3 +1,4 @@
 pub mod Lists
+pub mod Deriving
 pub mod Following
 pub mod Replies

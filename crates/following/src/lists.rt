@@ -1,7 +1,8 @@
 // A list of at most 64 steps, by value: no list that replay accepts or weaving writes is longer than the grid has buses.
 ghost use mathlib.Core.Path.{_≡_};
+ghost use mathlib.Core.List.{[]};
 ghost use Prim.Native.Nat.{_<_};
-ghost use Rattle.following.specs.Lists.{nthOf, Listed, Pushed};
+ghost use Rattle.following.specs.Lists.{nthOf, listOf, Listed, Pushed};
 use step::Reason;
 use step::Step;
 
@@ -12,6 +13,7 @@ pub struct StepList {
 
 pub fn no_steps() -> StepList
     ensures { λ r. ⌜ Listed r 0 ⌝ }
+    ensures blank { λ r. ⌜ r ≡ listOf [] ⌝ }
 {
     let blank = Step {
         bus: 0,

@@ -11,7 +11,7 @@ use Rattle.step.specs.declared.Step.{Step}
 use Rattle.rules.specs.Grids.{Grid, Proper}
 use Rattle.rules.specs.Steps.{ByUnit, ByZero, Holds, Allowed, Finished}
 use Rattle.rules.specs.Derivation.{Before, NextIs}
-use Rattle.rules.proofs.Reasons.{holds-bus}
+use Rattle.rules.proofs.Reasons.{allowed-bus}
 
 -- ---- numbers below k that lack something
 
@@ -41,7 +41,7 @@ pub record Clear (g : Grid) (s b : ℕ) : Type 0 where
   pub low : (y : Step) → Allowed g s y → b ≤ y .bus
 
 pub clear-none : {g : Grid} (s : ℕ) → Proper g → Clear g s 1
-clear-none {g} s v = record { low = λ y a. holds-bus g s (y .bus) v (y .reason) (a .holds) .some }
+clear-none {g} s v = record { low = λ y a. allowed-bus v a .some }
 
 pub clear-more : {g : Grid} {s b : ℕ} → Clear g s b → ((r : Reason) → Out s b → Holds g s b r → ⊥) → Clear g s (b + 1)
 clear-more {g} {s} {b} h n = record {
@@ -59,7 +59,7 @@ none-holds v own lp u lw z (NeighbourOf q) h = let m = v .units q (h .unit) .mos
 none-holds v own lp u lw z (ZeroInjection q) h = let m = v .zeros q (h .class) .most in z .below q (omega arith) h
 
 pub finished-by : {g : Grid} {s b : ℕ} → Proper g → g .n < b → Clear g s b → Finished g s
-finished-by {g} {s} v l h y a = let m = holds-bus g s (y .bus) v (y .reason) (a .holds) .most in omega (arith, h .low y a)
+finished-by {g} {s} v l h y a = let m = allowed-bus v a .most in omega (arith, h .low y a)
 
 -- ---- the first reason that holds
 

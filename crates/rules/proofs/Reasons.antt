@@ -10,7 +10,7 @@ use Rattle.step.specs.declared.Reason.the-variants.{OwnUnit, NeighbourOf, ZeroI
 use Rattle.step.specs.declared.Step.{Step}
 use Rattle.rules.specs.Grids.{Grid, Proper}
 use Rattle.rules.specs.Observation.{O1, Closed}
-use Rattle.rules.specs.Steps.{ByUnit, ByZero, Holds, HasReasoned, ReasonNames, Names}
+use Rattle.rules.specs.Steps.{ByUnit, ByZero, Holds, Allowed, HasReasoned, ReasonNames, Names}
 
 -- a reason that holds goes on holding in a larger set
 pub holds-more : (g : Grid) (s t b : ℕ) → Sub s t → (r : Reason) → Holds g s b r → Holds g t b r
@@ -42,6 +42,9 @@ pub holds-bus : (g : Grid) (s b : ℕ) → Proper g → (r : Reason) → Holds g
 holds-bus g s b v OwnUnit h = v .units b h
 holds-bus g s b v (NeighbourOf p) h = v .lines p b (h .joined) .to
 holds-bus g s b v (ZeroInjection w) h = v .lines w b (h .joined) .to
+
+pub allowed-bus : {g : Grid} {s : ℕ} {x : Step} → Proper g → Allowed g s x → Bus (g .n) (x .bus)
+allowed-bus {g} {s} {x} v a = holds-bus g s (x .bus) v (x .reason) (a .holds)
 
 pub holds-names : (g : Grid) (s b : ℕ) → Proper g → (r : Reason) → Holds g s b r → ReasonNames (g .n) r
 holds-names g s b v OwnUnit h = tt
