@@ -1,6 +1,14 @@
 // The face: every public call. None has a requirement; each checks for itself.
 ghost use Rattle.wozgrzyt.specs.Replies.{ObservedReply, FigureReply, StepReply};
+
+pub mod derivation;
+
 pub use busset::BusSet;
+pub use derivation::DerivationAnswer;
+pub use derivation::Derived;
+pub use following::Replayed;
+pub use following::Wove;
+pub use following::lists::StepList;
 pub use grid::Case;
 pub use grid::Refusal;
 pub use step::Reason;
