@@ -60,6 +60,8 @@ use Rattle.following.proofs.apply as apply
 use Rattle.following.proofs.apply.Symbol as apply-def
 use Rattle.following.proofs.apply.Symbol.{name as #following·apply}
 use Rattle.following.proofs.apply.Met as apply-thm
+use Rattle.desks.proofs.Rows.{case-made, case-typed, following-made, following-typed, step-made, step-typed}
+use Rattle.desks.proofs.Calling.{calls-plain}
 use Rattle.desks.proofs.Walking.{next-fits, next-le, nearer, below, above, drop-next}
 use Rattle.desks.proofs.follow.Key.{name as #desks·follow}
 use Rattle.desks.proofs.follow as f
@@ -83,9 +85,6 @@ module _ {M : Type 1} (𝓤 : URA M) (H : Heap 𝓤) (A : Atoms 𝓤) (mem : Mem
   -- the contract that the proof cites
   abbrev Apply : Contract 𝓤
   Apply = tripleOf 𝓤 H A apply.signature (apply.spec 𝓤 H A mem run)
-
-  said : (cs : Case) (sv : Following) (s : Step) (r : Following) → ent 𝓤 (ensured 𝓤 H A apply.ended (apply.clauses 𝓤 H A mem run) tt (cs, (sv, (s, tt))) tt r) (fact 𝓤 (Applied cs sv s r))
-  said cs sv s r = exE 𝓤 _ (λ ws. snd∗ 𝓤 (sem 𝓤 H A (lasts apply.ended tt (cs, (sv, (s, tt))) ws)) (fact 𝓤 (Applied cs sv s r)))
 
 module _ {M : Type 1} (𝓤 : URA M) (H : Heap 𝓤) (A : Atoms 𝓤) (W : Given 𝓤 H A) (mem : Memory → SProp 𝓤) (run : Routine → Fun 𝓤) (κ : Lft) (q : Share) (b o : ℕ) (γ : GName) (ys : List Step) (cs : Case) (gcs : Is D.the-row cs (LL.vals D.the-type D′.the-laws cs)) (st : Following) (gst : Is S.the-row st (LL.vals S.the-type S′.the-laws st)) (gn : Room T.the-row (length ys)) where
   abbrev n : ℕ
@@ -116,15 +115,8 @@ module _ {M : Type 1} (𝓤 : URA M) (H : Heap 𝓤) (A : Atoms 𝓤) (W : Given
   exits sv u is e =
       qed W (‵ (flft κ q) ∷ ‵ (ShrSlice (named 0) κ T.the-row .own x (at .1 .1 .0)) ∷ []) ∵
       suffices ! _ (ends-at 𝓤 H A f.ended stayed (f.clauses 𝓤 H A mem run) W (((κ, tt), (q, tt), tt, a, at), tt) u sv (tt, (tt, (tt, tt))) (tt, (tt, (tt, tt)))) $ says ! e $
-      nothing ! $ move ! (1 ∷ 0 ∷ []) $ join ! $ frame ! $ nothing ! $ move ! (1 ∷ 0 ∷ []) $ fjoin ! $ owned ! S.the-row (Is S.the-row) (LL.makes S.the-type S′.the-plain 𝓤 H A) st _ gst $ fjoin ! $ owned ! D.the-row (Is D.the-row) (LL.makes D.the-type D′.the-plain 𝓤 H A) cs _ gcs $ fjoin ! $
-      frame ! $ owned ! S.the-row (Is S.the-row) (LL.makes S.the-type S′.the-plain 𝓤 H A) sv _ is $ done !
-
-  -- what `apply` is passed
-  abbrev to : Following → Val → Step → Apply 𝓤 H A mem run .Ghost
-  to sv u s = ((tt, tt, tt, (cs, (sv, (s, tt))), (cmach ∷ [], (u ∷ [], (LL.vals T.the-type T′.the-laws s, tt)))), tt)
-
-  goes : (sv : Following) (u : Val) (s : Step) → ent 𝓤 (sep 𝓤 (sem 𝓤 H A ftrue) (sem 𝓤 H A (owns (D.the-row ∷ S.the-row ∷ T.the-row ∷ []) (cs, (sv, (s, tt))) (cmach ∷ [], (u ∷ [], (LL.vals T.the-type T′.the-laws s, tt)))))) (Apply 𝓤 H A mem run .pre (to sv u s))
-  goes sv u s = qed W (‵ ftrue ∷ ‵ (owns (D.the-row ∷ S.the-row ∷ T.the-row ∷ []) (cs, (sv, (s, tt))) (cmach ∷ [], (u ∷ [], (LL.vals T.the-type T′.the-laws s, tt)))) ∷ []) ∵ join ! $ frame ! $ done !
+      nothing ! $ move ! (1 ∷ 0 ∷ []) $ join ! $ frame ! $ nothing ! $ move ! (1 ∷ 0 ∷ []) $ fjoin ! $ owned ! S.the-row (Is S.the-row) (following-made 𝓤 H A) st _ gst $ fjoin ! $ owned ! D.the-row (Is D.the-row) (case-made 𝓤 H A) cs _ gcs $ fjoin ! $
+      frame ! $ owned ! S.the-row (Is S.the-row) (following-made 𝓤 H A) sv _ is $ done !
 
   abbrev Nearer : Turn cs st ys → Turn cs st ys → Type 0
   Nearer s t = n - s .i < n - t .i
@@ -185,18 +177,14 @@ module _ {M : Type 1} (𝓤 : URA M) (H : Heap 𝓤) (A : Atoms 𝓤) (W : Given
         assigns ! (bin ! (load ! (from ! (fld ! refl (stop !))) (look-in ! 18 (sub ! 0 refl (whole !)))) (load ! (from ! (stop !)) (look ! 12 refl)) tt) (from ! (stop !)) (init ! 8 refl (tt, tt)) $
         rewrite ! 8 (λ (p : ℕ). ‵ (fat fullShare tyPtr l₈ 0 (vptr b p))) (sym (place-is bytes o (t .i))) refl $
         elem-out ! T.the-row (Is T.the-row) (shows 𝓤 H A T.the-row) (LL.vals T.the-type T′.the-laws) (LL.tells T.the-type T′.the-laws) q′ ys (t .i) noStep b o l (λ g.
-        assigns ! (of-opd ! (load ! (from ! (hop ! (look ! 10 refl) (stop !))) (look-raw ! 0 refl))) (from ! (stop !)) (init ! 8 refl (LL.lawful T.the-type T′.the-laws 𝓤 H A W .typed (el t) _ g .0)) $
+        assigns ! (of-opd ! (load ! (from ! (hop ! (look ! 10 refl) (stop !))) (look-raw ! 0 refl))) (from ! (stop !)) (init ! 8 refl (step-typed 𝓤 H A W (el t) _ g)) $
         elem-back ! T.the-row q′ ys (t .i) noStep (LL.vals T.the-type T′.the-laws (el t)) b o l $
-        -- what `apply` asks is made of the facts on its two arguments
-        nothing ! $ owned ! T.the-row (Is T.the-row) (LL.makes T.the-type T′.the-plain 𝓤 H A) (el t) _ g $ fjoin ! $ owned ! S.the-row (Is S.the-row) (LL.makes S.the-type S′.the-plain 𝓤 H A) (t .sv) (t .u ∷ []) (t .is) $ fjoin ! $ owned ! D.the-row (Is D.the-row) (LL.makes D.the-type D′.the-plain 𝓤 H A) cs _ gcs $ fjoin ! $ nothing ! $
-        use2 W (raw (Apply 𝓤 H A mem run .pre (to (t .sv) (t .u) (el t)))) (goes (t .sv) (t .u) (el t)) $
-        calls-at ! (fmOf 𝓤 H (W .laws) 𝓣) (Apply 𝓤 H A mem run) known (to (t .sv) (t .u) (el t)) (and-then ! (load ! (from ! (stop !)) (look ! 23 refl)) (and-then ! (load ! (from ! (stop !)) (look ! 17 refl)) (and-then ! (load ! (from ! (stop !)) (look ! 7 refl)) (no-more !)))) (λ v.
-        use1 W (later (some (λ (r : Following). (‵ ftrue ⊛ ‵ (S.the-row .own r (v ∷ []))) ⊛ raw (ensured 𝓤 H A apply.ended (apply.clauses 𝓤 H A mem run) tt (cs, (t .sv, ((el t), tt))) tt r)))) (id⊢ 𝓤 _) $ await ! tt $ pick ! (λ r.
-        split ! $ move ! (1 ∷ []) $ use1 W (raw (fact 𝓤 (Applied cs (t .sv) (el t) r))) (said 𝓤 H A mem run cs (t .sv) (el t) r) $ heard ! (Applied cs (t .sv) (el t) r) (λ e₁. split ! $ drop ! $
-        peeks ! S.the-row (Is S.the-row) (shows 𝓤 H A S.the-row) r (v ∷ []) (λ is. drop ! $
-        land ! (from ! (stop !)) (store ! 16 refl (LL.lawful S.the-type S′.the-laws 𝓤 H A W .typed r _ is .0)) $
+        calls-plain ! (fmOf 𝓤 H (W .laws) 𝓣) apply.ended (apply.clauses 𝓤 H A mem run) known (tt, tt, tt, (cs, (t .sv, (el t, tt))), (cmach ∷ [], (t .u ∷ [], (LL.vals T.the-type T′.the-laws (el t), tt)))) tt (id⊢ 𝓤 _) (id⊢ 𝓤 _)
+        (case-made 𝓤 H A, (following-made 𝓤 H A, (step-made 𝓤 H A, tt))) (gcs, (t .is, (g, tt))) (Applied cs (t .sv) (el t)) (λ r ws. id⊢ 𝓤 _)
+        (and-then ! (load ! (from ! (stop !)) (look ! 23 refl)) (and-then ! (load ! (from ! (stop !)) (look ! 17 refl)) (and-then ! (load ! (from ! (stop !)) (look ! 7 refl)) (no-more !)))) (λ v r is e₁.
+        land ! (from ! (stop !)) (store ! 16 refl (following-typed 𝓤 H A W r _ is)) $
         assigns-last ! (bin ! (load ! (from ! (stop !)) (look ! 14 refl)) (lit ! tt) (record { fits = next-fits n (t .i) (gn .0) l })) (from ! (stop !)) (store ! 14 refl (tt, record { fits = next-fits n (t .i) (gn .0) l })) $
-        forget ! 6 refl $ forget ! 8 refl $ forget ! 10 refl $ forget ! 12 refl $ again ! Nearer At t (onward t l r v is e₁) (nearer n (t .i) l))))))
+        forget ! 6 refl $ forget ! 8 refl $ forget ! 10 refl $ forget ! 12 refl $ again ! Nearer At t (onward t l r v is e₁) (nearer n (t .i) l)))
       where
         l : t .i < n
         l = below (t .i) n e
@@ -204,7 +192,7 @@ module _ {M : Type 1} (𝓤 : URA M) (H : Heap 𝓤) (A : Atoms 𝓤) (W : Given
         assigns ! (of-opd ! (load ! (from ! (fld ! refl (stop !))) (look-in ! 18 (sub ! 1 refl (whole !))))) (from ! (stop !)) (init ! 12 refl (tt, record { fits = gn .0 })) $
         assigns ! (bin ! (load ! (from ! (stop !)) (look ! 14 refl)) (load ! (from ! (stop !)) (look ! 12 refl)) tt) (from ! (stop !)) (init ! 10 refl (tt, tt)) $
         rewrite ! 10 (λ (y : Bool). ‵ (fat fullShare tyBool l₇ 0 (vbool y))) e refl $ leaves-loop ! (load ! (from ! (stop !)) (look ! 10 refl)) $ exec ! C Λ E mir.t-4 (atRet E Post) $
-        assigns ! (of-opd ! (load ! (from ! (stop !)) (look ! 16 refl))) (from ! (stop !)) (init ! 24 refl (LL.lawful S.the-type S′.the-laws 𝓤 H A W .typed (t .sv) (t .u ∷ []) (t .is) .0)) $
+        assigns ! (of-opd ! (load ! (from ! (stop !)) (look ! 16 refl))) (from ! (stop !)) (init ! 24 refl (following-typed 𝓤 H A W (t .sv) (t .u) (t .is))) $
         shuts-slice ! tt T.the-row q′ ys b o $
         returns ! (look ! 23 refl) $ forget ! 9 refl $ forget ! 11 refl $ forget ! 13 refl $ forget ! 15 refl $ forget ! 17 refl $ forget ! 19 refl $ forget ! 21 refl $ forget ! 23 refl $
         move ! (23 ∷ 24 ∷ []) $ free1 ! $ move ! (21 ∷ 22 ∷ []) $ free1 ! $ move ! (19 ∷ 20 ∷ []) $ free1 ! $ move ! (17 ∷ 18 ∷ []) $ free1 ! $ move ! (15 ∷ 16 ∷ []) $ free1 ! $ move ! (13 ∷ 14 ∷ []) $ free1 ! $ move ! (11 ∷ 12 ∷ []) $ free1 ! $ move ! (9 ∷ 10 ∷ []) $ free1 ! $ move ! (7 ∷ 8 ∷ []) $ free1 ! $ move ! (5 ∷ 6 ∷ []) $ free1 ! $ free0 ! $
@@ -221,8 +209,8 @@ module _ {M : Type 1} (𝓤 : URA M) (H : Heap 𝓤) (A : Atoms 𝓤) (W : Given
   walk 𝓣 known =
       qed W ((‵ (flft κ q) ⊛ ‵ ftrue) ∷ ‵ (owns (D.the-row ∷ S.the-row ∷ ShrSlice (named 0) κ T.the-row ∷ []) a at) ∷ []) ∵ enter ! (𝓣 .C) (𝓣 .Λ) code.function (cmach ∷ mach ∷ sliceVal (b, o) n ∷ []) _ $
       alloc1 ! (λ l₀. alloc1 ! (λ l₁. alloc1 ! (λ l₂. alloc1 ! (λ l₃. alloc1 ! (λ l₄. alloc1 ! (λ l₅. alloc1 ! (λ l₆. alloc1 ! (λ l₇. alloc1 ! (λ l₈. alloc1 ! (λ l₉. alloc0 ! $ params1 ! $
-      pass1 ! (init ! 16 refl (LL.lawful D.the-type D′.the-laws 𝓤 H A W .typed cs _ gcs .0)) $ pass1 ! (init ! 14 refl (LL.lawful S.the-type S′.the-laws 𝓤 H A W .typed st _ gst .0)) $ pass1 ! (init ! 12 refl (tt, (tt, (record { fits = gn .0 }, tt)))) $ pass0 ! $
-      assigns ! (of-opd ! (load ! (from ! (stop !)) (look ! 14 refl))) (from ! (stop !)) (init ! 10 refl (LL.lawful S.the-type S′.the-laws 𝓤 H A W .typed st _ gst .0)) $
+      pass1 ! (init ! 16 refl (case-typed 𝓤 H A W cs _ gcs)) $ pass1 ! (init ! 14 refl (following-typed 𝓤 H A W st _ gst)) $ pass1 ! (init ! 12 refl (tt, (tt, (record { fits = gn .0 }, tt)))) $ pass0 ! $
+      assigns ! (of-opd ! (load ! (from ! (stop !)) (look ! 14 refl))) (from ! (stop !)) (init ! 10 refl (following-typed 𝓤 H A W st _ gst)) $
       assigns ! (of-opd ! (lit ! tt)) (from ! (stop !)) (init ! 8 refl (tt, record { fits = lit< tt })) $
       -- [the locals, the last first; the token; what st and steps own]
       move ! (21 ∷ []) $ fsplit ! $ drop ! $ fsplit ! $ drop ! $ fsplit ! $ move ! (1 ∷ []) $ drop ! $ fsplit ! $ move ! (1 ∷ []) $ fsplit ! $ move ! (23 ∷ []) $ split ! $ move ! (3 ∷ 0 ∷ []) $
