@@ -20,9 +20,9 @@ use Rattle.following.specs.declared.Replayed.{Replayed}
 use Rattle.following.specs.declared.Replayed.the-variants as replayed
 use Rattle.following.specs.declared.Wove.{Wove}
 use Rattle.following.specs.declared.Wove.the-variants as wove
-use Rattle.wozgrzyt.specs.declared.derivation.DerivationAnswer.{DerivationAnswer}
-use Rattle.wozgrzyt.specs.declared.derivation.DerivationAnswer.the-variants.{Found, Refused}
-use Rattle.wozgrzyt.specs.declared.derivation.Derived.{Derived}
+use Rattle.wozgrzyt.specs.declared.steps.DerivationAnswer.{DerivationAnswer}
+use Rattle.wozgrzyt.specs.declared.steps.DerivationAnswer.the-variants.{Found, Refused}
+use Rattle.wozgrzyt.specs.declared.steps.Derived.{Derived}
 use Rattle.wozgrzyt.specs.ListReplies.{derivationChecks, DerivationAt, DerivationReply}
 
 derives-unique : {g : Grid} {l m : StepList} → Derives g l → Derives g m → l ≡ m

@@ -7,9 +7,9 @@ use Rattle.grid.specs.Refusals.{Check, check, Passed, Failed}
 use Rattle.following.specs.Lists.{listOf}
 use Rattle.following.specs.Deriving.{Derives}
 use Rattle.following.specs.declared.lists.StepList.{StepList}
-use Rattle.wozgrzyt.specs.declared.derivation.DerivationAnswer.{DerivationAnswer}
-use Rattle.wozgrzyt.specs.declared.derivation.DerivationAnswer.the-variants.{Found, Refused}
-use Rattle.wozgrzyt.specs.declared.derivation.Derived.{Derived}
+use Rattle.wozgrzyt.specs.declared.steps.DerivationAnswer.{DerivationAnswer}
+use Rattle.wozgrzyt.specs.declared.steps.DerivationAnswer.the-variants.{Found, Refused}
+use Rattle.wozgrzyt.specs.declared.steps.Derived.{Derived}
 
 abbrev pub derivationChecks : Case → List Check
 derivationChecks c = check (Valid c) 5 0 ∷ []

@@ -4,8 +4,8 @@ use Rattle.busset.proofs.Tests.{refutes}
 use Rattle.grid.specs.Cases.{Valid}
 use Rattle.grid.proofs.Orders.{itself}
 use borrow.Author.Needs.{needs}
-use Rattle.wozgrzyt.proofs.derivation.derivation.Statement.{statement}
-use Rattle.wozgrzyt.proofs.derivation.derivation.Tie as tie
+use Rattle.wozgrzyt.proofs.steps.derivation.Statement.{statement}
+use Rattle.wozgrzyt.proofs.steps.derivation.Tie as tie
 
 valid : (c : tie.Else1) → Valid (c .before .before .args .case)
 valid c = c .before .is-valid .ensures .yes (not-false _ (c .if1 .left))
