@@ -1,3 +1,5 @@
+pub mod Counting
 pub mod Rows
-pub mod Walking
 pub mod Calling
+pub mod Walking
+pub mod Beginning

@@ -14,6 +14,7 @@ use Rattle.following.specs.declared.Following.{Following}
 use Rattle.step.specs.declared.Step.{Step}
 use Rattle.following.specs.declared.lists.StepList.{StepList}
 use Rattle.following.specs.declared.Task.{Task}
+use Rattle.following.specs.declared.Task.the-variants.{Replay, Weave}
 use Rattle.following.specs.declared.Wove.{Wove}
 use Rattle.following.specs.declared.Replayed.{Replayed}
 use Rattle.grid.proofs.Case as case
@@ -30,6 +31,11 @@ use Rattle.following.proofs.Wove as wove
 use Rattle.following.proofs.Wove.Laws as wove′
 use Rattle.following.proofs.Replayed as replayed
 use Rattle.following.proofs.Replayed.Laws as replayed′
+
+-- a task's fact
+pub task-is : (k : Task) → Is task.the-row k (EL.vals task.the-type task′.the-laws k)
+task-is Replay = EL.owes task.the-type task′.the-laws Replay tt
+task-is Weave = EL.owes task.the-type task′.the-laws Weave tt
 
 module _ {M : Type 1} (𝓤 : URA M) (H : Heap 𝓤) (A : Atoms 𝓤) where
   pub case-made : Makes 𝓤 H A case.the-row (Is case.the-row)
