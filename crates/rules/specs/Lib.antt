@@ -3,3 +3,8 @@ pub mod Observation
 pub mod Steps
 pub mod Weaving
 pub mod Figures
+pub mod Confirming
+pub mod Placing
+pub mod Ways
+pub mod Blocking
+pub mod Choosing

@@ -1,0 +1,2 @@
+// Placing units: cross-validation, greedy placement, and the fewest units.
+pub mod confirming;
