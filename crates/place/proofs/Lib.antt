@@ -1,1 +1,3 @@
 pub mod Sharing
+pub mod Lighting
+pub mod Cutting

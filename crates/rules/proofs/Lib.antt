@@ -3,3 +3,7 @@ pub mod Leasts
 pub mod Lists
 pub mod Shuffles
 pub mod Figures
+pub mod Covering
+pub mod Ordering
+pub mod Searching
+pub mod Blocks
