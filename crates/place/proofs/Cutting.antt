@@ -11,13 +11,13 @@ use Rattle.busset.proofs.Members.{in-or, sub-of, without-sub, with-add, add-gro
 use Rattle.rules.specs.Grids.{Grid, Line}
 use Rattle.rules.specs.Observation.{Closed}
 use Rattle.rules.specs.Placing.{Full}
-use Rattle.rules.specs.Ways.{Way, NoWay}
+use Rattle.rules.specs.Ways.{Way, NoWay, Whatever}
 use Rattle.rules.specs.Blocking.{Idle, Group}
 use Rattle.rules.proofs.Covering.{rising-to}
 use Rattle.rules.proofs.Blocks.{idle-no-way, Grouped, grouped-more, grouped-stuck}
 use Rattle.grid.specs.Cases.{Lines}
 use Rattle.observe.specs.Passes.{Started, AllFired}
-use Rattle.place.specs.Spreads.{Spread, Lit, Shrunk}
+use Rattle.place.specs.Spreads.{Spread, Lit, Shrunk, Narrows}
 use Rattle.place.proofs.Lighting.{lit-closed}
 
 -- ---- all open sites together
@@ -75,3 +75,11 @@ module _ {g : Grid} {sites q t m c next : ℕ} (gr : Grouped g sites q t m) (lac
   next-group u l =
       grouped-more gr (shrunk-closed (gr .closed) sh) (sh .grows) (sh .lacks lacks) d u
       (lit-closed (gr .closed) l) (l .grows) (λ x h. record { own = omega (arith, l .own x); near = l .near x h })
+
+-- ---- the sites of the groups
+
+pub narrows-same : (n : ℕ) (nbr : ℕ → ℕ) (zeros s sites k : ℕ) → Narrows n nbr zeros s sites k sites
+narrows-same n nbr zeros s sites k = record { of = λ b. le-refl (bit sites b); ways = λ _ _ cl xs w. w }
+
+pub narrows-none : (n : ℕ) (nbr : ℕ → ℕ) (zeros s sites k : ℕ) {r : ℕ} → r ≡ empty → Whatever n nbr zeros (λ g. Closed g s → NoWay g sites k) → Narrows n nbr zeros s sites k r
+narrows-none n nbr zeros s sites k e none = record { of = λ b. omega (arith, ap (λ (x : ℕ). bit x b) e, bit-zero b); ways = λ site units cl xs w. absurd (none site units cl xs w) }

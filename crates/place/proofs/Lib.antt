@@ -1,3 +1,4 @@
 pub mod Sharing
 pub mod Lighting
 pub mod Cutting
+pub mod Finding

@@ -1,7 +1,9 @@
 -- What spreading promises: observed sets made from one another.
 use Prim.Native.Nat.{ℕ}
 use Rattle.busset.specs.Sets.{In, Sub}
+use Rattle.rules.specs.Observation.{Closed}
 use Rattle.rules.specs.Placing.{Full}
+use Rattle.rules.specs.Ways.{Whatever, Narrowed}
 use Rattle.observe.specs.Passes.{AllFired}
 
 -- r is the smallest set that holds s and in which each observed Z bus has fired
@@ -23,3 +25,8 @@ pub record Shrunk (n : ℕ) (nbr : ℕ → ℕ) (zeros c r : ℕ) : Type 0 where
   pub grows : Sub c r
   pub fired : AllFired nbr zeros c → AllFired nbr zeros r
   pub lacks : (Full n c → ⊥) → Full n r → ⊥
+
+-- where s satisfies the rules, every way of k of the sites has only sites of r, which are some of them
+pub record Narrows (n : ℕ) (nbr : ℕ → ℕ) (zeros s sites k r : ℕ) : Type 0 where
+  pub of : Sub r sites
+  pub ways : Whatever n nbr zeros (λ g. Closed g s → Narrowed g sites k r)

@@ -2,10 +2,10 @@
 ghost use Prim.Native.Nat.{ℕ, _≤_};
 ghost use Rattle.busset.specs.Sets.{Bus, Within, width, setOf};
 ghost use Rattle.rules.specs.Observation.{Closed};
-ghost use Rattle.rules.specs.Ways.{Whatever, Cut, Narrowed};
+ghost use Rattle.rules.specs.Ways.{Whatever, Cut};
 ghost use Rattle.rules.specs.Blocking.{Group};
 ghost use Rattle.grid.specs.Cases.{neighbours, Lines};
-ghost use Rattle.place.specs.Spreads.{Shrunk};
+ghost use Rattle.place.specs.Spreads.{Shrunk, Narrows};
 use busset::BusSet;
 
 // All the open sites together do not cover.
@@ -14,6 +14,21 @@ pub fn too_dark(n: usize, nbr: &[BusSet; 64], zero: BusSet, s: BusSet, sites: Bu
     ensures { λ r. ⌜ Whatever n (neighbours (now (nbr .entry))) (setOf zero) (λ g. Closed g (setOf s) → (k : ℕ) → Cut g (setOf sites) k r) ⌝ }
 {
     !crate::spreading::is_full(n, crate::spreading::lit(nbr, zero, s, sites))
+}
+
+// Too few buses can still become observed.
+pub fn too_few(
+    n: usize,
+    nbr: &[BusSet; 64],
+    zero: BusSet,
+    s: BusSet,
+    sites: BusSet,
+    k: usize,
+) -> bool
+    requires { ⌜ (n ≤ width) × Lines n (neighbours (now nbr)) × Within n (setOf sites) ⌝ }
+    ensures { λ r. ⌜ Whatever n (neighbours (now (nbr .entry))) (setOf zero) (λ g. Closed g (setOf s) → Cut g (setOf sites) k r) ⌝ }
+{
+    false
 }
 
 // c with a trial unit at x, unless c then has all buses.
@@ -57,9 +72,16 @@ pub fn group(n: usize, nbr: &[BusSet; 64], sites: BusSet, c: BusSet) -> BusSet
 }
 
 // The sites of which every way has k: where k groups are found, each with a site of every way, only theirs.
-pub fn narrowed(n: usize, nbr: &[BusSet; 64], zero: BusSet, s: BusSet, sites: BusSet, k: usize) -> BusSet
+pub fn narrowed(
+    n: usize,
+    nbr: &[BusSet; 64],
+    zero: BusSet,
+    s: BusSet,
+    sites: BusSet,
+    k: usize,
+) -> BusSet
     requires { ⌜ (n ≤ width) × Lines n (neighbours (now nbr)) × Within n (setOf sites) ⌝ }
-    ensures { λ r. ⌜ Whatever n (neighbours (now (nbr .entry))) (setOf zero) (λ g. Closed g (setOf s) → Narrowed g (setOf sites) k (setOf r)) ⌝ }
+    ensures { λ r. ⌜ Narrows n (neighbours (now (nbr .entry))) (setOf zero) (setOf s) (setOf sites) k (setOf r) ⌝ }
 {
     let mut q = busset::none();
     let mut t = s;

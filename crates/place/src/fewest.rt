@@ -14,7 +14,14 @@ pub enum Found {
 }
 
 // The first k of the sites, by their rising lists, that make all buses observed where s is.
-pub fn search(n: usize, nbr: &[BusSet; 64], zero: BusSet, s: BusSet, sites: BusSet, k: usize) -> Found
+pub fn search(
+    n: usize,
+    nbr: &[BusSet; 64],
+    zero: BusSet,
+    s: BusSet,
+    sites: BusSet,
+    k: usize,
+) -> Found
     requires { ⌜ (n ≤ width) × Lines n (neighbours (now nbr)) × Within n (setOf sites) ⌝ }
     ensures { λ r. ⌜ Whatever n (neighbours (now (nbr .entry))) (setOf zero) (λ g. Least g (setOf s) → FoundIs g (setOf sites) k r) ⌝ }
 {
@@ -22,6 +29,9 @@ pub fn search(n: usize, nbr: &[BusSet; 64], zero: BusSet, s: BusSet, sites: BusS
         if crate::spreading::is_full(n, s) {
             return Found::Sites(busset::none());
         }
+        return Found::Nothing;
+    }
+    if crate::cuts::too_few(n, nbr, zero, s, sites, k) {
         return Found::Nothing;
     }
     let mut left = crate::cuts::narrowed(n, nbr, zero, s, sites, k);
@@ -37,6 +47,29 @@ pub fn search(n: usize, nbr: &[BusSet; 64], zero: BusSet, s: BusSet, sites: BusS
             return Found::Sites(busset::with(m, x));
         }
         left = above;
+    }
+    Found::Nothing
+}
+
+// The fewest units within the budget: the sizes are tried from 0 on.
+pub fn fewest(
+    n: usize,
+    nbr: &[BusSet; 64],
+    zero: BusSet,
+    site: BusSet,
+    units: BusSet,
+    budget: usize,
+) -> Found
+    requires { ⌜ (n ≤ width) × Proper (gridWith n (now nbr) zero site units) × (budget ≤ 8) ⌝ }
+    ensures { λ r. ⌜ FewestIs (gridWith n (now (nbr .entry)) zero site units) budget r ⌝ }
+{
+    let s = observe::sweeps::observed(nbr, zero, units);
+    let free = busset::minus(site, units);
+    for k in 0..budget + 1 {
+        let r = search(n, nbr, zero, s, free, k);
+        if let Found::Sites(m) = r {
+            return Found::Sites(m);
+        }
     }
     Found::Nothing
 }

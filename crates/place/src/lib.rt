@@ -1,5 +1,5 @@
 // Placing units: cross-validation, greedy placement, and the fewest units.
 pub mod confirming;
-pub mod spreading;
 pub mod cuts;
 pub mod fewest;
+pub mod spreading;

@@ -106,14 +106,12 @@ still-idle sites q r low (x ∷ xs) idle sub rest h o = (
 
 -- q is the sites of m groups: every way has at least m sites in it, and all of them are idle in lit, which satisfies the rules
 pub record Grouped (g : Grid) (sites q lit m : ℕ) : Type 0 where
-  pub of : Sub q sites
   pub closed : Closed g lit
   pub idle : (x : ℕ) → In q x → Idle (g .nbr) lit x
   pub least : (k : ℕ) (xs : List ℕ) → Way g sites k xs → m ≤ hits q xs
 
 pub grouped-none : {g : Grid} {q lit : ℕ} (sites : ℕ) → q ≡ empty → Closed g lit → Grouped g sites q lit 0
 grouped-none {g} {q} sites e cl = record {
-  of = λ b. omega (arith, ap (λ (s : ℕ). bit s b) e, bit-zero b);
   closed = cl;
   idle = λ x h. absurd (omega (arith, ap (λ (s : ℕ). bit s x) e, bit-zero x));
   least = λ k xs w. zero-le;
@@ -138,7 +136,6 @@ module _ {g : Grid} {sites q lit m c group r : ℕ} (gr : Grouped g sites q lit 
 
   pub grouped-more : {lit′ : ℕ} → Closed g lit′ → Sub lit lit′ → ((x : ℕ) → In group x → Idle (g .nbr) lit′ x) → Grouped g sites r lit′ (m + 1)
   grouped-more {lit′} cl′ grows idle = record {
-    of = λ b. omega (arith, u .at b, gr .of b, d .of b);
     closed = cl′;
     idle = λ x h. ⊎-elim
         (λ (p : In q x). record { own = omega (arith, grows x, gr .idle x p .own); near = λ b. omega (arith, grows b, gr .idle x p .near b) })
@@ -154,17 +151,14 @@ module _ {g : Grid} {sites q lit m c group r : ℕ} (gr : Grouped g sites q lit 
 
 -- k groups: every way has all its sites in them
 pub grouped-narrow : {g : Grid} {sites q lit k : ℕ} → Grouped g sites q lit k → Narrowed g sites k q
-grouped-narrow {g} {sites} {q} {lit} {k} gr = record {
-  of = gr .of;
-  ways = λ xs w. record {
-    rising = hits-all sites q 0 xs (omega (arith, gr .least k xs w, w .many)) (w .rising);
-    many = w .many;
-    covers = w .covers;
-  };
+grouped-narrow {g} {sites} {q} {lit} {k} gr xs w = record {
+  rising = hits-all sites q 0 xs (omega (arith, gr .least k xs w, w .many)) (w .rising);
+  many = w .many;
+  covers = w .covers;
 }
 
 -- and none, where a bus is still lacking
 pub grouped-lacks : {g : Grid} {sites q lit k : ℕ} → Grouped g sites q lit k → (Full (g .n) lit → ⊥) → NoWay g sites k
 grouped-lacks {g} {sites} {q} {lit} {k} gr lacks xs w =
-    let v = grouped-narrow gr .ways xs w in
+    let v = grouped-narrow gr xs w in
     idle-no-way (gr .closed) lacks (rising-to 0 0 xs (omega arith) (λ x l h. gr .idle x h) (v .rising)) v

@@ -4,7 +4,6 @@ use mathlib.Core.Logic.{inl, inr, ⊎-elim}
 use mathlib.Core.List.{List, [], _∷_}
 use Prim.Native.Nat.{ℕ, _+_, _-_, _≤_, _<_}
 use native.Mathlib.Omega.{arith}
-use native.Mathlib.Nat.{le-refl}
 use lib.ListN.{length}
 use Rattle.busset.specs.Sets.{bit, In, Out, Sub, empty, add, Lowest, Without, Minus}
 use Rattle.busset.proofs.Tests.{same-or, below-or}
@@ -32,28 +31,20 @@ no-way-left e p (x ∷ xs) w = omega (arith, w .rising .1, ap (λ (s : ℕ). bit
 
 -- ---- fewer sites
 
-pub narrowed-same : (g : Grid) (sites k : ℕ) → Narrowed g sites k sites
-narrowed-same g sites k = record { of = λ b. le-refl (bit sites b); ways = λ xs w. w }
+pub narrowed-no : {g : Grid} {k : ℕ} (sites rest : ℕ) → Narrowed g sites k rest → NoWay g rest k → NoWay g sites k
+narrowed-no sites rest p n xs w = n xs (p xs w)
 
-pub narrowed-more : {g : Grid} {sites k rest less : ℕ} → Narrowed g sites k rest → Narrowed g rest k less → Narrowed g sites k less
-narrowed-more p q = record { of = λ b. omega (arith, p .of b, q .of b); ways = λ xs w. q .ways xs (p .ways xs w) }
-
-pub narrowed-no : {g : Grid} {sites k rest : ℕ} → Narrowed g sites k rest → NoWay g rest k → NoWay g sites k
-narrowed-no p n xs w = n xs (p .ways xs w)
-
-pub narrowed-none : {g : Grid} {sites k rest : ℕ} → rest ≡ empty → NoWay g sites k → Narrowed g sites k rest
-narrowed-none e n = record { of = λ b. omega (arith, ap (λ (s : ℕ). bit s b) e, bit-zero b); ways = λ xs w. absurd (n xs w) }
-
-pub narrowed-first : {g : Grid} {sites k rest m : ℕ} → Narrowed g sites k rest → FirstWay g rest k m → FirstWay g sites k m
-narrowed-first p f = record {
+-- the first way of the sites that every way has is the first of all
+pub narrowed-first : {g : Grid} {k m : ℕ} (sites rest : ℕ) → Sub rest sites → Narrowed g sites k rest → FirstWay g rest k m → FirstWay g sites k m
+narrowed-first sites rest sub p f = record {
   list = f .list;
   set = f .set;
   way = record {
-    rising = rising-to 0 0 (f .list) (omega arith) (λ x l h. omega (arith, p .of x)) (f .way .rising);
+    rising = rising-to 0 0 (f .list) (omega arith) (λ x l h. omega (arith, sub x)) (f .way .rising);
     many = f .way .many;
     covers = f .way .covers;
   };
-  first = λ ys w. f .first ys (p .ways ys w);
+  first = λ ys w. f .first ys (p ys w);
 }
 
 -- ---- the lowest site x, and the sites above it
@@ -105,21 +96,18 @@ module _ {n sites x rest : ℕ} (low : Lowest n sites x) (w : Without sites x re
 
     -- where no way begins with x, the ways are those of the sites above it
     pub narrowed-past : 0 < k → NoWay (at g (add (g .units) x)) rest (k - 1) → Narrowed g sites k rest
-    narrowed-past p n = record { of = without-sub w; ways = past }
-      where
-        past : (ys : List ℕ) → Way g sites k ys → Way g rest k ys
-        past [] v = absurd (omega (arith, v .many))
-        past (y ∷ ys) v =
-            ⊎-elim
-            (λ (e : y ≡ x). absurd (n ys (way-rest (subst (λ (z : ℕ). Way g sites k (z ∷ ys)) e v))))
-            (λ (ne : y ≡ x → ⊥).
-            let l = above y (w .there y ne ∙ v .rising .1) in
-            record {
-              rising = (v .rising .0, stays y l (v .rising .1), rising-to y y ys (omega arith) (λ z m h. stays z (omega arith) h) (v .rising .2));
-              many = v .many;
-              covers = v .covers;
-            })
-            (same-or y x)
+    narrowed-past p n [] v = absurd (omega (arith, v .many))
+    narrowed-past p n (y ∷ ys) v =
+        ⊎-elim
+        (λ (e : y ≡ x). absurd (n ys (way-rest (subst (λ (z : ℕ). Way g sites k (z ∷ ys)) e v))))
+        (λ (ne : y ≡ x → ⊥).
+        let l = above y (w .there y ne ∙ v .rising .1) in
+        record {
+          rising = (v .rising .0, stays y l (v .rising .1), rising-to y y ys (omega arith) (λ z m h. stays z (omega arith) h) (v .rising .2));
+          many = v .many;
+          covers = v .covers;
+        })
+        (same-or y x)
 
 -- ---- size after size, over the sites where a new unit may go
 

@@ -4,7 +4,7 @@ use mathlib.Core.Bool.{Bool, true}
 use mathlib.Core.List.{List}
 use Prim.Native.Nat.{ℕ}
 use lib.ListN.{length}
-use Rattle.busset.specs.Sets.{In, Sub, empty}
+use Rattle.busset.specs.Sets.{In, empty}
 use Rattle.rules.specs.Grids.{Grid}
 use Rattle.rules.specs.Placing.{Covers, Rising, placed, Before}
 
@@ -25,10 +25,9 @@ pub record FirstWay (g : Grid) (sites k m : ℕ) : Type 0 where
   pub way : Way g sites k list
   pub first : (ys : List ℕ) → Way g sites k ys → Before list ys
 
--- every way has only the sites of rest, which are some of the sites
-pub record Narrowed (g : Grid) (sites k rest : ℕ) : Type 0 where
-  pub of : Sub rest sites
-  pub ways : (xs : List ℕ) → Way g sites k xs → Way g rest k xs
+-- every way has only sites of rest
+abbrev pub Narrowed : Grid → ℕ → ℕ → ℕ → Type 0
+Narrowed g sites k rest = (xs : List ℕ) → Way g sites k xs → Way g rest k xs
 
 -- a cut: where it says true there is no way
 abbrev pub Cut : Grid → ℕ → ℕ → Bool → Type 0

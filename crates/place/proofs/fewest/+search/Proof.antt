@@ -1,4 +1,19 @@
-use Prim.Native.Nat.{ℕ, _<_}
+use Prim.Native.Nat.{ℕ, _<_, _+_, _-_}
+use mathlib.Core.Path.{_≡_}
+use native.Mathlib.Omega.{arith}
+use borrow.Author.Needs.{needs}
+use borrow.Author.Tests.{not-true, not-false}
+use Rattle.busset.specs.Sets.{Sub, setOf, size}
+use Rattle.busset.proofs.Tests.{refutes}
+use Rattle.busset.proofs.Members.{without-sub}
+use Rattle.busset.proofs.Sizes.{size-le}
+use Rattle.rules.specs.Grids.{Grid}
+use Rattle.rules.specs.Observation.{Least}
+use Rattle.rules.specs.Ways.{Whatever, Narrowed}
+use Rattle.rules.proofs.Covering.{covers-full, full-covers}
+use Rattle.rules.proofs.Searching.{way-none, no-way-none, no-way-left, narrowed-no, narrowed-first}
+use Rattle.grid.specs.Cases.{neighbours}
+use Rattle.place.proofs.Finding.{found-take, found-pass}
 use borrow.Fn.Kinds.{In}
 use borrow.Fn.PlainCycle.{Measures, is, falls, and}
 use Rattle.place.proofs.fewest.search.Reads as search′
@@ -11,13 +26,14 @@ use Rattle.busset.proofs.with.Reads as with-reads
 use Rattle.busset.proofs.without.Reads as without-reads
 use Rattle.place.proofs.cuts.narrowed.Reads as narrowed-reads
 use Rattle.place.proofs.cuts.too_dark.Reads as too-dark-reads
+use Rattle.place.proofs.cuts.too_few.Reads as too-few-reads
 use Rattle.place.proofs.spreading.is_full.Reads as is-full-reads
 use Rattle.place.proofs.spreading.lit.Reads as lit-reads
 use Rattle.place.proofs.fewest.+search.{statement}
 use Rattle.place.proofs.fewest.+search.Tie.{close}
 
 abbrev μ-search : Measures 1 search-kinds.ps ℕ
-μ-search κs a = ?
+μ-search κs a = a .1 .1 .1 .1 .1 .0 + size (setOf (a .1 .1 .1 .1 .0))
 
 abbrev search-at : ℕ → In 1 search-kinds.ps
 search-at t = and 1 search-kinds.ps (is 1 search-kinds.ps μ-search t) search′.Pre
@@ -26,591 +42,20 @@ abbrev search-below : ℕ → In 1 search-kinds.ps
 search-below t = and 1 search-kinds.ps (falls 1 search-kinds.ps _<_ μ-search t) search′.Pre
 
 abbrev search-Inv-loop : search-lts.InvT-loop
-search-Inv-loop n nbr zero s sites k left₀ left = ?
+search-Inv-loop n nbr zero s sites k left₀ left = Sub (setOf left) (setOf sites) × Whatever n (neighbours nbr) (setOf zero) (λ g. Least g (setOf s) → Narrowed g (setOf sites) k (setOf left))
 
 abbrev search-μ-loop : search-lts.MeasureT-loop
-search-μ-loop n nbr zero s sites k left₀ left = ?
+search-μ-loop n nbr zero s sites k left₀ left = size (setOf left)
 
--- src/fewest.rt:22:12
-search-is-full-requires : (t : ℕ) → search-lts.Need-is-full-requires (
+-- what the callees ask and tell
+abbrev calls : ℕ → search-lts.Claims
+calls t = (
   is-full-reads.Asked,
   is-full-reads.Learnt,
   none-reads.Asked,
   none-reads.Learnt,
-  narrowed-reads.Asked,
-  narrowed-reads.Learnt,
-  is-none-reads.Asked,
-  is-none-reads.Learnt,
-  too-dark-reads.Asked,
-  too-dark-reads.Learnt,
-  lowest-reads.Asked,
-  lowest-reads.Learnt,
-  without-reads.Asked,
-  without-reads.Learnt,
-  with-reads.Asked,
-  with-reads.Learnt,
-  lit-reads.Asked,
-  lit-reads.Learnt,
-  search-below t,
-  search′.Post,
-) (search-at t) search′.Post search-Inv-loop search-μ-loop
-search-is-full-requires t c κs = ?
-
--- src/fewest.rt:23:33
-search-none-requires : (t : ℕ) → search-lts.Need-none-requires (
-  is-full-reads.Asked,
-  is-full-reads.Learnt,
-  none-reads.Asked,
-  none-reads.Learnt,
-  narrowed-reads.Asked,
-  narrowed-reads.Learnt,
-  is-none-reads.Asked,
-  is-none-reads.Learnt,
-  too-dark-reads.Asked,
-  too-dark-reads.Learnt,
-  lowest-reads.Asked,
-  lowest-reads.Learnt,
-  without-reads.Asked,
-  without-reads.Learnt,
-  with-reads.Asked,
-  with-reads.Learnt,
-  lit-reads.Asked,
-  lit-reads.Learnt,
-  search-below t,
-  search′.Post,
-) (search-at t) search′.Post search-Inv-loop search-μ-loop
-search-none-requires t c κs = ?
-
--- src/fewest.rt:23:13
-search-returns : (t : ℕ) → search-lts.Need-returns (
-  is-full-reads.Asked,
-  is-full-reads.Learnt,
-  none-reads.Asked,
-  none-reads.Learnt,
-  narrowed-reads.Asked,
-  narrowed-reads.Learnt,
-  is-none-reads.Asked,
-  is-none-reads.Learnt,
-  too-dark-reads.Asked,
-  too-dark-reads.Learnt,
-  lowest-reads.Asked,
-  lowest-reads.Learnt,
-  without-reads.Asked,
-  without-reads.Learnt,
-  with-reads.Asked,
-  with-reads.Learnt,
-  lit-reads.Asked,
-  lit-reads.Learnt,
-  search-below t,
-  search′.Post,
-) (search-at t) search′.Post search-Inv-loop search-μ-loop
-search-returns t c = ?
-
--- src/fewest.rt:25:9
-search-returns-2 : (t : ℕ) → search-lts.Need-returns-2 (
-  is-full-reads.Asked,
-  is-full-reads.Learnt,
-  none-reads.Asked,
-  none-reads.Learnt,
-  narrowed-reads.Asked,
-  narrowed-reads.Learnt,
-  is-none-reads.Asked,
-  is-none-reads.Learnt,
-  too-dark-reads.Asked,
-  too-dark-reads.Learnt,
-  lowest-reads.Asked,
-  lowest-reads.Learnt,
-  without-reads.Asked,
-  without-reads.Learnt,
-  with-reads.Asked,
-  with-reads.Learnt,
-  lit-reads.Asked,
-  lit-reads.Learnt,
-  search-below t,
-  search′.Post,
-) (search-at t) search′.Post search-Inv-loop search-μ-loop
-search-returns-2 t c = ?
-
--- src/fewest.rt:27:9
-search-narrowed-requires : (t : ℕ) → search-lts.Need-narrowed-requires (
-  is-full-reads.Asked,
-  is-full-reads.Learnt,
-  none-reads.Asked,
-  none-reads.Learnt,
-  narrowed-reads.Asked,
-  narrowed-reads.Learnt,
-  is-none-reads.Asked,
-  is-none-reads.Learnt,
-  too-dark-reads.Asked,
-  too-dark-reads.Learnt,
-  lowest-reads.Asked,
-  lowest-reads.Learnt,
-  without-reads.Asked,
-  without-reads.Learnt,
-  with-reads.Asked,
-  with-reads.Learnt,
-  lit-reads.Asked,
-  lit-reads.Learnt,
-  search-below t,
-  search′.Post,
-) (search-at t) search′.Post search-Inv-loop search-μ-loop
-search-narrowed-requires t c κs = ?
-
--- src/fewest.rt:28:5
-search-loop-holds : (t : ℕ) → search-lts.Need-loop-holds (
-  is-full-reads.Asked,
-  is-full-reads.Learnt,
-  none-reads.Asked,
-  none-reads.Learnt,
-  narrowed-reads.Asked,
-  narrowed-reads.Learnt,
-  is-none-reads.Asked,
-  is-none-reads.Learnt,
-  too-dark-reads.Asked,
-  too-dark-reads.Learnt,
-  lowest-reads.Asked,
-  lowest-reads.Learnt,
-  without-reads.Asked,
-  without-reads.Learnt,
-  with-reads.Asked,
-  with-reads.Learnt,
-  lit-reads.Asked,
-  lit-reads.Learnt,
-  search-below t,
-  search′.Post,
-) (search-at t) search′.Post search-Inv-loop search-μ-loop
-search-loop-holds t c = ?
-
--- src/fewest.rt:28:12
-search-is-none-requires : (t : ℕ) → search-lts.Need-is-none-requires (
-  is-full-reads.Asked,
-  is-full-reads.Learnt,
-  none-reads.Asked,
-  none-reads.Learnt,
-  narrowed-reads.Asked,
-  narrowed-reads.Learnt,
-  is-none-reads.Asked,
-  is-none-reads.Learnt,
-  too-dark-reads.Asked,
-  too-dark-reads.Learnt,
-  lowest-reads.Asked,
-  lowest-reads.Learnt,
-  without-reads.Asked,
-  without-reads.Learnt,
-  with-reads.Asked,
-  with-reads.Learnt,
-  lit-reads.Asked,
-  lit-reads.Learnt,
-  search-below t,
-  search′.Post,
-) (search-at t) search′.Post search-Inv-loop search-μ-loop
-search-is-none-requires t c κs = ?
-
--- src/fewest.rt:29:12
-search-too-dark-requires : (t : ℕ) → search-lts.Need-too-dark-requires (
-  is-full-reads.Asked,
-  is-full-reads.Learnt,
-  none-reads.Asked,
-  none-reads.Learnt,
-  narrowed-reads.Asked,
-  narrowed-reads.Learnt,
-  is-none-reads.Asked,
-  is-none-reads.Learnt,
-  too-dark-reads.Asked,
-  too-dark-reads.Learnt,
-  lowest-reads.Asked,
-  lowest-reads.Learnt,
-  without-reads.Asked,
-  without-reads.Learnt,
-  with-reads.Asked,
-  with-reads.Learnt,
-  lit-reads.Asked,
-  lit-reads.Learnt,
-  search-below t,
-  search′.Post,
-) (search-at t) search′.Post search-Inv-loop search-μ-loop
-search-too-dark-requires t c κs = ?
-
--- src/fewest.rt:30:13
-search-returns-3 : (t : ℕ) → search-lts.Need-returns-3 (
-  is-full-reads.Asked,
-  is-full-reads.Learnt,
-  none-reads.Asked,
-  none-reads.Learnt,
-  narrowed-reads.Asked,
-  narrowed-reads.Learnt,
-  is-none-reads.Asked,
-  is-none-reads.Learnt,
-  too-dark-reads.Asked,
-  too-dark-reads.Learnt,
-  lowest-reads.Asked,
-  lowest-reads.Learnt,
-  without-reads.Asked,
-  without-reads.Learnt,
-  with-reads.Asked,
-  with-reads.Learnt,
-  lit-reads.Asked,
-  lit-reads.Learnt,
-  search-below t,
-  search′.Post,
-) (search-at t) search′.Post search-Inv-loop search-μ-loop
-search-returns-3 t c = ?
-
--- src/fewest.rt:32:13
-search-lowest-requires : (t : ℕ) → search-lts.Need-lowest-requires (
-  is-full-reads.Asked,
-  is-full-reads.Learnt,
-  none-reads.Asked,
-  none-reads.Learnt,
-  narrowed-reads.Asked,
-  narrowed-reads.Learnt,
-  is-none-reads.Asked,
-  is-none-reads.Learnt,
-  too-dark-reads.Asked,
-  too-dark-reads.Learnt,
-  lowest-reads.Asked,
-  lowest-reads.Learnt,
-  without-reads.Asked,
-  without-reads.Learnt,
-  with-reads.Asked,
-  with-reads.Learnt,
-  lit-reads.Asked,
-  lit-reads.Learnt,
-  search-below t,
-  search′.Post,
-) (search-at t) search′.Post search-Inv-loop search-μ-loop
-search-lowest-requires t c κs = ?
-
--- src/fewest.rt:33:13
-search-without-requires : (t : ℕ) → search-lts.Need-without-requires (
-  is-full-reads.Asked,
-  is-full-reads.Learnt,
-  none-reads.Asked,
-  none-reads.Learnt,
-  narrowed-reads.Asked,
-  narrowed-reads.Learnt,
-  is-none-reads.Asked,
-  is-none-reads.Learnt,
-  too-dark-reads.Asked,
-  too-dark-reads.Learnt,
-  lowest-reads.Asked,
-  lowest-reads.Learnt,
-  without-reads.Asked,
-  without-reads.Learnt,
-  with-reads.Asked,
-  with-reads.Learnt,
-  lit-reads.Asked,
-  lit-reads.Learnt,
-  search-below t,
-  search′.Post,
-) (search-at t) search′.Post search-Inv-loop search-μ-loop
-search-without-requires t c κs = ?
-
--- src/fewest.rt:34:66
-search-none-requires-2 : (t : ℕ) → search-lts.Need-none-requires-2 (
-  is-full-reads.Asked,
-  is-full-reads.Learnt,
-  none-reads.Asked,
-  none-reads.Learnt,
-  narrowed-reads.Asked,
-  narrowed-reads.Learnt,
-  is-none-reads.Asked,
-  is-none-reads.Learnt,
-  too-dark-reads.Asked,
-  too-dark-reads.Learnt,
-  lowest-reads.Asked,
-  lowest-reads.Learnt,
-  without-reads.Asked,
-  without-reads.Learnt,
-  with-reads.Asked,
-  with-reads.Learnt,
-  lit-reads.Asked,
-  lit-reads.Learnt,
-  search-below t,
-  search′.Post,
-) (search-at t) search′.Post search-Inv-loop search-μ-loop
-search-none-requires-2 t c κs = ?
-
--- src/fewest.rt:34:53
-search-with-requires : (t : ℕ) → search-lts.Need-with-requires (
-  is-full-reads.Asked,
-  is-full-reads.Learnt,
-  none-reads.Asked,
-  none-reads.Learnt,
-  narrowed-reads.Asked,
-  narrowed-reads.Learnt,
-  is-none-reads.Asked,
-  is-none-reads.Learnt,
-  too-dark-reads.Asked,
-  too-dark-reads.Learnt,
-  lowest-reads.Asked,
-  lowest-reads.Learnt,
-  without-reads.Asked,
-  without-reads.Learnt,
-  with-reads.Asked,
-  with-reads.Learnt,
-  lit-reads.Asked,
-  lit-reads.Learnt,
-  search-below t,
-  search′.Post,
-) (search-at t) search′.Post search-Inv-loop search-μ-loop
-search-with-requires t c κs = ?
-
--- src/fewest.rt:34:13
-search-lit-requires : (t : ℕ) → search-lts.Need-lit-requires (
-  is-full-reads.Asked,
-  is-full-reads.Learnt,
-  none-reads.Asked,
-  none-reads.Learnt,
-  narrowed-reads.Asked,
-  narrowed-reads.Learnt,
-  is-none-reads.Asked,
-  is-none-reads.Learnt,
-  too-dark-reads.Asked,
-  too-dark-reads.Learnt,
-  lowest-reads.Asked,
-  lowest-reads.Learnt,
-  without-reads.Asked,
-  without-reads.Learnt,
-  with-reads.Asked,
-  with-reads.Learnt,
-  lit-reads.Asked,
-  lit-reads.Learnt,
-  search-below t,
-  search′.Post,
-) (search-at t) search′.Post search-Inv-loop search-μ-loop
-search-lit-requires t c κs = ?
-
--- src/fewest.rt:35:48
-search-sub-search : (t : ℕ) → search-lts.Need-sub-search (
-  is-full-reads.Asked,
-  is-full-reads.Learnt,
-  none-reads.Asked,
-  none-reads.Learnt,
-  narrowed-reads.Asked,
-  narrowed-reads.Learnt,
-  is-none-reads.Asked,
-  is-none-reads.Learnt,
-  too-dark-reads.Asked,
-  too-dark-reads.Learnt,
-  lowest-reads.Asked,
-  lowest-reads.Learnt,
-  without-reads.Asked,
-  without-reads.Learnt,
-  with-reads.Asked,
-  with-reads.Learnt,
-  lit-reads.Asked,
-  lit-reads.Learnt,
-  search-below t,
-  search′.Post,
-) (search-at t) search′.Post search-Inv-loop search-μ-loop
-search-sub-search t c = ?
-
--- src/fewest.rt:35:13
-search-search-requires : (t : ℕ) → search-lts.Need-search-requires (
-  is-full-reads.Asked,
-  is-full-reads.Learnt,
-  none-reads.Asked,
-  none-reads.Learnt,
-  narrowed-reads.Asked,
-  narrowed-reads.Learnt,
-  is-none-reads.Asked,
-  is-none-reads.Learnt,
-  too-dark-reads.Asked,
-  too-dark-reads.Learnt,
-  lowest-reads.Asked,
-  lowest-reads.Learnt,
-  without-reads.Asked,
-  without-reads.Learnt,
-  with-reads.Asked,
-  with-reads.Learnt,
-  lit-reads.Asked,
-  lit-reads.Learnt,
-  search-below t,
-  search′.Post,
-) (search-at t) search′.Post search-Inv-loop search-μ-loop
-search-search-requires t c κs = ?
-
--- src/fewest.rt:36:29
-search-enum-known-r : (t : ℕ) → search-lts.Need-enum-known-r (
-  is-full-reads.Asked,
-  is-full-reads.Learnt,
-  none-reads.Asked,
-  none-reads.Learnt,
-  narrowed-reads.Asked,
-  narrowed-reads.Learnt,
-  is-none-reads.Asked,
-  is-none-reads.Learnt,
-  too-dark-reads.Asked,
-  too-dark-reads.Learnt,
-  lowest-reads.Asked,
-  lowest-reads.Learnt,
-  without-reads.Asked,
-  without-reads.Learnt,
-  with-reads.Asked,
-  with-reads.Learnt,
-  lit-reads.Asked,
-  lit-reads.Learnt,
-  search-below t,
-  search′.Post,
-) (search-at t) search′.Post search-Inv-loop search-μ-loop
-search-enum-known-r t c = ?
-
--- src/fewest.rt:37:33
-search-with-requires-2 : (t : ℕ) → search-lts.Need-with-requires-2 (
-  is-full-reads.Asked,
-  is-full-reads.Learnt,
-  none-reads.Asked,
-  none-reads.Learnt,
-  narrowed-reads.Asked,
-  narrowed-reads.Learnt,
-  is-none-reads.Asked,
-  is-none-reads.Learnt,
-  too-dark-reads.Asked,
-  too-dark-reads.Learnt,
-  lowest-reads.Asked,
-  lowest-reads.Learnt,
-  without-reads.Asked,
-  without-reads.Learnt,
-  with-reads.Asked,
-  with-reads.Learnt,
-  lit-reads.Asked,
-  lit-reads.Learnt,
-  search-below t,
-  search′.Post,
-) (search-at t) search′.Post search-Inv-loop search-μ-loop
-search-with-requires-2 t c κs = ?
-
--- src/fewest.rt:37:13
-search-returns-4 : (t : ℕ) → search-lts.Need-returns-4 (
-  is-full-reads.Asked,
-  is-full-reads.Learnt,
-  none-reads.Asked,
-  none-reads.Learnt,
-  narrowed-reads.Asked,
-  narrowed-reads.Learnt,
-  is-none-reads.Asked,
-  is-none-reads.Learnt,
-  too-dark-reads.Asked,
-  too-dark-reads.Learnt,
-  lowest-reads.Asked,
-  lowest-reads.Learnt,
-  without-reads.Asked,
-  without-reads.Learnt,
-  with-reads.Asked,
-  with-reads.Learnt,
-  lit-reads.Asked,
-  lit-reads.Learnt,
-  search-below t,
-  search′.Post,
-) (search-at t) search′.Post search-Inv-loop search-μ-loop
-search-returns-4 t c = ?
-
-search-enum-told : (t : ℕ) → search-lts.Need-enum-told (
-  is-full-reads.Asked,
-  is-full-reads.Learnt,
-  none-reads.Asked,
-  none-reads.Learnt,
-  narrowed-reads.Asked,
-  narrowed-reads.Learnt,
-  is-none-reads.Asked,
-  is-none-reads.Learnt,
-  too-dark-reads.Asked,
-  too-dark-reads.Learnt,
-  lowest-reads.Asked,
-  lowest-reads.Learnt,
-  without-reads.Asked,
-  without-reads.Learnt,
-  with-reads.Asked,
-  with-reads.Learnt,
-  lit-reads.Asked,
-  lit-reads.Learnt,
-  search-below t,
-  search′.Post,
-) (search-at t) search′.Post search-Inv-loop search-μ-loop
-search-enum-told t c = ?
-
--- src/fewest.rt:28:5
-search-loop-less : (t : ℕ) → search-lts.Need-loop-less (
-  is-full-reads.Asked,
-  is-full-reads.Learnt,
-  none-reads.Asked,
-  none-reads.Learnt,
-  narrowed-reads.Asked,
-  narrowed-reads.Learnt,
-  is-none-reads.Asked,
-  is-none-reads.Learnt,
-  too-dark-reads.Asked,
-  too-dark-reads.Learnt,
-  lowest-reads.Asked,
-  lowest-reads.Learnt,
-  without-reads.Asked,
-  without-reads.Learnt,
-  with-reads.Asked,
-  with-reads.Learnt,
-  lit-reads.Asked,
-  lit-reads.Learnt,
-  search-below t,
-  search′.Post,
-) (search-at t) search′.Post search-Inv-loop search-μ-loop
-search-loop-less t c = ?
-
--- src/fewest.rt:28:5
-search-loop-again : (t : ℕ) → search-lts.Need-loop-again (
-  is-full-reads.Asked,
-  is-full-reads.Learnt,
-  none-reads.Asked,
-  none-reads.Learnt,
-  narrowed-reads.Asked,
-  narrowed-reads.Learnt,
-  is-none-reads.Asked,
-  is-none-reads.Learnt,
-  too-dark-reads.Asked,
-  too-dark-reads.Learnt,
-  lowest-reads.Asked,
-  lowest-reads.Learnt,
-  without-reads.Asked,
-  without-reads.Learnt,
-  with-reads.Asked,
-  with-reads.Learnt,
-  lit-reads.Asked,
-  lit-reads.Learnt,
-  search-below t,
-  search′.Post,
-) (search-at t) search′.Post search-Inv-loop search-μ-loop
-search-loop-again t c = ?
-
--- src/fewest.rt:17:1
-search-returns-5 : (t : ℕ) → search-lts.Need-returns-5 (
-  is-full-reads.Asked,
-  is-full-reads.Learnt,
-  none-reads.Asked,
-  none-reads.Learnt,
-  narrowed-reads.Asked,
-  narrowed-reads.Learnt,
-  is-none-reads.Asked,
-  is-none-reads.Learnt,
-  too-dark-reads.Asked,
-  too-dark-reads.Learnt,
-  lowest-reads.Asked,
-  lowest-reads.Learnt,
-  without-reads.Asked,
-  without-reads.Learnt,
-  with-reads.Asked,
-  with-reads.Learnt,
-  lit-reads.Asked,
-  lit-reads.Learnt,
-  search-below t,
-  search′.Post,
-) (search-at t) search′.Post search-Inv-loop search-μ-loop
-search-returns-5 t c = ?
-
-pub +search-spec : {M : Type 1} → statement M
-+search-spec = close μ-search λ t. search-lts.spec (
-  is-full-reads.Asked,
-  is-full-reads.Learnt,
-  none-reads.Asked,
-  none-reads.Learnt,
+  too-few-reads.Asked,
+  too-few-reads.Learnt,
   narrowed-reads.Asked,
   narrowed-reads.Learnt,
   is-none-reads.Asked,
@@ -628,6 +73,129 @@ pub +search-spec : {M : Type 1} → statement M
   search-below t,
   search′.Post,
 )
+
+-- the function's entry, and a grid that it was given, whatever its sites and units
+abbrev entry : {t : ℕ} → search-lts.At-loop (calls t) (search-at t) search′.Post search-Inv-loop search-μ-loop → search-lts.Start (calls t) (search-at t) search′.Post search-Inv-loop search-μ-loop
+entry l = l .before .before .before .before .before
+
+abbrev asked : {t : ℕ} → search-lts.Start (calls t) (search-at t) search′.Post search-Inv-loop search-μ-loop → ℕ → ℕ → Grid
+asked s sites units = record { n = s .args .n; nbr = neighbours (s .args .nbr .now); zero = setOf (s .args .zero); site = sites; units = units }
+
+-- the turn that a recursive call belongs to
+abbrev turn : {t : ℕ} → search-lts.After-lit (calls t) (search-at t) search′.Post search-Inv-loop search-μ-loop → search-lts.At-loop (calls t) (search-at t) search′.Post search-Inv-loop search-μ-loop
+turn c = c .before .before .before .before .before .before .before .before .before
+
+search-is-full-requires : (t : ℕ) → search-lts.Need-is-full-requires (calls t) (search-at t) search′.Post search-Inv-loop search-μ-loop
+search-is-full-requires t c κs = c .before .pre .1 .0
+
+search-none-requires : (t : ℕ) → search-lts.Need-none-requires (calls t) (search-at t) search′.Post search-Inv-loop search-μ-loop
+search-none-requires t c κs = search needs
+
+search-returns : (t : ℕ) → search-lts.Need-returns (calls t) (search-at t) search′.Post search-Inv-loop search-μ-loop
+search-returns t c =
+    let s = c .before .before .before .before in
+    λ sites units l. way-none (c .before .before .before .if1 .taken) (c .none .ensures)
+    (full-covers (asked s sites units) l (c .before .before .is-full .ensures .yes (c .before .if2 .taken)))
+
+search-returns-2 : (t : ℕ) → search-lts.Need-returns-2 (calls t) (search-at t) search′.Post search-Inv-loop search-μ-loop
+search-returns-2 t c =
+    let s = c .before .before .before in
+    λ sites units l. no-way-none (c .before .before .if1 .taken) (λ covers. refutes (c .before .is-full .ensures) (c .if2 .left) (covers-full (asked s sites units) l covers))
+
+search-too-few-requires : (t : ℕ) → search-lts.Need-too-few-requires (calls t) (search-at t) search′.Post search-Inv-loop search-μ-loop
+search-too-few-requires t c κs = c .before .pre .1
+
+search-returns-3 : (t : ℕ) → search-lts.Need-returns-3 (calls t) (search-at t) search′.Post search-Inv-loop search-μ-loop
+search-returns-3 t c = λ sites units l. c .before .too-few .ensures sites units (l .closed) (c .if3 .taken)
+
+search-narrowed-requires : (t : ℕ) → search-lts.Need-narrowed-requires (calls t) (search-at t) search′.Post search-Inv-loop search-μ-loop
+search-narrowed-requires t c κs = c .before .before .before .pre .1
+
+search-loop-holds : (t : ℕ) → search-lts.Need-loop-holds (calls t) (search-at t) search′.Post search-Inv-loop search-μ-loop
+search-loop-holds t c = (c .narrowed .ensures .of, λ sites units l. c .narrowed .ensures .ways sites units (l .closed))
+
+search-is-none-requires : (t : ℕ) → search-lts.Need-is-none-requires (calls t) (search-at t) search′.Post search-Inv-loop search-μ-loop
+search-is-none-requires t c κs = search needs
+
+search-too-dark-requires : (t : ℕ) → search-lts.Need-too-dark-requires (calls t) (search-at t) search′.Post search-Inv-loop search-μ-loop
+search-too-dark-requires t c κs = entry (c .before .before) .pre .1 .0
+
+search-returns-4 : (t : ℕ) → search-lts.Need-returns-4 (calls t) (search-at t) search′.Post search-Inv-loop search-μ-loop
+search-returns-4 t c =
+    let l = c .before .before .before .before in
+    λ sites units least. narrowed-no _ _ (l .loop .inv .1 sites units least) (c .before .too-dark .ensures sites units (least .closed) _ (c .if5 .taken))
+
+search-lowest-requires : (t : ℕ) → search-lts.Need-lowest-requires (calls t) (search-at t) search′.Post search-Inv-loop search-μ-loop
+search-lowest-requires t c κs =
+    let l = c .before .before in
+    refutes (l .before .is-none .ensures) (not-true _ (l .if4 .taken))
+
+search-without-requires : (t : ℕ) → search-lts.Need-without-requires (calls t) (search-at t) search′.Post search-Inv-loop search-μ-loop
+search-without-requires t c κs = search needs
+
+search-none-requires-2 : (t : ℕ) → search-lts.Need-none-requires-2 (calls t) (search-at t) search′.Post search-Inv-loop search-μ-loop
+search-none-requires-2 t c κs = search needs
+
+search-with-requires : (t : ℕ) → search-lts.Need-with-requires (calls t) (search-at t) search′.Post search-Inv-loop search-μ-loop
+search-with-requires t c κs = search needs
+
+search-lit-requires : (t : ℕ) → search-lts.Need-lit-requires (calls t) (search-at t) search′.Post search-Inv-loop search-μ-loop
+search-lit-requires t c κs = search needs
+
+search-sub-search : (t : ℕ) → search-lts.Need-sub-search (calls t) (search-at t) search′.Post search-Inv-loop search-μ-loop
+search-sub-search t c = search needs
+
+search-search-requires : (t : ℕ) → search-lts.Need-search-requires (calls t) (search-at t) search′.Post search-Inv-loop search-μ-loop
+search-search-requires t c κs =
+    let l = turn c in
+    let w = c .before .before .before in
+    let fewer = w .without .ensures .fewer (w .before .lowest .ensures .has) in
+    let most = size-le _ _ (l .loop .inv .0) in
+    (omega arith, (entry l .pre .1 .0, entry l .pre .1 .1, λ b h. entry l .pre .1 .2 b (omega (arith, without-sub (w .without .ensures) b, l .loop .inv .0 b))))
+
+search-enum-known-r : (t : ℕ) → search-lts.Need-enum-known-r (calls t) (search-at t) search′.Post search-Inv-loop search-μ-loop
+search-enum-known-r t c = search needs
+
+search-with-requires-2 : (t : ℕ) → search-lts.Need-with-requires-2 (calls t) (search-at t) search′.Post search-Inv-loop search-μ-loop
+search-with-requires-2 t c κs = search needs
+
+search-returns-5 : (t : ℕ) → search-lts.Need-returns-5 (calls t) (search-at t) search′.Post search-Inv-loop search-μ-loop
+search-returns-5 t c =
+    let called = c .before .before .before .before in
+    let lit = called .before in
+    let l = turn lit in
+    λ sites units least. narrowed-first _ _ (l .loop .inv .0) (l .loop .inv .1 sites units least)
+    (found-take (asked (entry l) sites units) (omega arith) (lit .before .before .before .before .lowest .ensures) (lit .before .before .before .without .ensures) least
+    (lit .before .before .none2 .ensures) (lit .before .with .ensures) (lit .lit .ensures) (called .search .result) (called .search .ensures sites _)
+    _ (c .before .before .r .given .1) (c .with2 .ensures))
+
+search-enum-told : (t : ℕ) → search-lts.Need-enum-told (calls t) (search-at t) search′.Post search-Inv-loop search-μ-loop
+search-enum-told t c = search needs
+
+search-loop-less : (t : ℕ) → search-lts.Need-loop-less (calls t) (search-at t) search′.Post search-Inv-loop search-μ-loop
+search-loop-less t c =
+    let w = c .before .before .before .before .before .before in
+    omega (arith, w .without .ensures .fewer (w .before .lowest .ensures .has))
+
+search-loop-again : (t : ℕ) → search-lts.Need-loop-again (calls t) (search-at t) search′.Post search-Inv-loop search-μ-loop
+search-loop-again t c =
+    let called = c .before .before in
+    let lit = called .before in
+    let l = turn lit in
+    let w = lit .before .before .before in (
+      λ b. omega (arith, without-sub (w .without .ensures) b, l .loop .inv .0 b),
+      λ sites units least xs way. found-pass (asked (entry l) sites units) (omega arith) (w .before .lowest .ensures) (w .without .ensures) least
+          (lit .before .before .none2 .ensures) (lit .before .with .ensures) (lit .lit .ensures) (called .search .result) (called .search .ensures sites _)
+          (c .enum-told .given .1) xs (l .loop .inv .1 sites units least xs way),
+    )
+
+search-returns-6 : (t : ℕ) → search-lts.Need-returns-6 (calls t) (search-at t) search′.Post search-Inv-loop search-μ-loop
+search-returns-6 t c =
+    let l = c .before .before in
+    λ sites units least. narrowed-no _ _ (l .loop .inv .1 sites units least) (no-way-left (c .before .is-none .ensures .yes (not-false _ (c .if4 .left))) (omega arith))
+
+pub +search-spec : {M : Type 1} → statement M
++search-spec = close μ-search λ t. search-lts.spec (calls t)
     (search-at t)
     search′.Post
     search-Inv-loop
@@ -636,11 +204,13 @@ pub +search-spec : {M : Type 1} → statement M
     (search-none-requires t)
     (search-returns t)
     (search-returns-2 t)
+    (search-too-few-requires t)
+    (search-returns-3 t)
     (search-narrowed-requires t)
     (search-loop-holds t)
     (search-is-none-requires t)
     (search-too-dark-requires t)
-    (search-returns-3 t)
+    (search-returns-4 t)
     (search-lowest-requires t)
     (search-without-requires t)
     (search-none-requires-2 t)
@@ -650,8 +220,8 @@ pub +search-spec : {M : Type 1} → statement M
     (search-search-requires t)
     (search-enum-known-r t)
     (search-with-requires-2 t)
-    (search-returns-4 t)
+    (search-returns-5 t)
     (search-enum-told t)
     (search-loop-less t)
     (search-loop-again t)
-    (search-returns-5 t)
+    (search-returns-6 t)
