@@ -2,3 +2,4 @@ pub mod Sharing
 pub mod Lighting
 pub mod Cutting
 pub mod Finding
+pub mod Comparing

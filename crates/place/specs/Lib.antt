@@ -1,2 +1,3 @@
 pub mod Spreads
 pub mod Answers
+pub mod Choices

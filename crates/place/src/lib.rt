@@ -2,4 +2,5 @@
 pub mod confirming;
 pub mod cuts;
 pub mod fewest;
+pub mod greedy;
 pub mod spreading;
