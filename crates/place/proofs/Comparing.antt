@@ -6,7 +6,7 @@ use Prim.Native.Nat.{ℕ, zero, suc, _+_, _-_, _≤_, _<_}
 use native.Mathlib.Numerals.{add-one}
 use native.Mathlib.Omega.{arith}
 use native.Mathlib.Nat.{le-refl}
-use lib.ListN.{length, take, set}
+use lib.ListN.{length, length-set, take, set}
 use lib.Seq.{take-suc-set}
 use Rattle.busset.specs.Sets.{Bus, bit, In, Out, Sub, Minus, Lowest, Without, With, empty, add, size}
 use Rattle.busset.proofs.Digits.{bit-zero}
@@ -107,20 +107,22 @@ chosen-site g (suc i) b ne = b .with .free .site
 
 -- with the units u and what greedy adds to them within the rest of the budget, the list is what greedy adds in all
 pub record Adding (g : Grid) (budget count u s : ℕ) (sites : List ℕ) : Type 0 where
+  pub room : length sites ≡ 64
   pub most : count ≤ budget
   pub least : Least (at g u) s
   pub rest : (ys : List ℕ) → Greedy (at g u) (budget - count) ys → Greedy g budget (take count sites ++ ys)
 
-pub adding-none : {g : Grid} {s : ℕ} (budget : ℕ) (sites : List ℕ) → Least g s → Adding g budget 0 (g .units) s sites
-adding-none {g} budget sites l = record { most = omega arith; least = l; rest = λ ys h. subst (λ (k : ℕ). Greedy g k ys) (whole budget) h }
+pub adding-none : {g : Grid} {s : ℕ} (budget : ℕ) {sites : List ℕ} → length sites ≡ 64 → Least g s → Adding g budget 0 (g .units) s sites
+adding-none {g} budget r l = record { room = r; most = omega arith; least = l; rest = λ ys h. subst (λ (k : ℕ). Greedy g k ys) (whole budget) h }
   where
     whole : (budget : ℕ) → budget - 0 ≡ budget
     whole budget = omega arith
 
-pub adding-more : {g : Grid} {budget count u s v t : ℕ} {sites : List ℕ} (x : ℕ) → Adding g budget count u s sites → count < budget → count < length sites
+pub adding-more : {g : Grid} {budget count u s v t : ℕ} {sites : List ℕ} (x : ℕ) → Adding g budget count u s sites → count < budget → count < 64
     → (x ≡ 0 → ⊥) → ChosenIs (at g u) x → v ≡ add u x → Least (at g (add u x)) t → Adding g budget (count + 1) v t (set sites count x)
 adding-more zero a l r ne b e lt = absurd (ne refl)
 adding-more {g} {budget} {count} {u} {s} {v} {t} {sites} (suc i) a l r ne b e lt = record {
+  room = simp length-set (a .room);
   most = omega arith;
   least = subst⁻¹ (λ (w : ℕ). Least (at g w) t) e lt;
   rest = λ ys h. subst (Greedy g budget) (moved ys) (a .rest (suc i ∷ ys) (subst⁻¹ (λ (k : ℕ). Greedy (at g u) k (suc i ∷ ys)) left (b, subst (λ (w : ℕ). Greedy (at g w) (budget - (count + 1)) ys) e h)));
@@ -132,12 +134,13 @@ adding-more {g} {budget} {count} {u} {s} {v} {t} {sites} (suc i) a l r ne b e lt
     moved : (ys : List ℕ) → take count sites ++ (suc i ∷ ys) ≡ take (count + 1) (set sites count (suc i)) ++ ys
     moved ys =
         sym (append-assoc (take count sites) (suc i ∷ []) ys)
-        ∙ ap (λ (zs : List ℕ). zs ++ ys) (sym (take-suc-set sites count (suc i) r))
+        ∙ ap (λ (zs : List ℕ). zs ++ ys) (sym (take-suc-set sites count (suc i) (omega (arith, a .room))))
         ∙ ap (λ (k : ℕ). take k (set sites count (suc i)) ++ ys) (sym (add-one count))
 
 -- it stops where no site adds a bus
 pub adding-stop : {g : Grid} {budget count u s : ℕ} {sites : List ℕ} (x : ℕ) → Adding g budget count u s sites → count < budget → x ≡ 0 → ChosenIs (at g u) x → Listed g budget count sites
 adding-stop {g} {budget} {count} {u} {s} {sites} zero a l e none = record {
+  room = a .room;
   most = a .most;
   greedy = subst (Greedy g budget) (append-nil (take count sites)) (a .rest [] (subst⁻¹ (λ (k : ℕ). Greedy (at g u) k []) left none));
 }
@@ -149,6 +152,7 @@ adding-stop (suc i) a l e none = absurd (omega arith)
 -- or the budget is spent
 pub adding-all : {g : Grid} {budget count u s : ℕ} {sites : List ℕ} → Adding g budget count u s sites → budget ≤ count → Listed g budget count sites
 adding-all {g} {budget} {count} {u} {s} {sites} a l = record {
+  room = a .room;
   most = a .most;
   greedy = subst (Greedy g budget) (append-nil (take count sites)) (a .rest [] (subst⁻¹ (λ (k : ℕ). Greedy (at g u) k []) spent tt));
 }

@@ -31,17 +31,14 @@ pub fn search(
         }
         return Found::Nothing;
     }
-    if crate::cuts::too_few(n, nbr, zero, s, sites, k) {
-        return Found::Nothing;
-    }
-    let mut left = crate::cuts::narrowed(n, nbr, zero, s, sites, k);
+    let mut left = sites;
     while !busset::is_none(left) {
-        if crate::cuts::too_dark(n, nbr, zero, s, left) {
+        if crate::cuts::is_hopeless(n, nbr, zero, s, left, k) {
             return Found::Nothing;
         }
         let x = busset::lowest(left);
         let above = busset::without(left, x);
-        let t = crate::spreading::lit(nbr, zero, s, busset::with(busset::none(), x));
+        let t = crate::spreading::lit(nbr, zero, s, x);
         let r = search(n, nbr, zero, t, above, k - 1);
         if let Found::Sites(m) = r {
             return Found::Sites(busset::with(m, x));

@@ -1,6 +1,8 @@
 // Greedy placement: the best site, one after another.
 ghost use Prim.Native.Nat.{ℕ, _≤_};
-ghost use lib.ListN.{length};
+ghost use mathlib.Core.Path.{_≡_};
+ghost use mathlib.Core.List.{_++_};
+ghost use lib.ListN.{length, take, drop};
 ghost use Rattle.busset.specs.Sets.{Minus, setOf};
 ghost use Rattle.rules.specs.Observation.{Least};
 ghost use Rattle.rules.specs.Ways.{Whatever};
@@ -23,12 +25,7 @@ pub fn best(nbr: &[BusSet; 64], zero: BusSet, s: BusSet, free: BusSet) -> usize
     let mut left = free;
     while !busset::is_none(left) {
         let x = busset::lowest(left);
-        let size = busset::count(crate::spreading::lit(
-            nbr,
-            zero,
-            s,
-            busset::with(busset::none(), x),
-        ));
+        let size = busset::count(crate::spreading::lit(nbr, zero, s, x));
         if most < size {
             site = x;
             most = size;
@@ -54,8 +51,22 @@ pub fn greedy(nbr: &[BusSet; 64], zero: BusSet, site: BusSet, units: BusSet, bud
         }
         sites[count] = x;
         placed = busset::with(placed, x);
-        s = crate::spreading::lit(nbr, zero, s, busset::with(busset::none(), x));
+        s = crate::spreading::lit(nbr, zero, s, x);
         count += 1;
     }
     Order { count, sites }
+}
+
+// Writes the sites, in order, into the room lent; what lies past them stays.
+pub fn write(order: Order, out: &mut [usize])
+    requires { ⌜ (length (order .sites) ≡ 64) × (order .count ≤ 64) × (order .count ≤ length (now out)) ⌝ }
+    ensures { λ _. ⌜ now (out .exit) ≡ take (order .count) (order .sites) ++ drop (order .count) (now (out .entry)) ⌝ }
+{
+    let sites = order.sites;
+    let count = order.count;
+    let mut i: usize = 0;
+    while i < count {
+        out[i] = sites[i];
+        i += 1;
+    }
 }

@@ -1,10 +1,10 @@
 // Observed sets made from one another, and whether one has all buses.
 ghost use Prim.Native.Nat.{_≤_};
 ghost use Rattle.busset.specs.Deciding.{Decides};
-ghost use Rattle.busset.specs.Sets.{width, setOf};
+ghost use Rattle.busset.specs.Sets.{Bus, width, setOf};
 ghost use Rattle.rules.specs.Placing.{Full};
 ghost use Rattle.grid.specs.Cases.{neighbours};
-ghost use Rattle.place.specs.Spreads.{Spread, Lit};
+ghost use Rattle.place.specs.Spreads.{Spread, Lit, LitAll};
 use busset::BusSet;
 
 // Whether s has all n buses.
@@ -29,9 +29,18 @@ pub fn spread(nbr: &[BusSet; 64], zero: BusSet, s: BusSet) -> BusSet
     }
 }
 
+// What is observed where s is and a unit stands at x.
+pub fn lit(nbr: &[BusSet; 64], zero: BusSet, s: BusSet, x: usize) -> BusSet
+    requires { ⌜ Bus width x ⌝ }
+    ensures { λ r. ⌜ Lit (neighbours (now (nbr .entry))) (setOf zero) (setOf s) x (setOf r) ⌝ }
+{
+    let here = busset::with(grid::row(nbr, x), x);
+    spread(nbr, zero, busset::union(s, here))
+}
+
 // What is observed where s is and units stand at the buses u.
-pub fn lit(nbr: &[BusSet; 64], zero: BusSet, s: BusSet, u: BusSet) -> BusSet
-    ensures { λ r. ⌜ Lit (neighbours (now (nbr .entry))) (setOf zero) (setOf s) (setOf u) (setOf r) ⌝ }
+pub fn lit_all(nbr: &[BusSet; 64], zero: BusSet, s: BusSet, u: BusSet) -> BusSet
+    ensures { λ r. ⌜ LitAll (neighbours (now (nbr .entry))) (setOf zero) (setOf s) (setOf u) (setOf r) ⌝ }
 {
     spread(nbr, zero, busset::union(s, observe::sweeps::start(nbr, u)))
 }

@@ -5,6 +5,6 @@ pub mod Weaving
 pub mod Figures
 pub mod Confirming
 pub mod Placing
-pub mod Ways
 pub mod Blocking
+pub mod Ways
 pub mod Choosing

@@ -32,12 +32,6 @@ is-none-requires c κs = search needs
 lowest-requires : tie.Need-lowest-requires Inv-loop μ-loop
 lowest-requires c κs = refutes (c .before .is-none .ensures) (not-true _ (c .if1 .taken))
 
-none-requires : tie.Need-none-requires Inv-loop μ-loop
-none-requires c κs = search needs
-
-with-requires : tie.Need-with-requires Inv-loop μ-loop
-with-requires c κs = search needs
-
 lit-requires : tie.Need-lit-requires Inv-loop μ-loop
 lit-requires c κs = search needs
 
@@ -48,15 +42,15 @@ without-requires : tie.Need-without-requires Inv-loop μ-loop
 without-requires c κs = search needs
 
 loop-less : tie.Need-loop-less Inv-loop μ-loop
-loop-less c = omega (arith, c .without .ensures .fewer (c .before .before .before .before .before .before .lowest .ensures .has))
+loop-less c = omega (arith, c .without .ensures .fewer (c .before .before .before .before .lowest .ensures .has))
 
 loop-again : tie.Need-loop-again Inv-loop μ-loop
 loop-again c = λ n sites units m l.
     let counted = c .before .before in
     let lit = counted .before in
-    let low = lit .before .before .before in
+    let low = lit .before in
     let compared = low .before .before .before .loop .inv n sites units m l in
-    let observed = lit-least l (lit .before .before .none .ensures) (lit .before .with .ensures) (lit .lit .ensures) in
+    let observed = lit-least l (lit .lit .ensures) in
     ⊎-elim
     (λ w. compared-to (compared-yes compared (low .lowest .ensures) (c .without .ensures) observed (counted .count2 .ensures .is) (w .0 .taken)) (w .1) (w .2))
     (λ w. compared-to (compared-no compared (low .lowest .ensures) (c .without .ensures) observed (counted .count2 .ensures .is) (w .0 .left)) (w .1) (w .2))
@@ -75,8 +69,6 @@ best-spec =
     loop-holds
     is-none-requires
     lowest-requires
-    none-requires
-    with-requires
     lit-requires
     count-requires-2
     without-requires

@@ -3,8 +3,11 @@ use borrow.Author.Needs.{needs}
 use Rattle.place.proofs.spreading.lit.Statement.{statement}
 use Rattle.place.proofs.spreading.lit.Tie as tie
 
-start-requires : tie.Need-start-requires
-start-requires c κs = search needs
+row-requires : tie.Need-row-requires
+row-requires c κs = search needs
+
+with-requires : tie.Need-with-requires
+with-requires c κs = search needs
 
 union-requires : tie.Need-union-requires
 union-requires c κs = search needs
@@ -13,7 +16,7 @@ spread-requires : tie.Need-spread-requires
 spread-requires c κs = search needs
 
 returns : tie.Need-returns
-returns c = lit-by (c .before .before .start .ensures) (c .before .union .ensures) (c .spread .ensures)
+returns c = lit-by (c .before .before .before .row .ensures) (c .before .before .with .ensures) (c .before .union .ensures) (c .spread .ensures)
 
 pub lit-spec : {M : Type 1} → statement M
-lit-spec = tie.close (tie.spec start-requires union-requires spread-requires returns)
+lit-spec = tie.close (tie.spec row-requires with-requires union-requires spread-requires returns)
