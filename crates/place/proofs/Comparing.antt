@@ -7,7 +7,7 @@ use native.Mathlib.Numerals.{add-one}
 use native.Mathlib.Omega.{arith}
 use native.Mathlib.Nat.{le-refl}
 use lib.ListN.{length, length-set, take, set}
-use lib.Seq.{take-suc-set}
+use lib.Seq.{take-suc-set, length-take-le}
 use Rattle.busset.specs.Sets.{Bus, bit, In, Out, Sub, Minus, Lowest, Without, With, empty, add, size}
 use Rattle.busset.proofs.Digits.{bit-zero}
 use Rattle.busset.proofs.Members.{without-of, without-sub, with-add}
@@ -17,6 +17,7 @@ use Rattle.rules.specs.Placing.{at, Free}
 use Rattle.rules.specs.Choosing.{Best, NoneAdds, Greedy}
 use Rattle.rules.specs.Choosing as choosing
 use Rattle.rules.proofs.Leasts.{least-unique}
+use Rattle.rules.proofs.Choices.{greedy-unique}
 use Rattle.place.specs.Choices.{ChosenIs, Listed}
 
 -- ---- the best so far
@@ -159,3 +160,19 @@ adding-all {g} {budget} {count} {u} {s} {sites} a l = record {
   where
     spent : budget - count ≡ 0
     spent = omega arith
+
+-- ---- how long the list is
+
+module _ {g : Grid} {budget count : ℕ} {sites : List ℕ} (l : Listed g budget count sites) (few : budget ≤ 64) where
+  pub listed-count : length (take count sites) ≡ count
+  listed-count = length-take-le count sites (omega (arith, l .most, l .room))
+
+  -- every list that greedy adds is this one
+  listed-is : (xs : List ℕ) → Greedy g budget xs → length xs ≡ count
+  listed-is xs h = ap length (greedy-unique g budget xs (take count sites) h (l .greedy)) ∙ listed-count
+
+  pub listed-room : (m : ℕ) → count ≤ m → (xs : List ℕ) → Greedy g budget xs → length xs ≤ m
+  listed-room m r xs h = omega (arith, listed-is xs h)
+
+  pub listed-no-room : (m : ℕ) → m < count → ((xs : List ℕ) → Greedy g budget xs → length xs ≤ m) → ⊥
+  listed-no-room m r fits = omega (arith, fits (take count sites) (l .greedy), listed-count)

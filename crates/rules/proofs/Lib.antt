@@ -7,3 +7,4 @@ pub mod Covering
 pub mod Ordering
 pub mod Searching
 pub mod Blocks
+pub mod Choices
