@@ -17,7 +17,7 @@ use Rattle.observe.specs.Passes.{Started}
 -- ---- one unit
 
 module _ {n : ℕ} {nbr : ℕ → ℕ} {units p m near others both : ℕ}
-    (lines : Lines n nbr) (unit : In units p) (e : m ≡ nbr p) (st : Started nbr m near) (w : Without near p others) (h : Both others units both) where
+    (lines : Lines n nbr) (unit : In units p) (e : m ≡ nbr p) (st : Started nbr m near) (w : Without units p others) (h : Both near others both) where
   -- a bus next to p, or next to a neighbour of p, is near
   confirm-near : (a : ℕ) → Confirm nbr a p → In near a
   confirm-near a (joined j) = omega (arith, st .own a, ap (λ (s : ℕ). bit s a) e, lines a p j .back)
@@ -52,7 +52,7 @@ module _ {n : ℕ} {nbr : ℕ → ℕ} {units p m near others both : ℕ}
 
       back : Unconfirmed nbr units p → both ≡ empty
       back lone = empty-of both (λ a. out-of both a (λ i.
-          near-confirm a (lone .none a (omega (arith, h .at a)) (other a i)) (omega (arith, h .at a, w .there a (other a i)))))
+          near-confirm a (lone .none a (omega (arith, h .at a, w .there a (other a i))) (other a i)) (omega (arith, h .at a))))
 
 -- ---- unit after unit: alone is those that no other confirms, of the units that are not left
 

@@ -11,7 +11,8 @@ pub fn is_unconfirmed(n: usize, nbr: &[BusSet; 64], units: BusSet, p: usize) -> 
     ensures { λ r. ⌜ Decides (Unconfirmed (neighbours (now (nbr .entry))) (setOf units) p) r ⌝ }
 {
     let near = observe::sweeps::start(nbr, grid::row(nbr, p));
-    busset::is_none(busset::both(busset::without(near, p), units))
+    let others = busset::without(units, p);
+    busset::is_none(busset::both(near, others))
 }
 
 // The units that no other unit confirms.
