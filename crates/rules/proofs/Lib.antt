@@ -6,3 +6,8 @@ pub mod Derivations
 pub mod Shuffles
 pub mod Figures
 pub mod Tests
+pub mod Covering
+pub mod Ordering
+pub mod Searching
+pub mod Blocks
+pub mod Choices

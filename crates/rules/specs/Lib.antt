@@ -4,3 +4,8 @@ pub mod Steps
 pub mod Derivation
 pub mod Weaving
 pub mod Figures
+pub mod Confirming
+pub mod Placing
+pub mod Blocking
+pub mod Ways
+pub mod Choosing

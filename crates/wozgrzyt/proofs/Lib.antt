@@ -2,3 +2,4 @@ pub mod Uniqueness
 pub mod ListUniqueness
 pub mod Demands
 pub mod Rows
+pub mod SitingUniqueness

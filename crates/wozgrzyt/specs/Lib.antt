@@ -2,3 +2,4 @@ pub mod Replies
 pub mod ListReplies
 pub mod Demands
 pub mod Table
+pub mod SitingReplies

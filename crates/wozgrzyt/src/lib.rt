@@ -2,6 +2,7 @@
 ghost use Rattle.wozgrzyt.specs.Replies.{ObservedReply, FigureReply, StepReply};
 
 pub mod steps;
+pub mod siting;
 
 pub use busset::BusSet;
 pub use desks::replay;

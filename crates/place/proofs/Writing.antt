@@ -1,0 +1,26 @@
+-- A list written into room lent, number after number.
+use mathlib.Core.Path.{_≡_, sym, ap, _∙_, subst⁻¹}
+use mathlib.Core.List.{List, [], _∷_, _++_}
+use Prim.Native.Nat.{ℕ, zero, suc, _+_, _≤_, _<_}
+use native.Mathlib.Numerals.{add-one}
+use native.Mathlib.Omega.{arith}
+use lib.ListN.{length, take, drop, getD, set, length-set}
+use lib.Seq.{drop-cons, set-at, take-suc, length-take-le, append-snoc}
+
+-- i numbers of the list are written over the room as it was lent
+pub record Written (list lent room : List ℕ) (i : ℕ) : Type 0 where
+  pub is : room ≡ take i list ++ drop i lent
+  pub long : length room ≡ length lent
+
+pub written-none : (list lent : List ℕ) → Written list lent lent 0
+written-none list lent = record { is = cc; long = cc }
+
+pub written-more : {list lent room : List ℕ} {i : ℕ} → Written list lent room i → i < length list → i < length lent → Written list lent (set room i (getD list i 0)) (i + 1)
+written-more {list} {lent} {room} {i} w hl hr = record { is = ap (λ (r : List ℕ). set r i (getD list i 0)) (w .is) ∙ turn ∙ ap (λ (k : ℕ). take k list ++ drop k lent) (sym (add-one i)); long = simp length-set (w .long) }
+  where
+    turn : set (take i list ++ drop i lent) i (getD list i 0) ≡ take (suc i) list ++ drop (suc i) lent
+    turn =
+        ap (λ (r : List ℕ). set (take i list ++ r) i (getD list i 0)) (drop-cons lent i 0 hr)
+        ∙ set-at (take i list) (getD lent i 0) (drop (suc i) lent) (getD list i 0) i (length-take-le i list (omega arith))
+        ∙ sym (append-snoc (take i list) (getD list i 0) (drop (suc i) lent))
+        ∙ ap (λ (r : List ℕ). r ++ drop (suc i) lent) (sym (take-suc list i 0 hl))

@@ -1,0 +1,18 @@
+-- What the steps of greedy promise.
+use Prim.Native.Nat.{ℕ, zero, suc, _≤_}
+use mathlib.Core.List.{List}
+use mathlib.Core.Path.{_≡_}
+use lib.ListN.{length, take}
+use Rattle.rules.specs.Grids.{Grid}
+use Rattle.rules.specs.Choosing.{Best, NoneAdds, Greedy}
+
+-- the best site, or 0 where none adds a bus
+abbrev pub ChosenIs : Grid → ℕ → Type 0
+ChosenIs g zero = NoneAdds g
+ChosenIs g (suc i) = Best g (suc i)
+
+-- the first `count` of the 64 sites are what greedy adds
+pub record Listed (g : Grid) (budget count : ℕ) (sites : List ℕ) : Type 0 where
+  pub room : length sites ≡ 64
+  pub most : count ≤ budget
+  pub greedy : Greedy g budget (take count sites)

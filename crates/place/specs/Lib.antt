@@ -1,0 +1,3 @@
+pub mod Spreads
+pub mod Answers
+pub mod Choices

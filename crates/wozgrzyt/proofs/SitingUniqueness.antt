@@ -1,0 +1,75 @@
+-- For each of the siting group's calls: two replies that meet its promise on one input, with the room they leave, are equal. Demand 2's sentence on the fewest.
+use mathlib.Core.Path.{_≡_, refl, sym, ap, _∙_, subst}
+use mathlib.Core.Logic.{_⊎_, inl, inr}
+use mathlib.Core.List.{List, _++_}
+use Prim.Native.Nat.{ℕ, _≤_}
+use lib.ListN.{length, drop}
+use Rattle.busset.specs.Sets.{setOf}
+use Rattle.busset.proofs.Words.{set-inj}
+use Rattle.rules.specs.Placing as placing
+use Rattle.rules.proofs.Ordering.{fewest-set-unique}
+use Rattle.rules.proofs.Choices.{unconfirmed-unique, greedy-unique}
+use Rattle.grid.specs.declared.Case.{Case}
+use Rattle.grid.specs.Cases.{gridOf, Valid}
+use Rattle.grid.specs.Refusals.{Is, Failed, numberOf}
+use Rattle.grid.specs.declared.refusal.Refusal.{Refusal}
+use Rattle.grid.proofs.Orders.{failed-unique, failed-or-passed}
+use Rattle.wozgrzyt.specs.declared.siting.Verdict.{Verdict}
+use Rattle.wozgrzyt.specs.declared.siting.Verdict.the-variants as verdict
+use Rattle.wozgrzyt.specs.declared.siting.Greedy.{Greedy}
+use Rattle.wozgrzyt.specs.declared.siting.Greedy.the-variants as greedy
+use Rattle.wozgrzyt.specs.declared.siting.Fewest.{Fewest}
+use Rattle.wozgrzyt.specs.declared.siting.Fewest.the-variants as fewest
+use Rattle.wozgrzyt.specs.SitingReplies.{verdictChecks, VerdictReply, greedyChecks, GreedyReply, fewestChecks, FewestReply}
+
+pub verdict-unique : (c : Case) (a b : Verdict) → VerdictReply c a → VerdictReply c b → a ≡ b
+verdict-unique c (verdict.Unconfirmed s) (verdict.Unconfirmed t) p q = ap verdict.Unconfirmed (set-inj s t (unconfirmed-unique (setOf s) (setOf t) (p .1) (q .1)))
+verdict-unique c (verdict.Unconfirmed s) (verdict.Refused r) p q = absurd (failed-or-passed (verdictChecks c) r q (p .0))
+verdict-unique c (verdict.Refused r) (verdict.Unconfirmed s) p q = absurd (failed-or-passed (verdictChecks c) r p (q .0))
+verdict-unique c (verdict.Refused r) (verdict.Refused k) p q = ap verdict.Refused (failed-unique (verdictChecks c) r k p q)
+
+-- the reply, and the room as it is left
+pub record Left (a b : Greedy) (exit exit′ : List ℕ) : Type 0 where
+  pub reply : a ≡ b
+  pub room : exit ≡ exit′
+
+pub greedy-reply-unique : (c : Case) (budget : ℕ) (entry exit exit′ : List ℕ) (a b : Greedy) → GreedyReply c budget entry exit a → GreedyReply c budget entry exit′ b → Left a b exit exit′
+greedy-reply-unique c budget entry exit exit′ (greedy.Added j) (greedy.Added k) p q =
+    let same = greedy-unique (gridOf c) budget (p .1 .list) (q .1 .list) (p .1 .greedy) (q .1 .greedy) in
+    let count : j ≡ k = p .1 .count ∙ ap length same ∙ sym (q .1 .count) in
+    record {
+      reply = ap greedy.Added count;
+      room = p .1 .written ∙ ap (λ (xs : List ℕ). xs ++ drop j entry) same ∙ ap (λ (i : ℕ). q .1 .list ++ drop i entry) count ∙ sym (q .1 .written);
+    }
+greedy-reply-unique c budget entry exit exit′ (greedy.Added j) (greedy.Refused r) p q = absurd (failed-or-passed (greedyChecks c budget entry) r (q .0) (p .0))
+greedy-reply-unique c budget entry exit exit′ (greedy.Refused r) (greedy.Added k) p q = absurd (failed-or-passed (greedyChecks c budget entry) r (p .0) (q .0))
+greedy-reply-unique c budget entry exit exit′ (greedy.Refused r) (greedy.Refused k) p q =
+    record { reply = ap greedy.Refused (failed-unique (greedyChecks c budget entry) r k (p .0) (q .0)); room = p .1 ∙ sym (q .1) }
+
+pub fewest-unique : (c : Case) (budget : ℕ) (a b : Fewest) → FewestReply c budget a → FewestReply c budget b → a ≡ b
+fewest-unique c budget (fewest.Sites m) (fewest.Sites k) p q = ap fewest.Sites (set-inj m k (fewest-set-unique (p .1) (q .1)))
+fewest-unique c budget (fewest.Sites m) (fewest.Refused r) p q = absurd (failed-or-passed (fewestChecks c budget) r q (p .0))
+fewest-unique c budget (fewest.Refused r) (fewest.Sites m) p q = absurd (failed-or-passed (fewestChecks c budget) r p (q .0))
+fewest-unique c budget (fewest.Refused r) (fewest.Refused k) p q = ap fewest.Refused (failed-unique (fewestChecks c budget) r k p q)
+
+-- ---- demand 2, on the fewest
+
+-- an answer is the first of the smallest additions that cover; and for a valid case and a budget of at most 8
+-- the reply is refusal 11 at place 0 exactly when no addition within the budget covers
+pub record FirstSmallest (c : Case) (budget : ℕ) (reply : Fewest) : Type 0 where
+  pub answer : (m : ℕ) → reply ≡ fewest.Sites m → placing.Fewest (gridOf c) budget (setOf m)
+  pub refused : (r : Refusal) → reply ≡ fewest.Refused r → Is 11 0 r × (placing.SomePlan (gridOf c) budget → ⊥)
+  pub none : (placing.SomePlan (gridOf c) budget → ⊥) → (m : ℕ) → reply ≡ fewest.Sites m → ⊥
+
+pub first-smallest : (c : Case) (budget : ℕ) (reply : Fewest) → FewestReply c budget reply → Valid c → budget ≤ 8 → FirstSmallest c budget reply
+first-smallest c budget reply p v l = record {
+  answer = λ m e. subst (FewestReply c budget) e p .1;
+  refused = λ r e. only r (subst (FewestReply c budget) e p);
+  none = λ n m e. n (subst (FewestReply c budget) e p .0 .1 .1 .0);
+}
+  where
+    only : (r : Refusal) → Failed (fewestChecks c budget) r → Is 11 0 r × (placing.SomePlan (gridOf c) budget → ⊥)
+    only r (inl a) = absurd (a .0 v)
+    only r (inr (_, inl a)) = absurd (a .0 l)
+    only r (inr (_, inr (_, inl a))) = (a .1, a .0)
+    only r (inr (_, inr (_, inr (_, a)))) = absurd a
