@@ -15,10 +15,14 @@ use Rattle.grid.specs.declared.Case.{Case}
 abbrev pub has : ℕ → ℕ → Bool
 has s k = eqb (bit s k) 1
 
+-- bus k, where these are the Z buses and the Y sites
+abbrev pub busRecord : ℕ → ℕ → ℕ → Record
+busRecord zeros sites k = Bus k (has zeros k) (has sites k)
+
 -- the m buses from k on, each with its class and site
-unfoldable pub busRecords : Case → ℕ → ℕ → List Record
-busRecords c k zero = []
-busRecords c k (suc m) = Bus k (has (setOf (c .zero)) k) (has (setOf (c .site)) k) ∷ busRecords c (k + 1) m
+unfoldable pub busRecords : ℕ → ℕ → ℕ → ℕ → List Record
+busRecords zeros sites k zero = []
+busRecords zeros sites k (suc m) = busRecord zeros sites k ∷ busRecords zeros sites (k + 1) m
 
 -- a record for each of the m buses from k on that is in s
 unfoldable pub members : (ℕ → Record) → ℕ → ℕ → ℕ → List Record
@@ -26,17 +30,18 @@ members f s k zero = []
 members f s k (suc m) = cond (has s k) (f k ∷ members f s (k + 1) m) (members f s (k + 1) m)
 
 -- the lines of the m buses from a on, each at its lower bus
-unfoldable pub lineRecords : Case → ℕ → ℕ → List Record
-lineRecords c a zero = []
-lineRecords c a (suc m) = members (Line a) (neighbours (c .nbr) a) (a + 1) m ++ lineRecords c (a + 1) m
-
--- the units
-abbrev pub unitRecords : Case → List Record
-unitRecords c = members Pmu (setOf (c .units)) 1 (c .n)
+unfoldable pub lineRecords : (ℕ → ℕ) → ℕ → ℕ → List Record
+lineRecords nbr a zero = []
+lineRecords nbr a (suc m) = members (Line a) (nbr a) (a + 1) m ++ lineRecords nbr (a + 1) m
 
 -- all in order
 abbrev pub records : Case → List Record
-records c = Grid (c .n) ∷ (busRecords c 1 (c .n) ++ (lineRecords c 1 (c .n) ++ (unitRecords c ++ End ∷ [])))
+records c =
+    Grid (c .n)
+    ∷ (busRecords (setOf (c .zero)) (setOf (c .site)) 1 (c .n)
+    ++ (lineRecords (neighbours (c .nbr)) 1 (c .n)
+    ++ (members Pmu (setOf (c .units)) 1 (c .n)
+    ++ End ∷ [])))
 
 -- each record ended by a line feed
 unfoldable pub linesText : List Record → List ℕ
