@@ -8,7 +8,8 @@ use crate::Place;
 use crate::Verdict;
 use record::Record;
 
-fn is_bus(n: usize, k: usize) -> bool
+// Whether k is a number from 1 to n.
+pub fn is_bus(n: usize, k: usize) -> bool
     ensures { λ r. ⌜ r ≡ isBus n k ⌝ }
 {
     1 <= k && k <= n
