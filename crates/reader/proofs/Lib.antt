@@ -1,12 +1,3 @@
 pub mod Judged
 pub mod Lines
 pub mod Lengths
-pub mod Grammars
-pub mod Places
-pub mod Unique
-pub mod Texts
-pub mod Written
-pub mod Counts
-pub mod Soundness
-pub mod Few
-pub mod Inverse

@@ -1,4 +1,3 @@
 pub mod Building
 pub mod Reading
-pub mod Grammar
 pub mod Writing

@@ -9,7 +9,7 @@ use Rattle.grid.proofs.Orders.{failed-unique, failed-or-passed}
 use Rattle.reader.specs.Reading.{mostBytes, got}
 use Rattle.reader.specs.Writing.{caseText}
 use Rattle.reader.specs.declared.CaseRead.{CaseRead}
-use Rattle.reader.proofs.Inverse as inverse
+use Rattle.inverse.proofs.Inverse as inverse
 use Rattle.steptext.specs.declared.StepsRead.{StepsRead}
 use Rattle.wozgrzyt.specs.declared.texts.Written.{Written}
 use Rattle.wozgrzyt.specs.declared.texts.Written.the-variants as written

@@ -29,7 +29,8 @@ pub fn write_case(case: Case, out: &mut [u8]) -> Written
     if out.len() < writer::cases::count_bytes(case) {
         return Written::Refused(Refusal::NoRoom);
     }
-    Written::Bytes(writer::cases::put_case(out, case))
+    let k = writer::cases::put_case(out, case);
+    Written::Bytes(k)
 }
 
 // How many steps a step text has.

@@ -11,19 +11,19 @@ use Rattle.record.specs.Record.{recordOf, recordText, Formed}
 use Rattle.record.specs.declared.Record.{Record}
 use Rattle.record.specs.declared.Record.the-variants.{Grid, Bus, Line, Pmu, End, Wrong}
 use Rattle.record.proofs.Texts.{read-record, text-free, Spelt, spelt}
 use Rattle.reader.specs.Reading.{caseOf, Reader, isBus, inPlace, inRange, inOrder, accepted, verdict, next, start, refused, closed, said, got, readLines}
-use Rattle.reader.specs.Grammar.{Reads}
-use Rattle.reader.specs.Grammar.Reads.{ends, goes}
+use Rattle.inverse.specs.Grammar.{Reads}
+use Rattle.inverse.specs.Grammar.Reads.{ends, goes}
 use Rattle.grid.specs.declared.Case.{Case}
 use Rattle.reader.specs.declared.CaseRead.{CaseRead}
 use Rattle.reader.specs.declared.Verdict.{Verdict}
 use Rattle.reader.specs.declared.Verdict.the-variants.{Next, Last, Form, Range, Order}
 use Rattle.grid.specs.declared.refusal.Refusal.{Refusal}
 use Rattle.grid.specs.declared.refusal.Refusal.the-variants.{TextTooLong, WrongForm}
 use Rattle.reader.specs.declared.ReadAnswer.{ReadAnswer}
 use Rattle.reader.specs.declared.ReadAnswer.the-variants.{Read, Refused}
 use Rattle.reader.proofs.Judged.{Accepted, accepted-of, last-of, small-of, bounded, line-ends, apart}
 use Rattle.reader.specs.declared.Place.{Place}
 
 small-number : (n k : ℕ) → n ≤ 64 → isBus n k ≡ true → k < 10000
 small-number n k h e = let b = bounded n k h e in omega (arith, b .most)

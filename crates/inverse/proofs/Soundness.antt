@@ -19,17 +19,17 @@ use Rattle.record.specs.declared.Record.the-variants.{Grid, Bus, Line, Pmu, End
 use Rattle.rules.specs.Grids.{Proper as ProperGrid, Line as HasLine}
 use Rattle.grid.specs.Cases.{neighbours, gridOf, Lines}
 use Rattle.grid.specs.declared.Case.{Case}
 use Rattle.reader.specs.Building.{withLine}
 use Rattle.reader.specs.Reading.{Reader, caseOf, verdict, next, start, inRange}
-use Rattle.reader.specs.Grammar.{Reads}
-use Rattle.reader.specs.Grammar.Reads.{ends, goes}
+use Rattle.inverse.specs.Grammar.{Reads}
+use Rattle.inverse.specs.Grammar.Reads.{ends, goes}
 use Rattle.reader.specs.declared.Verdict.the-variants.{Next}
 use Rattle.reader.proofs.Judged.{accepted-of, inside, line-ends, Ends}
-use Rattle.reader.proofs.Places.{Pair, Ask, Proper, answer, joined, Facts, NextLine, line-here, line-back, line-other}
-use Rattle.reader.proofs.Places.Ask.{zeroAt, siteAt, unitAt, lineAt}
-use Rattle.reader.proofs.Unique.{Stand, Stepped, stepped}
-use Rattle.reader.proofs.Texts.{Begun, begun, first-stand, no-bus, no-line}
-use Rattle.reader.proofs.Counts.{both-ends, not-self, not-zero}
+use Rattle.inverse.proofs.Places.{Pair, Ask, Proper, answer, joined, Facts, NextLine, line-here, line-back, line-other}
+use Rattle.inverse.proofs.Places.Ask.{zeroAt, siteAt, unitAt, lineAt}
+use Rattle.inverse.proofs.Unique.{Stand, Stepped, stepped}
+use Rattle.inverse.proofs.Texts.{Begun, begun, first-stand, no-bus, no-line}
+use Rattle.inverse.proofs.Counts.{both-ends, not-self, not-zero}
 
 -- ---- a record keeps a grid proper
 

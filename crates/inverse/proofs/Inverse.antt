@@ -10,17 +10,17 @@ use Rattle.record.specs.declared.Record.the-variants.{Pmu}
 use Rattle.grid.specs.Cases.{neighbours, gridOf, mostBuses, Valid}
 use Rattle.grid.specs.declared.Case.{Case}
 use Rattle.rules.specs.Grids.{Proper as ProperGrid}
 use Rattle.reader.specs.Reading.{mostBytes, start, got, readCase}
-use Rattle.reader.specs.Grammar.{Reads}
+use Rattle.inverse.specs.Grammar.{Reads}
 use Rattle.reader.specs.Writing.{records, linesText, caseText, lineRecords}
 use Rattle.reader.proofs.Lengths.{lines-length, buses-length, members-length}
-use Rattle.reader.proofs.Counts.{line-records}
-use Rattle.reader.proofs.Places.{Ask, Proper, answer}
-use Rattle.reader.proofs.Places.Ask.{zeroAt, siteAt, unitAt, lineAt}
-use Rattle.reader.proofs.Texts.{begun, first-stand, reads-of, of-reads, same-text}
-use Rattle.reader.proofs.Written.{Above, Writable, readable}
-use Rattle.reader.proofs.Few.{read-few}
-use Rattle.reader.proofs.Soundness.{Sound, read-sound, known}
+use Rattle.inverse.proofs.Counts.{line-records}
+use Rattle.inverse.proofs.Places.{Ask, Proper, answer}
+use Rattle.inverse.proofs.Places.Ask.{zeroAt, siteAt, unitAt, lineAt}
+use Rattle.inverse.proofs.Texts.{begun, first-stand, reads-of, of-reads, same-text}
+use Rattle.inverse.proofs.Written.{Above, Writable, readable}
+use Rattle.inverse.proofs.Few.{read-few}
+use Rattle.inverse.proofs.Soundness.{Sound, read-sound, known}
 
 -- ---- a valid case is written
 

@@ -13,21 +13,21 @@ use Rattle.busset.specs.Held.{hold, holdIf}
 use Rattle.busset.proofs.Tests.{below-or, same-or}
 use Rattle.busset.proofs.Holding.{hold-here, if-here}
 use Rattle.grid.specs.Cases.{neighbours}
 use Rattle.reader.specs.declared.Place.{Place}
 use Rattle.record.specs.Record.{recordText}
 use Rattle.record.specs.declared.Record.{Record}
 use Rattle.record.specs.declared.Record.the-variants.{Grid, Bus, Line, Pmu, End, Wrong}
 use Rattle.reader.specs.Reading.{caseOf, Reader, isBus, isAfter, pastBuses, inPlace, inRange, inOrder, accepted, verdict, next, start}
-use Rattle.reader.specs.Grammar.{Reads}
-use Rattle.reader.specs.Grammar.Reads.{ends, goes}
+use Rattle.inverse.specs.Grammar.{Reads}
+use Rattle.inverse.specs.Grammar.Reads.{ends, goes}
 use Rattle.reader.specs.Writing.{has, busRecord, busRecords, members, lineRecords, linesText, records}
 use Rattle.grid.specs.declared.Case.{Case}
 use Rattle.reader.specs.declared.Verdict.the-variants.{Next, Last}
 use Rattle.reader.proofs.Judged.{accept}
-use Rattle.reader.proofs.Places.{Pair, Ask, Proper, place, placeOf, joined, answer, Facts, At, unchanged, line-here}
-use Rattle.reader.proofs.Places.Ask.{zeroAt, siteAt, unitAt, lineAt}
-use Rattle.reader.proofs.Unique.{Stand, Stepped, stepped}
-use Rattle.reader.proofs.Texts.{first-stand}
+use Rattle.inverse.proofs.Places.{Pair, Ask, Proper, place, placeOf, joined, answer, Facts, At, unchanged, line-here}
+use Rattle.inverse.proofs.Places.Ask.{zeroAt, siteAt, unitAt, lineAt}
+use Rattle.inverse.proofs.Unique.{Stand, Stepped, stepped}
+use Rattle.inverse.proofs.Texts.{first-stand}
 
 inside : (n k : ℕ) → 1 ≤ k → k ≤ n → isBus n k ≡ true
 unfolding isBus

@@ -12,15 +12,15 @@ use Rattle.busset.specs.Held.{holdIf}
 use Rattle.record.specs.Record.{recordText}
 use Rattle.record.specs.declared.Record.{Record}
 use Rattle.record.specs.declared.Record.the-variants.{Grid, Bus, Line, Pmu, End, Wrong}
 use Rattle.reader.specs.Reading.{caseOf, Reader, verdict, next, accepted}
-use Rattle.reader.specs.Grammar.{Reads}
-use Rattle.reader.specs.Grammar.Reads.{ends, goes}
+use Rattle.inverse.specs.Grammar.{Reads}
+use Rattle.inverse.specs.Grammar.Reads.{ends, goes}
 use Rattle.grid.specs.declared.Case.{Case}
 use Rattle.reader.specs.declared.Place.{Place}
 use Rattle.reader.specs.declared.Verdict.the-variants.{Next, Last}
 use Rattle.reader.proofs.Judged.{accepted-of, goes-of, last-place, apart}
-use Rattle.reader.proofs.Places.{Pair, Ask, Proper, place, placeOf, answer, Facts, facts, At, beyond, unchanged, stands, more-buses, past, line-here}
-use Rattle.reader.proofs.Places.Ask.{zeroAt, siteAt, unitAt, lineAt}
+use Rattle.inverse.proofs.Places.{Pair, Ask, Proper, place, placeOf, answer, Facts, facts, At, beyond, unchanged, stands, more-buses, past, line-here}
+use Rattle.inverse.proofs.Places.Ask.{zeroAt, siteAt, unitAt, lineAt}
 
 -- a reader that has read `grid` and stands at p
 pub record Stand (s : Reader) (p : ℕ) : Type 0 where

@@ -12,18 +12,18 @@ use Rattle.busset.proofs.Tests.{below-or, same-or}
 use Rattle.grid.specs.Cases.{neighbours}
 use Rattle.record.specs.declared.Record.{Record}
 use Rattle.record.specs.declared.Record.the-variants.{Grid, Bus, Line, Pmu, End, Wrong}
 use Rattle.reader.specs.Reading.{caseOf, Reader, isBus, inRange, verdict, next, start}
-use Rattle.reader.specs.Grammar.{Reads}
-use Rattle.reader.specs.Grammar.Reads.{ends, goes}
+use Rattle.inverse.specs.Grammar.{Reads}
+use Rattle.inverse.specs.Grammar.Reads.{ends, goes}
 use Rattle.reader.specs.Writing.{has, members, lineRecords}
 use Rattle.grid.specs.declared.Case.{Case}
 use Rattle.reader.specs.declared.Verdict.the-variants.{Next}
 use Rattle.reader.proofs.Judged.{fit-of}
-use Rattle.reader.proofs.Places.{Pair, Ask, Proper, place, placeOf, answer, joined, unchanged}
-use Rattle.reader.proofs.Places.Ask.{zeroAt, siteAt, unitAt, lineAt}
-use Rattle.reader.proofs.Unique.{Stand, Stepped, stepped, Settled, settled}
-use Rattle.reader.proofs.Texts.{begun, first-stand}
-use Rattle.reader.proofs.Written.{row-push}
+use Rattle.inverse.proofs.Places.{Pair, Ask, Proper, place, placeOf, answer, joined, unchanged}
+use Rattle.inverse.proofs.Places.Ask.{zeroAt, siteAt, unitAt, lineAt}
+use Rattle.inverse.proofs.Unique.{Stand, Stepped, stepped, Settled, settled}
+use Rattle.inverse.proofs.Texts.{begun, first-stand}
+use Rattle.inverse.proofs.Written.{row-push}
 
 -- lines of c in rising order, all beyond p
 abbrev Rising : Case → ℕ → List Record → Type 0

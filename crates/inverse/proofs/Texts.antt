@@ -18,21 +18,21 @@ use Rattle.field.proofs.Cutting.{join-split}
 use Rattle.record.specs.Record.{recordText}
 use Rattle.record.specs.declared.Record.{Record}
 use Rattle.record.specs.declared.Record.the-variants.{Grid, Bus, Line, Pmu, End, Wrong}
 use Rattle.reader.specs.Reading.{caseOf, Reader, verdict, next, start, pastBuses, refused, got, readLines, readText, readCase}
 use Rattle.reader.specs.Building.{noRows}
-use Rattle.reader.specs.Grammar.{Reads}
-use Rattle.reader.specs.Grammar.Reads.{ends, goes}
+use Rattle.inverse.specs.Grammar.{Reads}
+use Rattle.inverse.specs.Grammar.Reads.{ends, goes}
 use Rattle.grid.specs.declared.Case.{Case}
 use Rattle.reader.specs.declared.CaseRead.{CaseRead}
 use Rattle.reader.specs.declared.Verdict.the-variants.{Next, Last}
 use Rattle.grid.specs.declared.refusal.Refusal.the-variants.{TextTooLong, WrongForm}
 use Rattle.reader.specs.declared.ReadAnswer.{ReadAnswer}
 use Rattle.reader.specs.declared.ReadAnswer.the-variants.{Read, Refused}
 use Rattle.reader.proofs.Judged.{accepted-of, last-place, inside, apart}
-use Rattle.reader.proofs.Grammars.{not-got, reads-read, read-reads}
-use Rattle.reader.proofs.Places.{Ask, Proper, place, answer, Facts, facts, At, same-n, past}
-use Rattle.reader.proofs.Places.Ask.{zeroAt, siteAt, unitAt, lineAt}
-use Rattle.reader.proofs.Unique.{Stand, Stepped, stepped, unique, Ended, Went, seen}
+use Rattle.inverse.proofs.Grammars.{not-got, reads-read, read-reads}
+use Rattle.inverse.proofs.Places.{Ask, Proper, place, answer, Facts, facts, At, same-n, past}
+use Rattle.inverse.proofs.Places.Ask.{zeroAt, siteAt, unitAt, lineAt}
+use Rattle.inverse.proofs.Unique.{Stand, Stepped, stepped, unique, Ended, Went, seen}
 
 -- ---- the whole text
 
