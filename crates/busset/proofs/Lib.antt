@@ -4,3 +4,4 @@ pub mod Sums
 pub mod Sizes
 pub mod Members
 pub mod Words
+pub mod Holding

@@ -3,3 +3,4 @@ pub mod ListUniqueness
 pub mod Demands
 pub mod Rows
 pub mod SitingUniqueness
+pub mod TextUniqueness

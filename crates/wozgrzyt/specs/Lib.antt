@@ -3,3 +3,4 @@ pub mod ListReplies
 pub mod Demands
 pub mod Table
 pub mod SitingReplies
+pub mod TextReplies

@@ -3,6 +3,7 @@ ghost use Rattle.wozgrzyt.specs.Replies.{ObservedReply, FigureReply, Ste
 
 pub mod steps;
 pub mod siting;
+pub mod texts;
 
 pub use busset::BusSet;
 pub use desks::replay;

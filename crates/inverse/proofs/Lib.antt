@@ -1,0 +1,9 @@
+pub mod Grammars
+pub mod Places
+pub mod Unique
+pub mod Texts
+pub mod Written
+pub mod Counts
+pub mod Soundness
+pub mod Few
+pub mod Inverse

@@ -1,0 +1,1 @@
+// Definitions and theorems alone: reading and writing a case text undo each other.

@@ -1,0 +1,12 @@
+use Rattle.record.proofs.Fields.{none-is, none-more}
+use Rattle.record.proofs.no_fields.Statement.{statement}
+use Rattle.record.proofs.no_fields.Tie as tie
+
+returns : tie.Need-returns
+returns c = none-more _ _ _ _ (c .if1 .taken)
+
+returns-2 : tie.Need-returns-2
+returns-2 c = none-is _ _ _ _ (c .if1 .left)
+
+pub no-fields-spec : {M : Type 1} → statement M
+no-fields-spec = tie.close (tie.spec returns returns-2)

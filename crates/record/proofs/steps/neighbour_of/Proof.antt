@@ -1,0 +1,20 @@
+use mathlib.Core.Path.{sym, ap}
+use Rattle.record.specs.StepLine.{neighbourOf}
+use borrow.Author.Needs.{needs}
+use Rattle.record.proofs.steps.neighbour_of.Statement.{statement}
+use Rattle.record.proofs.steps.neighbour_of.Tie as tie
+
+enum-known-p : tie.Need-enum-known-p
+enum-known-p c = search needs
+
+enum-told : tie.Need-enum-told
+enum-told c = search needs
+
+returns : tie.Need-returns
+returns c = sym (ap neighbourOf (c .before .p .given .1))
+
+returns-2 : tie.Need-returns-2
+returns-2 c = search needs
+
+pub neighbour-of-spec : {M : Type 1} → statement M
+neighbour-of-spec = tie.close (tie.spec enum-known-p enum-told returns returns-2)

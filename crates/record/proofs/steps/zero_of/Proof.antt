@@ -1,0 +1,20 @@
+use mathlib.Core.Path.{sym, ap}
+use Rattle.record.specs.StepLine.{zeroOf}
+use borrow.Author.Needs.{needs}
+use Rattle.record.proofs.steps.zero_of.Statement.{statement}
+use Rattle.record.proofs.steps.zero_of.Tie as tie
+
+enum-known-w : tie.Need-enum-known-w
+enum-known-w c = search needs
+
+enum-told : tie.Need-enum-told
+enum-told c = search needs
+
+returns : tie.Need-returns
+returns c = sym (ap zeroOf (c .before .w .given .1))
+
+returns-2 : tie.Need-returns-2
+returns-2 c = search needs
+
+pub zero-of-spec : {M : Type 1} → statement M
+zero-of-spec = tie.close (tie.spec enum-known-w enum-told returns returns-2)

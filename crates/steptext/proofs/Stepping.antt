@@ -1,0 +1,105 @@
+-- A step text, line after line: what is read of the whole is what is read from where the reader stands.
+use mathlib.Core.Path.{_≡_, refl, sym, ap, _∙_}
+use mathlib.Core.Bool.{Bool, true, false, cond, _&&_}
+use mathlib.Core.List.{List, [], _∷_}
+use Prim.Native.Nat.{ℕ, suc, _+_, _-_, _≤_, _<_}
+use native.Mathlib.Numerals.{add-one}
+use native.Mathlib.Omega.{arith}
+use borrow.Author.Tests.{lt-ltb, le-ltb}
+use lib.Dec.{eqb}
+use lib.ListN.{length, getD, drop, drop-of-length-le}
+use lib.Seq.{drop-cons}
+use Rattle.field.specs.Split.{Pieces, pieces, split, part, after, PieceEnd}
+use Rattle.field.proofs.Cutting.{after-none, after-some}
+use Rattle.step.specs.declared.Step.{Step}
+use Rattle.record.specs.StepLine.{stepLineOf}
+use Rattle.record.specs.declared.steps.StepLine.{StepLine}
+use Rattle.record.specs.declared.steps.StepLine.the-variants.{Step as StepOf, End, Wrong}
+use Rattle.grid.specs.declared.refusal.Refusal.the-variants.{TextTooLong, WrongForm, OutOfRange, TooManySteps}
+use Rattle.steptext.specs.Steps.{mostStepBytes, mostSteps, stepInRange, ended, lineSaid, stepLines, readSteps, andSteps, stepsIn, stepsFrom, StepHere}
+use Rattle.steptext.specs.declared.StepsRead.{StepsRead}
+use Rattle.steptext.specs.declared.StepsRead.the-variants.{Steps, Refused}
+
+-- what is read from a text that is still to be cut into lines
+abbrev from : ℕ → List ℕ → StepsRead
+from k t = stepLines k (split 10 t .first) (split 10 t .rest)
+
+-- ---- after `end`
+
+abbrev pub ending : ℕ → List ℕ → StepsRead
+ending k t = ended k (split 10 t .first) (split 10 t .rest)
+
+pub ending-none : (k : ℕ) (text : List ℕ) (e : ℕ) → length text ≤ e + 1 → Steps (k - 1) ≡ ending k (drop (e + 1) text)
+unfolding split
+ending-none k text e h = rw (drop-of-length-le text h)
+
+ending-cons : (k x : ℕ) (t : List ℕ) → Refused (WrongForm (k + 1)) ≡ ending k (x ∷ t)
+unfolding split
+ending-cons k x t = go (eqb x 10) refl
+  where
+    go : (b : Bool) → eqb x 10 ≡ b → Refused (WrongForm (k + 1)) ≡ ending k (x ∷ t)
+    go true e = rw e
+    go false e = rw e
+
+pub ending-more : (k : ℕ) (text : List ℕ) (e : ℕ) → e + 1 < length text → Refused (WrongForm (k + 1)) ≡ ending k (drop (e + 1) text)
+ending-more k text e h = ending-cons k (getD text (e + 1) 0) (drop (suc (e + 1)) text) ∙ sym (ap (ending k) (drop-cons text (e + 1) 0 h))
+
+-- ---- the loop
+
+-- line k starts at index at, and what is read of the text is what is read from there
+pub record Going (text : List ℕ) (k at : ℕ) : Type 0 where
+  pub some : 1 ≤ k
+  pub high : at ≤ length text
+  pub few : k ≤ at + 1
+  pub long : length text ≤ mostStepBytes
+  pub is : readSteps text ≡ from k (drop at text)
+
+pub too-long : (text : List ℕ) → mostStepBytes < length text → Refused TextTooLong ≡ readSteps text
+unfolding readSteps
+too-long text h = rw (lt-ltb _ _ h)
+
+pub going-first : {text : List ℕ} → length text ≤ mostStepBytes → Going text 1 0
+unfolding readSteps
+going-first {text} h = record { some = omega arith; high = omega arith; few = omega arith; long = h; is = rw (le-ltb _ _ h) }
+
+module _ {text : List ℕ} {k at e : ℕ} (g : Going text k at) (p : PieceEnd 10 text at e) where
+  pub no-feed : length text ≤ e → Refused (WrongForm k) ≡ readSteps text
+  unfolding stepLines
+  no-feed h = sym (g .is ∙ rw (p .cut, after-none 10 text e h))
+
+  module _ {r w : StepLine} (h : e < length text) (ri : r ≡ stepLineOf (part text at e)) (told : r ≡ w) where
+    pub line-said : lineSaid w k (from (k + 1) (drop (e + 1) text)) (ending k (drop (e + 1) text)) ≡ readSteps text
+    unfolding stepLines
+    line-said = sym (g .is ∙ rw (p .cut, after-some 10 text e h, ← ri, told, add-one e))
+
+  module _ {r : StepLine} {x : Step} (h : e < length text) (ri : r ≡ stepLineOf (part text at e)) (told : r ≡ StepOf x) where
+    pub out-of-range : stepInRange x ≡ false → Refused (OutOfRange k) ≡ readSteps text
+    out-of-range f = sym (sym (line-said h ri told) ∙ rw f)
+
+    pub too-many : stepInRange x ≡ true → mostSteps < k → Refused (TooManySteps k) ≡ readSteps text
+    too-many f l = sym (sym (line-said h ri told) ∙ rw (f, lt-ltb _ _ l))
+
+    pub going-on : stepInRange x ≡ true → k ≤ mostSteps → Going text (k + 1) (e + 1)
+    going-on f l =
+        let lo = p .low in
+        record {
+          some = omega arith;
+          high = omega arith;
+          few = omega (arith, g .few);
+          long = g .long;
+          is = sym (line-said h ri told) ∙ rw (f, le-ltb _ _ l);
+        }
+
+-- ---- the steps, one by one
+
+module _ {text : List ℕ} {a e : ℕ} (p : PieceEnd 10 text a e) where
+  pub steps-none : length text ≤ e → stepsFrom text a ≡ []
+  unfolding stepsFrom stepsIn
+  steps-none h = rw (p .cut, after-none 10 text e h)
+
+  pub steps-said : {r w : StepLine} → e < length text → r ≡ stepLineOf (part text a e) → r ≡ w → stepsFrom text a ≡ andSteps w (stepsFrom text (e + 1))
+  unfolding stepsFrom stepsIn
+  steps-said h ri told = rw (p .cut, after-some 10 text e h, ← ri, told, add-one e)
+
+  pub step-here : {r : StepLine} {x : Step} → e < length text → r ≡ stepLineOf (part text a e) → r ≡ StepOf x → StepHere text a x (e + 1)
+  step-here h ri told = let l = p .low in record { steps = steps-said h ri told; later = omega arith; high = omega arith }

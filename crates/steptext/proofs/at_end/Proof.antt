@@ -1,0 +1,22 @@
+use Rattle.steptext.proofs.Stepping.{ending-none, ending-more}
+use borrow.Author.Needs.{needs}
+use Rattle.steptext.proofs.at_end.Statement.{statement}
+use Rattle.steptext.proofs.at_end.Tie as tie
+
+add-if1 : tie.Need-add-if1
+add-if1 c = search needs
+
+add-t7 : tie.Need-add-t7
+add-t7 c = search needs
+
+returns : tie.Need-returns
+returns c = ending-more _ _ _ (c .if1 .taken)
+
+sub-t4 : tie.Need-sub-t4
+sub-t4 c = search needs
+
+returns-2 : tie.Need-returns-2
+returns-2 c = ending-none _ _ _ (c .if1 .left)
+
+pub at-end-spec : {M : Type 1} → statement M
+at-end-spec = tie.close (tie.spec add-if1 add-t7 returns sub-t4 returns-2)

@@ -1,0 +1,64 @@
+-- For each call on texts: two replies that meet its promise on one input, with the bytes they leave, are equal; and what a case read means.
+use mathlib.Core.Path.{_≡_, refl, sym, ap, _∙_}
+use mathlib.Core.List.{List, _++_}
+use Prim.Native.Nat.{ℕ, _≤_}
+use lib.ListN.{length, drop}
+use Rattle.grid.specs.declared.Case.{Case}
+use Rattle.grid.specs.Cases.{Valid}
+use Rattle.grid.proofs.Orders.{failed-unique, failed-or-passed}
+use Rattle.reader.specs.Reading.{mostBytes, got}
+use Rattle.reader.specs.Writing.{caseText}
+use Rattle.reader.specs.declared.CaseRead.{CaseRead}
+use Rattle.inverse.proofs.Inverse as inverse
+use Rattle.steptext.specs.declared.StepsRead.{StepsRead}
+use Rattle.wozgrzyt.specs.declared.texts.Written.{Written}
+use Rattle.wozgrzyt.specs.declared.texts.Written.the-variants as written
+use Rattle.wozgrzyt.specs.TextReplies.{CaseReadReply, writeChecks, CaseWrittenReply, StepsCheckedReply}
+
+-- ---- uniqueness
+
+pub case-read-unique : (text : List ℕ) (a b : CaseRead) → CaseReadReply text a → CaseReadReply text b → a ≡ b
+case-read-unique text a b p q = p ∙ sym q
+
+-- a reply to writing, with the bytes that it leaves
+pub record WriteReply : Type 0 where
+  pub reply : Written
+  pub left : List ℕ
+
+pub case-written-unique : (c : Case) (lent : List ℕ) (a b : Written) (left right : List ℕ) → CaseWrittenReply c lent a left → CaseWrittenReply c lent b right →
+    _≡_ {A = WriteReply} (record { reply = a; left = left }) (record { reply = b; left = right })
+case-written-unique c lent (written.Bytes k) (written.Bytes m) left right p q =
+    let e : written.Bytes k ≡ written.Bytes m = ap written.Bytes (p .1 ∙ sym (q .1)) in
+    let f : left ≡ right = p .2 ∙ sym (q .2) in
+    λ i. record { reply = e i; left = f i }
+case-written-unique c lent (written.Bytes k) (written.Refused r) left right p q = absurd (failed-or-passed (writeChecks c lent) r (q .0) (p .0))
+case-written-unique c lent (written.Refused r) (written.Bytes k) left right p q = absurd (failed-or-passed (writeChecks c lent) r (p .0) (q .0))
+case-written-unique c lent (written.Refused r) (written.Refused s) left right p q =
+    let e : written.Refused r ≡ written.Refused s = ap written.Refused (failed-unique (writeChecks c lent) r s (p .0) (q .0)) in
+    let f : left ≡ right = p .1 ∙ sym (q .1) in
+    λ i. record { reply = e i; left = f i }
+
+pub steps-checked-unique : (text : List ℕ) (a b : StepsRead) → StepsCheckedReply text a → StepsCheckedReply text b → a ≡ b
+steps-checked-unique text a b p q = p ∙ sym q
+
+-- ---- one form for each case
+
+-- reading what is written for a valid case gives that case
+pub written-then-read : (c : Case) → length (c .nbr) ≡ 64 → Valid c → CaseReadReply (caseText c) (got c)
+written-then-read c l v = sym (inverse.read-written c l v)
+
+-- a text that reads as a case is the text written for it
+pub read-then-written : (text : List ℕ) (c : Case) → CaseReadReply text (got c) → text ≡ caseText c
+read-then-written text c e = inverse.written-text text c (sym e)
+
+-- two different texts never give the same case
+pub one-text : (x y : List ℕ) (c : Case) → CaseReadReply x (got c) → CaseReadReply y (got c) → x ≡ y
+one-text x y c p q = inverse.one-text x y c (sym p) (sym q)
+
+-- what is read is valid: it never leads to 5
+pub read-valid : (text : List ℕ) (c : Case) → CaseReadReply text (got c) → Valid c
+read-valid text c e = inverse.read-valid text c (sym e) .valid
+
+-- every valid case's text is within the limit
+pub text-within : (c : Case) → Valid c → length (caseText c) ≤ mostBytes
+text-within c v = inverse.text-within c v

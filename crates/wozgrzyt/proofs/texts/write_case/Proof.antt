@@ -1,0 +1,48 @@
+use mathlib.Core.Path.{_≡_, refl, subst}
+use mathlib.Core.Logic.{inl, inr}
+use Prim.Native.Nat.{ℕ, _≤_}
+use native.Mathlib.Omega.{arith}
+use borrow.Author.Tests.{not-true, not-false}
+use Rattle.busset.proofs.Tests.{refutes}
+use Rattle.grid.proofs.Orders.{itself}
+use Rattle.writer.proofs.Whole.{put-whole, put-count}
+use borrow.Author.Needs.{needs}
+use Rattle.wozgrzyt.proofs.texts.write_case.Statement.{statement}
+use Rattle.wozgrzyt.proofs.texts.write_case.Tie as tie
+
+-- a count that is the length, and no more than the room
+roomy : {k n : ℕ} (m : ℕ) → k ≡ n → k ≤ m → n ≤ m
+roomy m e h = subst (λ (x : ℕ). x ≤ m) e h
+
+is-valid-requires : tie.Need-is-valid-requires
+is-valid-requires c κs = search needs
+
+returns : tie.Need-returns
+returns c = (inl (refutes (c .before .is-valid .ensures) (not-true _ (c .if1 .taken)), itself _), refl)
+
+count-bytes-requires : tie.Need-count-bytes-requires
+count-bytes-requires c κs = (c .before .is-valid .ensures .yes (not-false _ (c .if1 .left))) .buses .most
+
+returns-2 : tie.Need-returns-2
+returns-2 c = (inr ((c .before .before .before .is-valid .ensures .yes (not-false _ (c .before .before .if1 .left))), inl ((λ h. omega (arith, c .before .count-bytes .ensures, c .if2 .taken)), itself _)), refl)
+
+put-case-requires : tie.Need-put-case-requires
+put-case-requires c κs = (c .before .before .before .before .is-valid .ensures .yes (not-false _ (c .before .before .before .if1 .left))) .buses .most
+
+same-length : tie.Need-same-length
+same-length c = search needs
+
+returns-3 : tie.Need-returns-3
+returns-3 c = let room = roomy _ (c .before .before .before .before .before .count-bytes .ensures) (c .before .before .before .before .if2 .left) in (((c .before .before .before .before .before .before .before .is-valid .ensures .yes (not-false _ (c .before .before .before .before .before .before .if1 .left))), (room, tt)), put-count (c .before .before .put-case .ensures), put-whole (c .before .before .put-case .ensures) room)
+
+pub write-case-spec : {M : Type 1} → statement M
+write-case-spec =
+    tie.close
+    (tie.spec
+    is-valid-requires
+    returns
+    count-bytes-requires
+    returns-2
+    put-case-requires
+    same-length
+    returns-3)

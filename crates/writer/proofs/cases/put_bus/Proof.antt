@@ -1,0 +1,23 @@
+use Rattle.writer.proofs.Turns.{has-is}
+use borrow.Author.Needs.{needs}
+use Rattle.writer.proofs.cases.put_bus.Statement.{statement}
+use Rattle.writer.proofs.cases.put_bus.Tie as tie
+
+has-requires : tie.Need-has-requires
+has-requires c κs = search needs
+
+has-requires-2 : tie.Need-has-requires-2
+has-requires-2 c κs = search needs
+
+put-line-requires : tie.Need-put-line-requires
+put-line-requires c κs = (search needs, search needs)
+
+same-length : tie.Need-same-length
+same-length c = search needs
+
+returns : tie.Need-returns
+returns c = rw (← has-is _ _ _ (c .before .before .before .before .before .has .ensures), ← has-is _ _ _ (c .before .before .before .before .has2 .ensures)) (c .before .before .put-line .ensures)
+
+pub put-bus-spec : {M : Type 1} → statement M
+put-bus-spec =
+    tie.close (tie.spec has-requires has-requires-2 put-line-requires same-length returns)

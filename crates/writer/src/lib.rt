@@ -1,0 +1,107 @@
+// Texts written into lent bytes. A byte past the end is counted and not written, so that what counts is what writes.
+ghost use mathlib.Core.Path.{_≡_};
+ghost use mathlib.Core.List.{List, [], _∷_, _++_};
+ghost use Prim.Native.Nat.{ℕ, _+_, _<_, _^_};
+ghost use Rattle.field.specs.Number.{numberText};
+ghost use Rattle.record.specs.Record.{letter, Formed};
+ghost use lib.ListN.{length};
+ghost use Rattle.writer.specs.Put.{Put, lineText};
+
+pub mod cases;
+
+use record::Record;
+
+// One byte.
+pub fn put_byte(out: &mut [u8], at: usize, b: u8) -> usize
+    requires { ⌜ at < 2 ^ 32 ⌝ }
+    ensures { λ r. ⌜ Put (now (out .entry)) at (b ∷ []) (now (out .exit)) r ⌝ }
+{
+    if at < out.len() {
+        out[at] = b;
+        return at + 1;
+    }
+    at + 1
+}
+
+// The bytes of s.
+pub fn put_all(out: &mut [u8], at: usize, s: &[u8]) -> usize
+    requires { ⌜ (at < 2 ^ 31) × (length (now s) < 2 ^ 31) ⌝ }
+    ensures { λ r. ⌜ Put (now (out .entry)) at (now (s .entry)) (now (out .exit)) r ⌝ }
+{
+    let mut k = at;
+    for i in 0..s.len() {
+        k = put_byte(out, k, s[i]);
+    }
+    k
+}
+
+// The digit n.
+fn digit(n: usize) -> u8
+    requires { ⌜ n < 10 ⌝ }
+    ensures { λ r. ⌜ r ≡ 48 + n ⌝ }
+{
+    48 + n as u8
+}
+
+// A number.
+pub fn put_number(out: &mut [u8], at: usize, n: usize) -> usize
+    requires { ⌜ (at < 2 ^ 31) × (n < 10000) ⌝ }
+    ensures { λ r. ⌜ Put (now (out .entry)) at (numberText n) (now (out .exit)) r ⌝ }
+{
+    if n < 10 {
+        return put_byte(out, at, digit(n));
+    }
+    let k = put_number(out, at, n / 10);
+    put_byte(out, k, digit(n % 10))
+}
+
+// A word with its tab, and a number.
+fn put_tagged(out: &mut [u8], at: usize, w: &[u8], n: usize) -> usize
+    requires { ⌜ (at < 2 ^ 30) × (length (now w) < 2 ^ 30) × (n < 10000) ⌝ }
+    ensures { λ r. ⌜ Put (now (out .entry)) at (now (w .entry) ++ numberText n) (now (out .exit)) r ⌝ }
+{
+    let a = put_all(out, at, w);
+    put_number(out, a, n)
+}
+
+// A tab, and one of two letters.
+fn put_mark(out: &mut [u8], at: usize, t: bool, p: u8, q: u8) -> usize
+    requires { ⌜ at < 2 ^ 31 ⌝ }
+    ensures { λ r. ⌜ Put (now (out .entry)) at (9 ∷ letter t p q) (now (out .exit)) r ⌝ }
+{
+    let a = put_byte(out, at, 9);
+    if t {
+        return put_byte(out, a, p);
+    }
+    put_byte(out, a, q)
+}
+
+// A record and its line feed.
+pub fn put_line(out: &mut [u8], at: usize, r: Record) -> usize
+    requires { ⌜ (at < 2 ^ 29) × Formed r ⌝ }
+    ensures { λ k. ⌜ Put (now (out .entry)) at (lineText r) (now (out .exit)) k ⌝ }
+{
+    match r {
+        Record::Grid(n) => {
+            let a = put_tagged(out, at, b"grid\t", n);
+            put_byte(out, a, 10)
+        }
+        Record::Bus { number, zero, site } => {
+            let a = put_tagged(out, at, b"bus\t", number);
+            let b = put_mark(out, a, zero, b'Z', b'I');
+            let d = put_mark(out, b, site, b'Y', b'N');
+            put_byte(out, d, 10)
+        }
+        Record::Line(x, y) => {
+            let a = put_tagged(out, at, b"line\t", x);
+            let b = put_tagged(out, a, b"\t", y);
+            put_byte(out, b, 10)
+        }
+        Record::Pmu(p) => {
+            let a = put_tagged(out, at, b"pmu\t", p);
+            put_byte(out, a, 10)
+        }
+        Record::End => put_all(out, at, b"end\n"),
+        Record::Wrong => put_byte(out, at, 10),
+    }
+}

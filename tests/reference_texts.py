@@ -1,0 +1,269 @@
+#!/usr/bin/env python3
+"""Answers for crates/try_texts, made from document 01 alone.
+
+usage: tests/reference_texts.py data DIR      writes the texts that the program reads into DIR
+       tests/reference_texts.py answers DIR   prints what the program must print for them
+"""
+import random
+import sys
+
+CASE_LIMIT, STEP_LIMIT, MOST_LINES, MOST_STEPS = 8192, 16384, 256, 1024
+
+
+class No(Exception):
+    """A refusal: its number and its line."""
+
+
+def number(field):
+    """1 to 4 digits, no leading zero except 0 itself; None where the form is wrong."""
+    if not 1 <= len(field) <= 4 or any(not 48 <= c <= 57 for c in field):
+        return None
+    if len(field) > 1 and field[0] == 48:
+        return None
+    return int(field)
+
+
+def split_lines(text):
+    """The ended lines, and what stands after the last line feed."""
+    pieces = text.split(b"\n")
+    return pieces[:-1], pieces[-1]
+
+
+def case_record(line):
+    """The fields of a record of a case text, or None where its form is wrong."""
+    fields = line.split(b"\t")
+    word, rest = fields[0], fields[1:]
+    if word in (b"grid", b"pmu") and len(rest) == 1:
+        n = number(rest[0])
+        return None if n is None else (word, n)
+    if word == b"line" and len(rest) == 2:
+        a, b = number(rest[0]), number(rest[1])
+        return None if a is None or b is None else (word, a, b)
+    if word == b"bus" and len(rest) == 3:
+        n = number(rest[0])
+        if n is None or rest[1] not in (b"Z", b"I") or rest[2] not in (b"Y", b"N"):
+            return None
+        return (word, n, rest[1], rest[2])
+    if word == b"end" and not rest:
+        return (word,)
+    return None
+
+
+def read_case(text):
+    """The case, or No(number, place)."""
+    if len(text) > CASE_LIMIT:
+        raise No(1, 0)
+    lines, tail = split_lines(text)
+    n, buses, wires, units = None, [], [], []
+    for k, line in enumerate(lines, 1):
+        r = case_record(line)
+        if r is None:
+            raise No(2, k)
+        if n is None:
+            allowed = {b"grid"}
+        elif len(buses) < n:
+            allowed = {b"bus"}
+        elif units:
+            allowed = {b"pmu", b"end"}
+        else:
+            allowed = {b"line", b"pmu", b"end"}
+        if r[0] not in allowed:
+            raise No(2, k)
+        if r[0] == b"grid":
+            if not 1 <= r[1] <= 64:
+                raise No(3, k)
+            n = r[1]
+        elif r[0] == b"bus":
+            if not 1 <= r[1] <= n:
+                raise No(3, k)
+            if r[1] != len(buses) + 1:
+                raise No(4, k)
+            buses.append((r[2], r[3]))
+        elif r[0] == b"line":
+            if not (1 <= r[1] <= n and 1 <= r[2] <= n) or len(wires) == MOST_LINES:
+                raise No(3, k)
+            if r[1] >= r[2] or (wires and wires[-1] >= (r[1], r[2])):
+                raise No(4, k)
+            wires.append((r[1], r[2]))
+        elif r[0] == b"pmu":
+            if not 1 <= r[1] <= n:
+                raise No(3, k)
+            if units and units[-1] >= r[1]:
+                raise No(4, k)
+            units.append(r[1])
+        else:
+            if k < len(lines) or tail:
+                raise No(2, k + 1)
+            return n, buses, wires, units
+    raise No(2, len(lines) + 1)
+
+
+def write_case(case):
+    n, buses, wires, units = case
+    rows = [[b"grid", n]]
+    rows += [[b"bus", i + 1, z, y] for i, (z, y) in enumerate(buses)]
+    rows += [[b"line", a, b] for a, b in sorted(wires)]
+    rows += [[b"pmu", p] for p in sorted(units)]
+    rows += [[b"end"]]
+    return b"".join(b"\t".join(f if isinstance(f, bytes) else b"%d" % f for f in r) + b"\n" for r in rows)
+
+
+def check_steps(text):
+    """How many steps, or No(number, place)."""
+    if len(text) > STEP_LIMIT:
+        raise No(1, 0)
+    lines, tail = split_lines(text)
+    for k, line in enumerate(lines, 1):
+        fields = line.split(b"\t")
+        if fields == [b"end"]:
+            if k < len(lines) or tail:
+                raise No(2, k + 1)
+            return k - 1
+        if fields[0] != b"step" or len(fields) < 3:
+            raise No(2, k)
+        wants = {b"O": 3, b"N": 4, b"Z": 4}.get(fields[2])
+        if wants != len(fields):
+            raise No(2, k)
+        named = [number(f) for f in [fields[1]] + fields[3:]]
+        if None in named:
+            raise No(2, k)
+        if not all(1 <= v <= 64 for v in named):
+            raise No(3, k)
+        if k > MOST_STEPS:
+            raise No(12, k)
+    raise No(2, len(lines) + 1)
+
+
+class Tally:
+    def __init__(self, steps):
+        self.steps, self.count, self.good, self.same, self.sum = steps, 0, 0, 0, 0
+
+    def judge(self, text):
+        self.count += 1
+        try:
+            if self.steps:
+                code = check_steps(text) * 100
+            else:
+                code = 0
+                self.same += write_case(read_case(text)) == text
+            self.good += 1
+        except No as no:
+            code = no.args[1] * 100 + no.args[0]
+        self.sum = (self.sum * 31 + code) % 1000003
+
+    def say(self, name):
+        print(name, self.count, self.good, self.same, self.sum)
+
+
+def one(x):
+    return bytes([x])
+
+
+def spliced(name, text, steps, drop, mid):
+    t = Tally(steps)
+    for i in range(len(text) + 1):
+        t.judge(text[:i] + mid + text[i + drop:])
+    t.say(name)
+
+
+def by_byte(text, steps):
+    spliced("removed", text, steps, 1, b"")
+    t = Tally(steps)
+    for i in range(len(text)):
+        t.judge(text[:i] + text[i:i + 1] + text[i:])
+    t.say("doubled")
+    for x in (0, 10, 48, 57, 255):
+        spliced("changed", text, steps, 1, one(x))
+    for x in (9, 10, 13, 49, 200):
+        spliced("inserted", text, steps, 0, one(x))
+    t = Tally(steps)
+    for i in range(len(text) + 1):
+        t.judge(text[:i])
+    t.say("cut")
+
+
+def by_line(text, steps):
+    t = Tally(steps)
+    a = 0
+    while a < len(text):
+        e = text.index(b"\n", a) + 1
+        f = text.find(b"\n", e) + 1 or len(text)
+        t.judge(text[:a] + text[a:e] + text[a:])
+        t.judge(text[:a] + text[e:])
+        t.judge(text[:a] + text[e:f] + text[a:e] + text[f:])
+        a = e
+    t.say("lines")
+
+
+WORDS = [b"", b"0", b"00", b"07", b"1", b"8", b"64", b"65", b"256", b"9999", b"10000", b"+1", b"Z", b"N", b"end", b"line"]
+
+
+def by_field(text, steps):
+    for word in WORDS:
+        t = Tally(steps)
+        a = 0
+        while a < len(text):
+            e = a
+            while text[e] not in (9, 10):
+                e += 1
+            t.judge(text[:a] + word + text[e:])
+            a = e + 1
+        t.say("field")
+
+
+def by_end(text, steps):
+    t = Tally(steps)
+    for x in range(256):
+        t.judge(text + one(x))
+    t.say("tail")
+    limit = STEP_LIMIT if steps else CASE_LIMIT
+    t = Tally(steps)
+    t.judge(text + b"x" * (limit - len(text)))
+    t.judge(text + b"x" * (limit + 1 - len(text)))
+    t.say("limit")
+
+
+def all_kinds(text, steps):
+    by_byte(text, steps)
+    by_line(text, steps)
+    by_field(text, steps)
+    by_end(text, steps)
+
+
+def tabbed(words):
+    return b"".join(b"\t".join(w.encode() for w in line.split()) + b"\n" for line in words)
+
+
+def texts():
+    seven = ["grid 7"] + ["bus %d %s Y" % (i, "Z" if i in (2, 3, 5) else "I") for i in range(1, 8)]
+    seven += ["line %d %d" % w for w in ((1, 2), (2, 3), (3, 4), (3, 7), (4, 5), (5, 6))] + ["pmu 3", "end"]
+    rng = random.Random(7)
+    pairs = [(a, b) for a in range(1, 65) for b in range(a + 1, 65)]
+    wires = sorted(rng.sample(pairs, 257))
+    full = ["grid 64"] + ["bus %d %s %s" % (i, rng.choice("ZI"), rng.choice("YN")) for i in range(1, 65)]
+    lines = ["line %d %d" % w for w in wires]
+    units = ["pmu %d" % i for i in range(1, 65)] + ["end"]
+    steps = ["step 2 N 3", "step 3 O", "step 1 Z 2", "step 4 N 3", "step 7 N 3", "end"]
+    many = ["step %d Z %d" % (i % 64 + 1, i % 63 + 1) for i in range(1025)] + ["end"]
+    return {"seven": seven, "full": full + lines[:256] + units, "more": full + lines + units, "steps": steps, "many": many}
+
+
+def main():
+    what, where = sys.argv[1], sys.argv[2]
+    if what == "data":
+        for name, words in texts().items():
+            with open("%s/%s.txt" % (where, name), "wb") as f:
+                f.write(tabbed(words))
+        return
+    text = {}
+    for name in texts():
+        with open("%s/%s.txt" % (where, name), "rb") as f:
+            text[name] = f.read()
+    all_kinds(text["seven"], False)
+    all_kinds(text["full"], False)
+    by_line(text["more"], False)
+    all_kinds(text["steps"], True)
+    by_line(text["many"], True)
+
+
+main()
