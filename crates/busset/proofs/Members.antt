@@ -93,6 +93,10 @@ pub less-there : (s b a : ℕ) → (a ≡ b → ⊥) → bit (less s b) a ≡ bi
 unfolding less
 less-there s b a ne = omega (arith, lack-at s (2 ^ b) a, bit-one-other b a (λ e. ne (sym e)))
 
+pub less-sub : (s b : ℕ) → Sub (less s b) s
+unfolding less
+less-sub s b a = omega (arith, lack-at s (2 ^ b) a)
+
 pub meet-at : (s t b : ℕ) → bit (meet s t) b ≡ min (bit s b) (bit t b)
 unfolding meet
 meet-at s t b = bit-and s t b

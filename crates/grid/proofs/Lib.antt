@@ -2,3 +2,4 @@ pub mod Rows
 pub mod Checking
 pub mod Summing
 pub mod Orders
+pub mod Drawn

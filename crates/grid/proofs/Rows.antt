@@ -4,8 +4,8 @@ use mathlib.Core.List.{List, [], _∷_}
 use Prim.Native.Nat.{ℕ, zero, suc, _-_, _≤_, _<_}
 use native.Mathlib.Omega.{arith}
 use lib.ListN.{getD, length, List·getD-eq-default}
-use Rattle.busset.specs.Sets.{empty, setOf}
-use Rattle.busset.proofs.Words.{set-empty}
+use Rattle.busset.specs.Sets.{Out, empty, setOf}
+use Rattle.busset.proofs.Words.{set-empty, set-zero}
 use Rattle.grid.specs.Cases.{neighbours}
 
 -- the row of bus b stands at b - 1
@@ -22,3 +22,8 @@ row-zero rows = set-empty
 pub row-past : (rows : List ℕ) (b : ℕ) → length rows < b → neighbours rows b ≡ empty
 unfolding neighbours
 row-past rows b l = ap setOf (List·getD-eq-default (0 ∷ rows) 0 {n = b} (omega arith)) ∙ set-empty
+
+-- no bus is joined to a bus 0
+pub row-bus : (rows : List ℕ) (a : ℕ) → Out (neighbours rows a) 0
+unfolding neighbours
+row-bus rows a = set-zero (getD (0 ∷ rows) a 0)

@@ -1,4 +1,5 @@
 pub mod Reasons
+pub mod Firing
 pub mod Leasts
 pub mod Lists
 pub mod Shuffles
@@ -8,3 +9,5 @@ pub mod Ordering
 pub mod Searching
 pub mod Blocks
 pub mod Choices
+pub mod Tests
+pub mod Sought

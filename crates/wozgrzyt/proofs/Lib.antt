@@ -1,2 +1,4 @@
 pub mod Uniqueness
 pub mod SitingUniqueness
+pub mod Rows
+pub mod SitingRows

@@ -1,6 +1,7 @@
 use Prim.Native.Nat.{ℕ}
 use mathlib.Core.Path.{ap, _∙_}
 use mathlib.Core.Logic.{inl, inr}
+use native.Mathlib.Omega.{arith}
 use borrow.Author.Tests.{not-true, not-false}
 use mir.Syntax.{w32}
 use mir.Val.{SFits}
@@ -72,10 +73,10 @@ returns-4 c =
     )
 
 up-to-requires : tie.Need-up-to-requires
-up-to-requires c κs = valid (c .before .before .before .before .before .before .before .before .before .before) .buses .most
+up-to-requires c κs = omega (arith, valid (c .before .before .before .before .before .before .before .before .before .before) .buses .most)
 
 figure-of-requires : tie.Need-figure-of-requires
-figure-of-requires c κs = at-width (c .before .before .before .before .before .before .before)
+figure-of-requires c κs = let buses = at-width (c .before .before .before .before .before .before .before) in search needs
 
 returns-5 : tie.Need-returns-5
 returns-5 c =

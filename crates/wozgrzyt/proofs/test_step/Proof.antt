@@ -48,7 +48,7 @@ returns-2 : tie.Need-returns-2
 returns-2 c = inr (valid (c .before .before), inl (refutes (c .before .names .ensures) (not-true _ (c .if2 .taken)), itself _))
 
 up-to-requires : tie.Need-up-to-requires
-up-to-requires c κs = valid (c .before .before) .buses .most
+up-to-requires c κs = omega (arith, valid (c .before .before) .buses .most)
 
 has-requires : tie.Need-has-requires
 has-requires c κs = names-more (named (c .before)) (valid (c .before .before .before) .buses .most) .bus

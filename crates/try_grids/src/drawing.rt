@@ -1,0 +1,68 @@
+// Case values, drawn bus by bus and line by line. What names no bus of a word is left out.
+use busset::BusSet;
+use wozgrzyt::Case;
+
+// n buses, all I and Y, with no line and no unit.
+pub fn blank(n: usize) -> Case {
+    let site = if n <= 64 {
+        busset::all(n)
+    } else {
+        busset::none()
+    };
+    Case {
+        n,
+        nbr: [0; 64],
+        zero: busset::none(),
+        site,
+        units: busset::none(),
+    }
+}
+
+// The set with bus b, where a word has room for it.
+pub fn marked(s: BusSet, b: usize) -> BusSet {
+    if b < 1 {
+        return s;
+    }
+    if 64 < b {
+        return s;
+    }
+    busset::with(s, b)
+}
+
+// Bus a sees a line to bus b.
+pub fn one_sided(case: Case, a: usize, b: usize) -> Case {
+    let mut c = case;
+    if a < 1 {
+        return c;
+    }
+    let at = a - 1;
+    if 64 <= at {
+        return c;
+    }
+    let row = c.nbr[at];
+    c.nbr[at] = marked(row, b);
+    c
+}
+
+// A line between a and b.
+pub fn joined(case: Case, a: usize, b: usize) -> Case {
+    one_sided(one_sided(case, a, b), b, a)
+}
+
+pub fn with_zero(case: Case, b: usize) -> Case {
+    let mut c = case;
+    c.zero = marked(c.zero, b);
+    c
+}
+
+pub fn with_site(case: Case, b: usize) -> Case {
+    let mut c = case;
+    c.site = marked(c.site, b);
+    c
+}
+
+pub fn with_unit(case: Case, b: usize) -> Case {
+    let mut c = case;
+    c.units = marked(c.units, b);
+    c
+}

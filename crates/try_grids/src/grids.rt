@@ -1,0 +1,66 @@
+// The grids that are tried: document 01's, and others that stand at a limit.
+use crate::drawing::blank;
+use crate::drawing::joined;
+use crate::drawing::with_unit;
+use crate::drawing::with_zero;
+use wozgrzyt::Case;
+
+// Document 01's grid of seven buses, with no unit.
+pub fn seven() -> Case {
+    let mut c = blank(7);
+    c = with_zero(with_zero(with_zero(c, 2), 3), 5);
+    c = joined(joined(joined(c, 1, 2), 2, 3), 3, 4);
+    joined(joined(joined(c, 3, 7), 4, 5), 5, 6)
+}
+
+// The path 1-2-3-4-5, only 3 is Z, with units at 1 and 5.
+pub fn path() -> Case {
+    let mut c = with_zero(blank(5), 3);
+    c = joined(joined(joined(joined(c, 1, 2), 2, 3), 3, 4), 4, 5);
+    with_unit(with_unit(c, 1), 5)
+}
+
+// 64 Z buses in a row, with no unit.
+pub fn long_row() -> Case {
+    let mut c = with_zero(blank(64), 64);
+    for b in 1..64 {
+        c = with_zero(joined(c, b, b + 1), b);
+    }
+    c
+}
+
+// 64 buses with lines from each to the four that follow it, while there are any: 246 lines.
+pub fn band() -> Case {
+    let mut c = blank(64);
+    for a in 1..=64 {
+        c = joined(
+            joined(joined(joined(c, a, a + 1), a, a + 2), a, a + 3),
+            a,
+            a + 4,
+        );
+    }
+    c
+}
+
+// The band with ten lines more, from bus 1 to 10 .. 19: 256 lines.
+pub fn full() -> Case {
+    let mut c = band();
+    for b in 10..20 {
+        c = joined(c, 1, b);
+    }
+    c
+}
+
+// Two grids apart, 1-2-3 and 5-6, and bus 4 with no line.
+pub fn apart() -> Case {
+    joined(joined(joined(blank(6), 1, 2), 2, 3), 5, 6)
+}
+
+// 64 buses: bus 1 joined to each of the others.
+pub fn star() -> Case {
+    let mut c = blank(64);
+    for b in 2..=64 {
+        c = joined(c, 1, b);
+    }
+    c
+}

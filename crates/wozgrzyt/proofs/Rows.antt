@@ -1,0 +1,100 @@
+-- The table of starred grids, proved: each row by a test that the checker computes, and for an observed set the list that derives it.
+use mathlib.Core.Path.{_≡_, refl, sym, ap, _∙_}
+use mathlib.Core.List.{List, [], _∷_}
+use Prim.Native.Nat.{ℕ, zero, suc, _+_, _-_}
+use native.Mathlib.Omega.{arith}
+use lib.IntN.{ℤ, pos, negsuc}
+use lib.Count.{ones, onesIn}
+use Rattle.busset.specs.Sets.{Bus, bit, In, add, meet, lack, less, upTo, setOf}
+use Rattle.step.specs.declared.Reason.the-variants.{OwnUnit, NeighbourOf, ZeroInjection}
+use Rattle.step.specs.declared.Step.{Step}
+use Rattle.rules.specs.Grids.{total}
+use Rattle.rules.specs.Figures.{figure}
+use Rattle.rules.proofs.Tests.{gap, gap-none, isOne, given, subTest, holdsTest, acceptedTest, closedTest, leastTest, least-passes}
+use Rattle.grid.specs.declared.Case.{Case}
+use Rattle.grid.specs.Cases.{neighbours, gridOf, Valid}
+use Rattle.grid.proofs.Drawn.{withinTest, rowTest, validTest, valid-passes}
+use Rattle.wozgrzyt.specs.Replies.{stated}
+use Rattle.wozgrzyt.specs.Table.{Drawing, wordOf, caseOf, Row, observes, figures, Right, AllRight, seven, path, table}
+
+-- how far two integers are apart
+abbrev gapZ : ℤ → ℤ → ℕ
+gapZ (pos a) (pos b) = gap a b
+gapZ (pos a) (negsuc b) = 1
+gapZ (negsuc a) (pos b) = 1
+gapZ (negsuc a) (negsuc b) = gap a b
+
+gapZ-none : (y z : ℤ) → gapZ y z ≡ 0 → y ≡ z
+gapZ-none (pos a) (pos b) e = ap pos (gap-none a b e)
+gapZ-none (pos a) (negsuc b) e = absurd (omega arith)
+gapZ-none (negsuc a) (pos b) e = absurd (omega arith)
+gapZ-none (negsuc a) (negsuc b) e = ap negsuc (gap-none a b e)
+
+-- b is a bus 1 to n
+unfoldable busTest : ℕ → ℕ → ℕ
+busTest n b = (1 - b) + (b - n)
+
+bus-passes : (n b : ℕ) → busTest n b ≡ 0 → Bus n b
+unfolding busTest
+bus-passes n b e = record { some = omega arith; most = omega arith }
+
+-- ---- a row
+
+-- the test of a row; xs is the list that derives the set
+unfoldable wrong : Row → List Step → ℕ
+wrong (observes d bs) xs = validTest (caseOf d) + leastTest (gridOf (caseOf d)) xs (setOf (wordOf bs))
+wrong (figures d bs i j z) xs =
+    validTest (caseOf d) + busTest (d .n) i + busTest (d .n) j + (1 - bit (neighbours (caseOf d .nbr) i) j)
+    + gapZ (figure (neighbours (caseOf d .nbr)) (stated (caseOf d) (wordOf bs)) i j) z
+
+row-right : (r : Row) (xs : List Step) → wrong r xs ≡ 0 → Right r
+unfolding wrong
+row-right (observes d bs) xs e =
+    let v : Valid (caseOf d) = valid-passes (caseOf d) (omega arith) in
+    ((v, tt), least-passes (gridOf (caseOf d)) xs (setOf (wordOf bs)) (v .proper) (omega arith))
+row-right (figures d bs i j z) xs e =
+    let n = d .n in (
+      (valid-passes (caseOf d) (omega arith), ((bus-passes n i (omega arith), bus-passes n j (omega arith)), (omega arith, tt))),
+      sym (gapZ-none (figure (neighbours (caseOf d .nbr)) (stated (caseOf d) (wordOf bs)) i j) z (omega arith)),
+    )
+
+-- ---- the table
+
+unfoldable allWrong : List Row → List (List Step) → ℕ
+allWrong [] xss = 0
+allWrong (r ∷ rs) [] = 1
+allWrong (r ∷ rs) (xs ∷ xss) = wrong r xs + allWrong rs xss
+
+all-right : (rs : List Row) (xss : List (List Step)) → allWrong rs xss ≡ 0 → AllRight rs
+unfolding allWrong
+all-right [] xss e = tt
+all-right (r ∷ rs) [] e = absurd (omega arith)
+all-right (r ∷ rs) (xs ∷ xss) e = (row-right r xs (omega arith), all-right rs xss (omega arith))
+
+abbrev own : ℕ → Step
+own b = record { bus = b; reason = OwnUnit }
+
+abbrev near : ℕ → ℕ → Step
+near b p = record { bus = b; reason = NeighbourOf p }
+
+abbrev zeroAt : ℕ → ℕ → Step
+zeroAt b w = record { bus = b; reason = ZeroInjection w }
+
+-- for each row the list that derives its set
+abbrev derivations : List (List Step)
+derivations =
+    []
+    ∷ (near 1 2 ∷ own 2 ∷ near 3 2 ∷ [])
+    ∷ []
+    ∷ []
+    ∷ []
+    ∷ (near 2 3 ∷ own 3 ∷ zeroAt 1 2 ∷ near 4 3 ∷ near 7 3 ∷ [])
+    ∷ (near 3 4 ∷ own 4 ∷ near 5 4 ∷ zeroAt 6 5 ∷ [])
+    ∷ (own 1 ∷ near 2 1 ∷ near 3 4 ∷ own 4 ∷ near 5 4 ∷ zeroAt 6 5 ∷ zeroAt 7 3 ∷ [])
+    ∷ (own 1 ∷ near 2 1 ∷ near 4 5 ∷ own 5 ∷ [])
+    ∷ []
+
+-- every row of the table is right
+pub table-right : AllRight table
+unfolding allWrong wrong busTest validTest withinTest rowTest leastTest acceptedTest holdsTest closedTest subTest isOne gap given total neighbours setOf figure upTo less lack meet add ones onesIn
+table-right = all-right table derivations refl
