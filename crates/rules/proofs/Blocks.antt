@@ -5,7 +5,7 @@ use mathlib.Core.List.{List, [], _∷_}
 use Prim.Native.Nat.{ℕ, suc, _+_, _-_, _≤_, _<_, max, min, zero-le}
 use native.Mathlib.Omega.{arith}
 use lib.ListN.{length}
-use Rattle.busset.specs.Sets.{Bus, bit, In, Out, Sub, All, empty, add, lack, less, meet, size, Union}
+use Rattle.busset.specs.Sets.{Bus, bit, In, Out, Sub, Within, All, empty, add, lack, less, meet, size, Union}
 use Rattle.busset.proofs.Tests.{below-or, same-or}
 use Rattle.busset.proofs.Digits.{bit-zero}
 use Rattle.busset.proofs.Members.{in-or, out-of, sub-of, lack-at, less-there, meet-at, add-here, add-grows, add-again}
@@ -173,3 +173,16 @@ cover-other {g} {sites} {rest} {k} {v} x y w h sub gives = record {
       (λ (ne : z ≡ x → ⊥). idle z (omega (arith, add-grows (less v x) y z, less-there v x z ne)))
       (same-or z x));
 }
+
+-- ---- every cover has a unit that observes directly some bus of a blocking set
+
+pub cover-meets : {g : Grid} {a d sites k v b : ℕ} → Proper g → All (g .n) a → Blocking g d → Bus (g .n) b → In d b → Cover g sites k v → Within (g .n) sites
+    → ((x : ℕ) → In v x → Misses (g .nbr) d x) → ⊥
+cover-meets {g} {a} {d} {sites} {k} {v} {b} p all bl bus h c within misses =
+    cover-not-idle c (blocks-closed all p bl) (λ full. omega (arith, full b bus, lack-at a d b)) idle
+  where
+    idle : (x : ℕ) → In v x → Idle (g .nbr) (lack a d) x
+    idle x i = record {
+      own = omega (arith, lack-at a d x, all .has x (within x (let sub = c .of x in omega arith)), misses x i .own);
+      near = sub-of (g .nbr x) (lack a d) (λ y j. omega (arith, lack-at a d y, all .has y (p .lines x y j .to), misses x i .near y j));
+    }

@@ -5,9 +5,10 @@ pub mod Lists
 pub mod Derivations
 pub mod Shuffles
 pub mod Figures
-pub mod Tests
 pub mod Covering
 pub mod Ordering
 pub mod Searching
 pub mod Blocks
 pub mod Choices
+pub mod Tests
+pub mod Sought

@@ -1,6 +1,7 @@
 pub mod Uniqueness
 pub mod ListUniqueness
-pub mod Demands
-pub mod Rows
 pub mod SitingUniqueness
 pub mod TextUniqueness
+pub mod Demands
+pub mod SitingRows
+pub mod Rows

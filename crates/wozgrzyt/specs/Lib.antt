@@ -1,6 +1,6 @@
 pub mod Replies
 pub mod ListReplies
-pub mod Demands
-pub mod Table
 pub mod SitingReplies
 pub mod TextReplies
+pub mod Demands
+pub mod Table
