@@ -16,12 +16,14 @@ use Rattle.rules.specs.Grids.{total}
 use Rattle.rules.specs.Steps.{Names, ReasonNames}
 use Rattle.rules.specs.Figures.{figure}
 use Rattle.rules.proofs.Tests.{gap, gap-none, isOne, given, subTest, holdsTest, acceptedTest, closedTest, leastTest, least-passes, holds-tests}
+use Rattle.rules.proofs.Sought.{Sought, pick, reasonFor, reasonAt, stepFor, passFrom, extended, derive, confirmTest, aloneTest, unconfirmedTest, noBetter, bestTest, noneTest, greedyTest, after, none, some, judged, judge, orElse, choose, seek, firstOf, smallest}
 use Rattle.grid.specs.declared.Case.{Case}
 use Rattle.grid.proofs.Orders.{itself}
 use Rattle.grid.specs.Cases.{neighbours, gridOf, Valid}
 use Rattle.grid.proofs.Drawn.{withinTest, rowTest, validTest, valid-passes}
 use Rattle.wozgrzyt.specs.Replies.{stated}
-use Rattle.wozgrzyt.specs.Table.{Drawing, wordOf, caseOf, Row, observes, figures, fails, Right, AllRight, seven, path, table}
+use Rattle.wozgrzyt.proofs.SitingRows.{grid, free, verdict-right, greedy-right, fewest-right, uncovered-right}
+use Rattle.wozgrzyt.specs.Table.{Drawing, wordOf, caseOf, Row, observes, figures, fails, unconfirmed, adds, fewestIs, uncovered, Right, AllRight, seven, path, table}
 
 -- how far two integers are apart
 abbrev gapZ : ℤ → ℤ → ℕ
@@ -35,6 +37,19 @@ gapZ-none (pos a) (pos b) e = ap pos (gap-none a b e)
 gapZ-none (pos a) (negsuc b) e = absurd (omega arith)
 gapZ-none (negsuc a) (pos b) e = absurd (omega arith)
 gapZ-none (negsuc a) (negsuc b) e = ap negsuc (gap-none a b e)
+
+-- how far two answers of a search are apart
+abbrev gapSought : Sought → Sought → ℕ
+gapSought none none = 0
+gapSought none (some b) = 1
+gapSought (some a) none = 1
+gapSought (some a) (some b) = gap a b
+
+gapSought-none : (a b : Sought) → gapSought a b ≡ 0 → a ≡ b
+gapSought-none none none e = refl
+gapSought-none none (some b) e = absurd (omega arith)
+gapSought-none (some a) none e = absurd (omega arith)
+gapSought-none (some a) (some b) e = ap some (gap-none a b e)
 
 -- b is a bus 1 to n
 unfoldable busTest : ℕ → ℕ → ℕ
@@ -71,6 +86,10 @@ wrong (figures d bs i j z) xs =
     validTest (caseOf d) + busTest (d .n) i + busTest (d .n) j + (1 - bit (neighbours (caseOf d .nbr) i) j)
     + gapZ (figure (neighbours (caseOf d .nbr)) (stated (caseOf d) (wordOf bs)) i j) z
 wrong (fails d x) xs = validTest (caseOf d) + namesTest (d .n) x + (1 - holdsTest (gridOf (caseOf d)) empty (x .bus) (x .reason))
+wrong (unconfirmed d bs) xs = validTest (caseOf d) + withinTest (d .n) (wordOf bs) + unconfirmedTest (grid d) (setOf (wordOf bs))
+wrong (adds d budget ss) xs = validTest (caseOf d) + (budget - 64) + greedyTest (grid d) budget ss
+wrong (fewestIs d budget bs) xs = validTest (caseOf d) + (budget - 8) + gapSought (smallest (grid d) (free d) (budget + 1) 0) (some (setOf (wordOf bs)))
+wrong (uncovered d budget) xs = validTest (caseOf d) + (budget - 8) + gapSought (smallest (grid d) (free d) (budget + 1) 0) none
 
 row-right : (r : Row) (xs : List Step) → wrong r xs ≡ 0 → Right r
 unfolding wrong
@@ -85,6 +104,10 @@ row-right (figures d bs i j z) xs e =
 row-right (fails d x) xs e =
     let v : Valid (caseOf d) = valid-passes (caseOf d) (omega arith) in
     inr (v, inr (lit≤ tt, inr (names-pass (d .n) x (omega arith), inr (bit-zero (x .bus), inl (λ h. omega (arith, holds-tests (gridOf (caseOf d)) empty (x .bus) (v .proper) (x .reason) h), itself _)))))
+row-right (unconfirmed d bs) xs e = verdict-right d bs e
+row-right (adds d budget ss) xs e = greedy-right d budget ss e
+row-right (fewestIs d budget bs) xs e = fewest-right d budget bs (omega arith) (gapSought-none (smallest (grid d) (free d) (budget + 1) 0) (some (setOf (wordOf bs))) (omega arith))
+row-right (uncovered d budget) xs e = uncovered-right d budget (omega arith) (gapSought-none (smallest (grid d) (free d) (budget + 1) 0) none (omega arith))
 
 -- ---- the table
 
@@ -122,8 +145,15 @@ derivations =
     ∷ (own 1 ∷ near 2 1 ∷ near 4 5 ∷ own 5 ∷ [])
     ∷ []
     ∷ []
+    ∷ []
+    ∷ []
+    ∷ []
+    ∷ []
+    ∷ []
+    ∷ []
+    ∷ []
 
 -- every row of the table is right
 pub table-right : AllRight table
-unfolding allWrong wrong busTest reasonTest namesTest validTest withinTest rowTest leastTest acceptedTest holdsTest closedTest subTest isOne gap given total neighbours setOf figure upTo less lack meet add ones onesIn
+unfolding allWrong wrong busTest reasonTest namesTest validTest withinTest rowTest leastTest acceptedTest holdsTest closedTest subTest isOne gap given total neighbours setOf figure upTo less lack meet add ones onesIn pick reasonFor reasonAt stepFor passFrom extended derive confirmTest aloneTest unconfirmedTest noBetter bestTest noneTest greedyTest after judged judge orElse choose seek firstOf smallest
 table-right = all-right table derivations refl

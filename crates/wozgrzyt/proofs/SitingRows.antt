@@ -1,38 +1,36 @@
--- The starred rows of the siting group's calls, proved: each by a test that the checker computes.
+-- The rows of the table that the siting group's calls answer, each from a test that the checker computes.
 use mathlib.Core.Path.{_≡_, refl, subst}
 use mathlib.Core.List.{List, [], _∷_, _++_}
 use mathlib.Core.Logic.{inl, inr}
 use Prim.Native.Nat.{ℕ, zero, suc, _+_, _-_, _^_, _≤_, _<_}
 use native.Mathlib.Omega.{arith}
 use lib.ListN.{length, drop}
-use lib.Count.{ones, onesIn}
-use Rattle.busset.specs.Sets.{add, meet, lack, less, upTo, setOf}
+use Rattle.busset.specs.Sets.{lack, setOf}
 use Rattle.busset.proofs.Members.{lack-at}
 use Rattle.busset.proofs.Words.{set-bus}
-use Rattle.rules.specs.Grids.{Grid, total}
+use Rattle.rules.specs.Grids.{Grid}
 use Rattle.rules.specs.Placing as placing
 use Rattle.rules.proofs.Choices.{greedy-unique}
 use Rattle.rules.proofs.Ordering.{fewest-some}
-use Rattle.rules.proofs.Tests.{gap, isOne, given, subTest, holdsTest, acceptedTest, closedTest, leastTest}
-use Rattle.rules.proofs.Sought.{pick, reasonFor, reasonAt, stepFor, passFrom, extended, derive, confirmTest, aloneTest, unconfirmedTest, unconfirmed-passes, noBetter, bestTest, noneTest, greedyTest, greedy-passes, after, none, some, judged, judge, orElse, choose, seek, firstOf, smallest, fewest-passes}
+use Rattle.rules.proofs.Sought.{unconfirmedTest, unconfirmed-passes, greedyTest, greedy-passes, none, some, smallest, fewest-passes}
 use Rattle.grid.specs.declared.Case.{Case}
 use Rattle.grid.specs.declared.refusal.Refusal.the-variants.{NoCover}
-use Rattle.grid.specs.Cases.{neighbours, gridOf, Valid}
+use Rattle.grid.specs.Cases.{gridOf, Valid}
 use Rattle.grid.proofs.Orders.{itself}
-use Rattle.grid.proofs.Drawn.{withinTest, rowTest, validTest, valid-passes}
+use Rattle.grid.proofs.Drawn.{withinTest, validTest, valid-passes}
 use Rattle.wozgrzyt.specs.declared.siting.Verdict.the-variants as verdict
 use Rattle.wozgrzyt.specs.declared.siting.Greedy.the-variants as greedy
 use Rattle.wozgrzyt.specs.declared.siting.Fewest.the-variants as fewest
 use Rattle.wozgrzyt.specs.SitingReplies.{VerdictReply, GreedyReply, FewestReply}
-use Rattle.wozgrzyt.specs.Table.{Drawing, wordOf, caseOf, seven}
+use Rattle.wozgrzyt.specs.Table.{Drawing, wordOf, caseOf}
 
 -- ---- a row, from its test
 
-abbrev grid : Drawing → Grid
+abbrev pub grid : Drawing → Grid
 grid d = gridOf (caseOf d)
 
 -- the sites where a new unit may go
-abbrev free : Drawing → ℕ
+abbrev pub free : Drawing → ℕ
 free d = lack (grid d .site) (grid d .units)
 
 fits : (n w : ℕ) → withinTest n w ≡ 0 → w < 2 ^ n
@@ -65,34 +63,3 @@ pub uncovered-right : (d : Drawing) (budget : ℕ) → validTest (caseOf d) + (b
 uncovered-right d budget e found =
     let v : Valid (caseOf d) = valid-passes (caseOf d) (omega arith) in
     inr (v, inr (omega arith, inl (fewest-passes (grid d) (v .proper) (free d) (record { at = lack-at (grid d .site) (grid d .units) }) budget none found, itself _)))
-
--- ---- the starred rows, on the seven buses
-
-pub verdict-none : VerdictReply (caseOf (seven [])) (verdict.Unconfirmed (wordOf []))
-unfolding validTest withinTest rowTest gap isOne given subTest holdsTest acceptedTest closedTest leastTest pick reasonFor reasonAt stepFor passFrom extended derive confirmTest aloneTest unconfirmedTest noBetter bestTest noneTest greedyTest after judged judge orElse choose seek firstOf smallest total neighbours setOf upTo less lack meet add ones onesIn
-verdict-none = verdict-right (seven []) [] refl
-
-pub verdict-3-4 : VerdictReply (caseOf (seven (3 ∷ 4 ∷ []))) (verdict.Unconfirmed (wordOf []))
-unfolding validTest withinTest rowTest gap isOne given subTest holdsTest acceptedTest closedTest leastTest pick reasonFor reasonAt stepFor passFrom extended derive confirmTest aloneTest unconfirmedTest noBetter bestTest noneTest greedyTest after judged judge orElse choose seek firstOf smallest total neighbours setOf upTo less lack meet add ones onesIn
-verdict-3-4 = verdict-right (seven (3 ∷ 4 ∷ [])) [] refl
-
-pub verdict-2-4 : VerdictReply (caseOf (seven (2 ∷ 4 ∷ []))) (verdict.Unconfirmed (wordOf []))
-unfolding validTest withinTest rowTest gap isOne given subTest holdsTest acceptedTest closedTest leastTest pick reasonFor reasonAt stepFor passFrom extended derive confirmTest aloneTest unconfirmedTest noBetter bestTest noneTest greedyTest after judged judge orElse choose seek firstOf smallest total neighbours setOf upTo less lack meet add ones onesIn
-verdict-2-4 = verdict-right (seven (2 ∷ 4 ∷ [])) [] refl
-
-pub verdict-1-4 : VerdictReply (caseOf (seven (1 ∷ 4 ∷ []))) (verdict.Unconfirmed (wordOf (1 ∷ 4 ∷ [])))
-unfolding validTest withinTest rowTest gap isOne given subTest holdsTest acceptedTest closedTest leastTest pick reasonFor reasonAt stepFor passFrom extended derive confirmTest aloneTest unconfirmedTest noBetter bestTest noneTest greedyTest after judged judge orElse choose seek firstOf smallest total neighbours setOf upTo less lack meet add ones onesIn
-verdict-1-4 = verdict-right (seven (1 ∷ 4 ∷ [])) (1 ∷ 4 ∷ []) refl
-
--- greedy from no units with 2 gives 3, 4: into any room with two places
-pub greedy-2 : (entry : List ℕ) → 2 ≤ length entry → GreedyReply (caseOf (seven [])) 2 entry (3 ∷ 4 ∷ drop 2 entry) (greedy.Added 2)
-unfolding validTest withinTest rowTest gap isOne given subTest holdsTest acceptedTest closedTest leastTest pick reasonFor reasonAt stepFor passFrom extended derive confirmTest aloneTest unconfirmedTest noBetter bestTest noneTest greedyTest after judged judge orElse choose seek firstOf smallest total neighbours setOf upTo less lack meet add ones onesIn
-greedy-2 = greedy-right (seven []) 2 (3 ∷ 4 ∷ []) refl
-
-pub fewest-2 : FewestReply (caseOf (seven [])) 2 (fewest.Sites (wordOf (1 ∷ 4 ∷ [])))
-unfolding validTest withinTest rowTest gap isOne given subTest holdsTest acceptedTest closedTest leastTest pick reasonFor reasonAt stepFor passFrom extended derive confirmTest aloneTest unconfirmedTest noBetter bestTest noneTest greedyTest after judged judge orElse choose seek firstOf smallest total neighbours setOf upTo less lack meet add ones onesIn
-fewest-2 = fewest-right (seven []) 2 (1 ∷ 4 ∷ []) refl refl
-
-pub fewest-1 : FewestReply (caseOf (seven [])) 1 (fewest.Refused NoCover)
-unfolding validTest withinTest rowTest gap isOne given subTest holdsTest acceptedTest closedTest leastTest pick reasonFor reasonAt stepFor passFrom extended derive confirmTest aloneTest unconfirmedTest noBetter bestTest noneTest greedyTest after judged judge orElse choose seek firstOf smallest total neighbours setOf upTo less lack meet add ones onesIn
-fewest-1 = uncovered-right (seven []) 1 refl refl

@@ -1,18 +1,23 @@
 -- The starred grids of document 01, as one table under one statement: each row is a question of a public call, with the reply that its promise asks.
-use mathlib.Core.List.{List, [], _∷_, map}
+use mathlib.Core.List.{List, [], _∷_, _++_}
 use mathlib.Core.Bool.{cond}
-use Prim.Native.Nat.{ℕ, zero, suc, _+_, _-_, _*_, _^_}
+use Prim.Native.Nat.{ℕ, zero, suc, _+_, _-_, _^_, _≤_}
 use lib.Dec.{eqb}
 use lib.IntN.{ℤ, pos, negsuc}
+use lib.ListN.{length, drop}
 use Rattle.step.specs.declared.Reason.the-variants.{ZeroInjection}
 use Rattle.step.specs.declared.Step.{Step}
 use Rattle.grid.specs.declared.Case.{Case}
-use Rattle.grid.specs.declared.refusal.Refusal.the-variants.{ReasonFails}
+use Rattle.grid.specs.declared.refusal.Refusal.the-variants.{ReasonFails, NoCover}
 use Rattle.following.specs.Replies.{ReplayReply}
 use Rattle.following.specs.declared.Replayed.the-variants as replayed
 use Rattle.wozgrzyt.specs.declared.Observed.the-variants as observed
 use Rattle.wozgrzyt.specs.declared.Figured.the-variants as figured
+use Rattle.wozgrzyt.specs.declared.siting.Verdict.the-variants as verdict
+use Rattle.wozgrzyt.specs.declared.siting.Greedy.the-variants as greedy
+use Rattle.wozgrzyt.specs.declared.siting.Fewest.the-variants as fewest
 use Rattle.wozgrzyt.specs.Replies.{ObservedReply, FigureReply}
+use Rattle.wozgrzyt.specs.SitingReplies.{VerdictReply, GreedyReply, FewestReply}
 
 -- ---- a grid, drawn
 
@@ -51,12 +56,25 @@ pub data Row : Type 0 where
   figures : Drawing → List ℕ → ℕ → ℕ → ℤ → Row
   -- the list of this step alone is refused 9 at step 1
   fails : Drawing → Step → Row
+  -- the units that no other unit confirms
+  unconfirmed : Drawing → List ℕ → Row
+  -- what greedy adds with a budget, in the order added, in any room for it
+  adds : Drawing → ℕ → List ℕ → Row
+  -- the fewest with a budget
+  fewestIs : Drawing → ℕ → List ℕ → Row
+  -- no addition within the budget covers: refusal 11
+  uncovered : Drawing → ℕ → Row
 
 -- the row's reply is the one that the call's promise asks
 abbrev pub Right : Row → Type 0
 Right (observes d bs) = ObservedReply (caseOf d) (observed.Set (wordOf bs))
 Right (figures d bs i j z) = FigureReply (caseOf d) (wordOf bs) i j (figured.Figure z)
 Right (fails d x) = ReplayReply (caseOf d) (x ∷ []) (replayed.Refused (ReasonFails 1))
+Right (unconfirmed d bs) = VerdictReply (caseOf d) (verdict.Unconfirmed (wordOf bs))
+Right (adds d budget xs) =
+    (entry : List ℕ) → length xs ≤ length entry → GreedyReply (caseOf d) budget entry (xs ++ drop (length xs) entry) (greedy.Added (length xs))
+Right (fewestIs d budget bs) = FewestReply (caseOf d) budget (fewest.Sites (wordOf bs))
+Right (uncovered d budget) = FewestReply (caseOf d) budget (fewest.Refused NoCover)
 
 -- and so for every row
 abbrev pub AllRight : List Row → Type 0
@@ -92,4 +110,11 @@ table =
     ∷ observes (seven (1 ∷ 4 ∷ [])) (1 ∷ 2 ∷ 3 ∷ 4 ∷ 5 ∷ 6 ∷ 7 ∷ [])
     ∷ observes path (1 ∷ 2 ∷ 4 ∷ 5 ∷ [])
     ∷ fails (seven (3 ∷ [])) (record { bus = 1; reason = ZeroInjection 2 })
+    ∷ unconfirmed (seven []) []
+    ∷ unconfirmed (seven (3 ∷ 4 ∷ [])) []
+    ∷ unconfirmed (seven (2 ∷ 4 ∷ [])) []
+    ∷ unconfirmed (seven (1 ∷ 4 ∷ [])) (1 ∷ 4 ∷ [])
+    ∷ adds (seven []) 2 (3 ∷ 4 ∷ [])
+    ∷ fewestIs (seven []) 2 (1 ∷ 4 ∷ [])
+    ∷ uncovered (seven []) 1
     ∷ []

@@ -1,8 +1,8 @@
 // The face: every public call. None has a requirement; each checks for itself.
 ghost use Rattle.wozgrzyt.specs.Replies.{ObservedReply, FigureReply, StepReply};
 
-pub mod steps;
 pub mod siting;
+pub mod steps;
 pub mod texts;
 
 pub use busset::BusSet;
