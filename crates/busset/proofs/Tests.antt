@@ -32,6 +32,16 @@ decides-no f = record { yes = λ e. absurd (true-is-not-false (sym e)); no = λ 
 pub decides-yes : {P : Type 0} → P → Decides P true
 decides-yes p = record { yes = λ e. p; no = λ q. refl }
 
+-- two answers to one question are the same
+pub decides-same : {P : Type 0} {r q : Bool} → Decides P r → Decides P q → r ≡ q
+decides-same {P} {r} {q} d e = go r q d e
+  where
+    go : (r q : Bool) → Decides P r → Decides P q → r ≡ q
+    go true true d e = refl
+    go true false d e = absurd (true-is-not-false (sym (e .no (d .yes refl))))
+    go false true d e = absurd (true-is-not-false (sym (d .no (e .yes refl))))
+    go false false d e = refl
+
 -- ---- cases
 
 pub below-or : (i k : ℕ) → (i < k) ⊎ (k ≤ i)

@@ -59,3 +59,7 @@ names-more {n} {m} {x} h l = record { bus = bus-more (h .bus) l; reason = go (x 
     go OwnUnit q = tt
     go (NeighbourOf p) q = bus-more q l
     go (ZeroInjection w) q = bus-more q l
+
+-- an allowed step names buses of the grid
+pub allowed-names : {g : Grid} {s : ℕ} {x : Step} → Proper g → Allowed g s x → Names (g .n) x
+allowed-names {g} {s} {x} v a = record { bus = allowed-bus v a; reason = holds-names g s (x .bus) v (x .reason) (a .holds) }

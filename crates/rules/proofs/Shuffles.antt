@@ -114,6 +114,14 @@ module _ (P : Step → Type 0) where
   shuffle-from (none {xss = xss} e) q = absurd (none-left xss e q)
   shuffle-from (next k r) q = ⊎-elim (λ p. inl p) (λ t. inr (shuffle-from r t)) (taken-from k q)
 
+  taken-each : {x : Step} {xss yss : List (List Step)} → Taken x xss yss → Each (Each P) xss → P x × Each (Each P) yss
+  taken-each here e = (e .0 .0, (e .0 .1, e .1))
+  taken-each (there k) e = let r = taken-each k (e .1) in (r .0, (e .0, r .1))
+
+  pub shuffle-each : {xss : List (List Step)} {zs : List Step} → Shuffle xss zs → Each (Each P) xss → Each P zs
+  shuffle-each (none e) q = tt
+  shuffle-each (next k r) q = let t = taken-each k q in (t .0, shuffle-each r (t .1))
+
 -- ---- several desks
 
 some-to : {P Q : List Step → Type 0} (xss : List (List Step)) → ((xs : List Step) → P xs → Q xs) → Some P xss → Some Q xss
@@ -139,6 +147,7 @@ pub weaving-shuffles : (g : Grid) (desks : List (List Step)) (received : List St
 weaving-shuffles g desks received ok sh = record {
   weavable = fine;
   accepted = out .0;
+  reaches = out .1;
   all = all;
   only = only;
   each-once = accepted-length g (woven received) (out .0);

@@ -6,7 +6,7 @@ use Prim.Native.Nat.{ℕ, zero, suc, _+_, _-_, _*_, _≤_, _<_}
 use native.Mathlib.Omega.{arith}
 use Rattle.busset.specs.Sets.{Bus, bit, In, Out, Sub, Within, empty, add, lack, less, size}
 use Rattle.busset.proofs.Tests.{same-or, below-or}
-use Rattle.busset.proofs.Members.{sub-of, less-there, less-sub}
+use Rattle.busset.proofs.Members.{in-or, sub-of, less-here, less-there, less-sub}
 use Rattle.step.specs.declared.Reason.{Reason}
 use Rattle.step.specs.declared.Reason.the-variants.{OwnUnit, NeighbourOf, ZeroInjection}
 use Rattle.step.specs.declared.Step.{Step}
@@ -86,6 +86,29 @@ holds-passes g s b v (ZeroInjection w) e = record {
   where
     within : Within (g .n) (less (g .nbr w) b)
     within a h = v .lines w a (omega (arith, less-sub (g .nbr w) b a)) .to
+
+-- and the test passes wherever the reason holds
+total-pass : (n : ℕ) (f : ℕ → ℕ) → ((b : ℕ) → f b ≡ 0) → total n f ≡ 0
+unfolding total
+total-pass zero f h = refl
+total-pass (suc n) f h = omega (arith, total-pass n f h, h (suc n))
+
+pub holds-tests : (g : Grid) (s b : ℕ) → Proper g → (r : Reason) → Holds g s b r → holdsTest g s b r ≡ 0
+unfolding holdsTest subTest
+holds-tests g s b v OwnUnit h = omega arith
+holds-tests g s b v (NeighbourOf p) h = omega (arith, h .unit, h .joined)
+holds-tests g s b v (ZeroInjection w) h =
+    omega (arith, h .class, h .observed, h .joined, total-pass (g .n) (λ a. bit (less (g .nbr w) b) a - bit s a) known)
+  where
+    known : (a : ℕ) → bit (less (g .nbr w) b) a - bit s a ≡ 0
+    known a =
+        ⊎-elim
+        (λ (e : a ≡ b). subst⁻¹ (λ (x : ℕ). bit (less (g .nbr w) b) x - bit s x ≡ 0) e (omega (arith, less-here (g .nbr w) b)))
+        (λ (ne : a ≡ b → ⊥). ⊎-elim
+        (λ (p : In (g .nbr w) a). omega (arith, h .others a p ne))
+        (λ (p : Out (g .nbr w) a). omega (arith, less-there (g .nbr w) b a ne))
+        (in-or (g .nbr w) a))
+        (same-or a b)
 
 -- each step is allowed where it stands
 unfoldable pub acceptedTest : Grid → ℕ → List Step → ℕ

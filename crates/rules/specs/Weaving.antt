@@ -65,6 +65,8 @@ pub record Woven (g : Grid) (desks : List (List Step)) (received : List Step) : 
   pub weavable : Weavable g received
   -- it writes a list that is itself accepted
   pub accepted : Accepted g (woven received)
+  -- which reaches what the received list names
+  pub reaches : reached (woven received) ≡ reached received
   -- it ends with exactly the buses at least one desk observed
   pub all : (b : ℕ) → Some (λ xs. In (reached xs) b) desks → In (reached (woven received)) b
   pub only : (b : ℕ) → In (reached (woven received)) b → Some (λ xs. In (reached xs) b) desks

@@ -1,2 +1,4 @@
 pub mod Uniqueness
+pub mod ListUniqueness
+pub mod Demands
 pub mod Rows

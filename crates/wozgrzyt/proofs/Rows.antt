@@ -1,21 +1,27 @@
 -- The table of starred grids, proved: each row by a test that the checker computes, and for an observed set the list that derives it.
 use mathlib.Core.Path.{_≡_, refl, sym, ap, _∙_}
 use mathlib.Core.List.{List, [], _∷_}
+use mathlib.Core.Logic.{inl, inr}
 use Prim.Native.Nat.{ℕ, zero, suc, _+_, _-_}
 use native.Mathlib.Omega.{arith}
+use lib.Dec.{lit≤}
 use lib.IntN.{ℤ, pos, negsuc}
 use lib.Count.{ones, onesIn}
-use Rattle.busset.specs.Sets.{Bus, bit, In, add, meet, lack, less, upTo, setOf}
+use Rattle.busset.specs.Sets.{Bus, bit, In, empty, add, meet, lack, less, upTo, setOf}
+use Rattle.busset.proofs.Digits.{bit-zero}
+use Rattle.step.specs.declared.Reason.{Reason}
 use Rattle.step.specs.declared.Reason.the-variants.{OwnUnit, NeighbourOf, ZeroInjection}
 use Rattle.step.specs.declared.Step.{Step}
 use Rattle.rules.specs.Grids.{total}
+use Rattle.rules.specs.Steps.{Names, ReasonNames}
 use Rattle.rules.specs.Figures.{figure}
-use Rattle.rules.proofs.Tests.{gap, gap-none, isOne, given, subTest, holdsTest, acceptedTest, closedTest, leastTest, least-passes}
+use Rattle.rules.proofs.Tests.{gap, gap-none, isOne, given, subTest, holdsTest, acceptedTest, closedTest, leastTest, least-passes, holds-tests}
 use Rattle.grid.specs.declared.Case.{Case}
+use Rattle.grid.proofs.Orders.{itself}
 use Rattle.grid.specs.Cases.{neighbours, gridOf, Valid}
 use Rattle.grid.proofs.Drawn.{withinTest, rowTest, validTest, valid-passes}
 use Rattle.wozgrzyt.specs.Replies.{stated}
-use Rattle.wozgrzyt.specs.Table.{Drawing, wordOf, caseOf, Row, observes, figures, Right, AllRight, seven, path, table}
+use Rattle.wozgrzyt.specs.Table.{Drawing, wordOf, caseOf, Row, observes, figures, fails, Right, AllRight, seven, path, table}
 
 -- how far two integers are apart
 abbrev gapZ : ℤ → ℤ → ℕ
@@ -38,6 +44,24 @@ bus-passes : (n b : ℕ) → busTest n b ≡ 0 → Bus n b
 unfolding busTest
 bus-passes n b e = record { some = omega arith; most = omega arith }
 
+-- the step names buses 1 to n
+unfoldable reasonTest : ℕ → Reason → ℕ
+reasonTest n OwnUnit = 0
+reasonTest n (NeighbourOf p) = busTest n p
+reasonTest n (ZeroInjection w) = busTest n w
+
+unfoldable namesTest : ℕ → Step → ℕ
+namesTest n x = busTest n (x .bus) + reasonTest n (x .reason)
+
+names-pass : (n : ℕ) (x : Step) → namesTest n x ≡ 0 → Names n x
+unfolding namesTest reasonTest
+names-pass n x e = record { bus = bus-passes n (x .bus) (omega arith); reason = go (x .reason) (omega arith) }
+  where
+    go : (r : Reason) → reasonTest n r ≡ 0 → ReasonNames n r
+    go OwnUnit e = tt
+    go (NeighbourOf p) e = bus-passes n p e
+    go (ZeroInjection w) e = bus-passes n w e
+
 -- ---- a row
 
 -- the test of a row; xs is the list that derives the set
@@ -46,6 +70,7 @@ wrong (observes d bs) xs = validTest (caseOf d) + leastTest (gridOf (caseOf d)) 
 wrong (figures d bs i j z) xs =
     validTest (caseOf d) + busTest (d .n) i + busTest (d .n) j + (1 - bit (neighbours (caseOf d .nbr) i) j)
     + gapZ (figure (neighbours (caseOf d .nbr)) (stated (caseOf d) (wordOf bs)) i j) z
+wrong (fails d x) xs = validTest (caseOf d) + namesTest (d .n) x + (1 - holdsTest (gridOf (caseOf d)) empty (x .bus) (x .reason))
 
 row-right : (r : Row) (xs : List Step) → wrong r xs ≡ 0 → Right r
 unfolding wrong
@@ -57,6 +82,9 @@ row-right (figures d bs i j z) xs e =
       (valid-passes (caseOf d) (omega arith), ((bus-passes n i (omega arith), bus-passes n j (omega arith)), (omega arith, tt))),
       sym (gapZ-none (figure (neighbours (caseOf d .nbr)) (stated (caseOf d) (wordOf bs)) i j) z (omega arith)),
     )
+row-right (fails d x) xs e =
+    let v : Valid (caseOf d) = valid-passes (caseOf d) (omega arith) in
+    inr (v, inr (lit≤ tt, inr (names-pass (d .n) x (omega arith), inr (bit-zero (x .bus), inl (λ h. omega (arith, holds-tests (gridOf (caseOf d)) empty (x .bus) (v .proper) (x .reason) h), itself _)))))
 
 -- ---- the table
 
@@ -93,8 +121,9 @@ derivations =
     ∷ (own 1 ∷ near 2 1 ∷ near 3 4 ∷ own 4 ∷ near 5 4 ∷ zeroAt 6 5 ∷ zeroAt 7 3 ∷ [])
     ∷ (own 1 ∷ near 2 1 ∷ near 4 5 ∷ own 5 ∷ [])
     ∷ []
+    ∷ []
 
 -- every row of the table is right
 pub table-right : AllRight table
-unfolding allWrong wrong busTest validTest withinTest rowTest leastTest acceptedTest holdsTest closedTest subTest isOne gap given total neighbours setOf figure upTo less lack meet add ones onesIn
+unfolding allWrong wrong busTest reasonTest namesTest validTest withinTest rowTest leastTest acceptedTest holdsTest closedTest subTest isOne gap given total neighbours setOf figure upTo less lack meet add ones onesIn
 table-right = all-right table derivations refl

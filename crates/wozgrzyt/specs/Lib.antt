@@ -1,2 +1,4 @@
 pub mod Replies
+pub mod ListReplies
+pub mod Demands
 pub mod Table

@@ -4,7 +4,12 @@ use mathlib.Core.Bool.{cond}
 use Prim.Native.Nat.{ℕ, zero, suc, _+_, _-_, _*_, _^_}
 use lib.Dec.{eqb}
 use lib.IntN.{ℤ, pos, negsuc}
+use Rattle.step.specs.declared.Reason.the-variants.{ZeroInjection}
+use Rattle.step.specs.declared.Step.{Step}
 use Rattle.grid.specs.declared.Case.{Case}
+use Rattle.grid.specs.declared.refusal.Refusal.the-variants.{ReasonFails}
+use Rattle.following.specs.Replies.{ReplayReply}
+use Rattle.following.specs.declared.Replayed.the-variants as replayed
 use Rattle.wozgrzyt.specs.declared.Observed.the-variants as observed
 use Rattle.wozgrzyt.specs.declared.Figured.the-variants as figured
 use Rattle.wozgrzyt.specs.Replies.{ObservedReply, FigureReply}
@@ -44,11 +49,14 @@ pub data Row : Type 0 where
   observes : Drawing → List ℕ → Row
   -- the firing figure of bus i towards j where these buses are observed
   figures : Drawing → List ℕ → ℕ → ℕ → ℤ → Row
+  -- the list of this step alone is refused 9 at step 1
+  fails : Drawing → Step → Row
 
 -- the row's reply is the one that the call's promise asks
 abbrev pub Right : Row → Type 0
 Right (observes d bs) = ObservedReply (caseOf d) (observed.Set (wordOf bs))
 Right (figures d bs i j z) = FigureReply (caseOf d) (wordOf bs) i j (figured.Figure z)
+Right (fails d x) = ReplayReply (caseOf d) (x ∷ []) (replayed.Refused (ReasonFails 1))
 
 -- and so for every row
 abbrev pub AllRight : List Row → Type 0
@@ -83,4 +91,5 @@ table =
     ∷ observes (seven (4 ∷ [])) (3 ∷ 4 ∷ 5 ∷ 6 ∷ [])
     ∷ observes (seven (1 ∷ 4 ∷ [])) (1 ∷ 2 ∷ 3 ∷ 4 ∷ 5 ∷ 6 ∷ 7 ∷ [])
     ∷ observes path (1 ∷ 2 ∷ 4 ∷ 5 ∷ [])
+    ∷ fails (seven (3 ∷ [])) (record { bus = 1; reason = ZeroInjection 2 })
     ∷ []

@@ -1,10 +1,21 @@
 // The face: every public call. None has a requirement; each checks for itself.
 ghost use Rattle.wozgrzyt.specs.Replies.{ObservedReply, FigureReply, StepReply};
+
+pub mod steps;
+
 pub use busset::BusSet;
+pub use desks::replay;
+pub use desks::weave;
+pub use following::Replayed;
+pub use following::Wove;
+pub use following::lists::StepList;
 pub use grid::Case;
 pub use grid::Refusal;
 pub use step::Reason;
 pub use step::Step;
+pub use steps::DerivationAnswer;
+pub use steps::Derived;
+pub use steps::derivation;
 
 pub enum Observed {
     Set(BusSet),
