@@ -31,14 +31,14 @@ use denote.Laws.{Is, shows}
 use denote.Ref.{RefT}
 use denote.Slice.{sliceTy, sliceVal, ShrSlice, Room, at-slice, heres, codedHoleys, slice-vals, shr-slice-tells}
 use denote.Index.{place-is, row, elem-out, elem-back, looks-slice, shuts-slice}
-use denote.Signature.{plain}
+use denote.Signature.{plain, shrSliceOf}
 use denote.Steps.{owned, nothing}
 use denote.Struct.Laws as LL
 use denote.Triple.Statement.{Contract, Triple}
 use denote.Triple.Entry.{Vals, onEntry}
 use denote.Triple.Spec.{Meets, tripleOf}
 use denote.Triple.Table.{entered, cited}
-use denote.Triple.Walked.{says, Stays, stay-none-slice, stay-none, walkOf, goes-none-slice, goes-none, ends-at}
+use denote.Triple.Walked.{says, Stays, stay-none, stay-dropped, walkOf, goes-none, goes-dropped, ends-at}
 use denote.Exit.{yes}
 use Rattle.following.specs.Lists.{noStep}
 use Rattle.following.specs.Following.{Applied, Follows, none, next}
@@ -59,7 +59,7 @@ use Rattle.following.proofs.apply.Met as apply-thm
 use Rattle.desks.proofs.Rows.{case-made, case-typed, following-made, following-typed, step-made, step-typed}
 use Rattle.desks.proofs.Calling.{calls-plain}
 use Rattle.desks.proofs.Counting.{next-fits, next-le, nearer, Nearer, nearer-wf, below, above, drop-next}
-use Rattle.desks.proofs.Walking.{walk-proves}
+use Rattle.desks.proofs.Walking.{let-go, walk-proves}
 use Rattle.desks.proofs.follow.Key.{name as #desks·follow}
 use Rattle.desks.proofs.follow as f
 use Rattle.desks.proofs.follow.Statement as stated
@@ -67,9 +67,9 @@ use Rattle.desks.proofs.follow.Code as code
 use Rattle.desks.proofs.follow.Code.Mir as mir
 
 abbrev stayed : Stays (f.ended .signature .params) (f.ended .kept)
-stayed = (stay-none (λ _. D.the-row) yes, (stay-none (λ _. S.the-row) yes, (stay-none-slice (0 ∷ []) tt (plain (λ _. T.the-row)) yes, tt)))
+stayed = (stay-none (λ _. D.the-row) yes, (stay-none (λ _. S.the-row) yes, (stay-dropped (shrSliceOf (0 ∷ []) tt (plain (λ _. T.the-row))) yes, tt)))
 
--- where a turn begins: the index, the state so far with its machine value, and that what is left takes it to the end
+-- where a turn begins: the index, where the list stands with its machine value, and that what is left takes it to the end
 record Turn (cs : Case) (st : Following) (ys : List Step) : Type 0 where
   pub i : ℕ
   pub sv : Following
@@ -108,12 +108,11 @@ module _ {M : Type 1} (𝓤 : URA M) (H : Heap 𝓤) (A : Atoms 𝓤) (W : Given
   abbrev Post : Val → SProp 𝓤
   Post = walkOf 𝓤 H A f.ended stayed (f.clauses 𝓤 H A mem run) .post (((κ, tt), (q, tt), tt, a, at), tt)
 
-  exits : (sv : Following) (u : Val) → Is S.the-row sv (u ∷ []) → Follows cs st ys sv → ent 𝓤 (⋆ 𝓤 H A (‵ (flft κ q) ∷ ‵ (ShrSlice (named 0) κ T.the-row .own x (at .1 .1 .0)) ∷ [])) (Post u)
+  exits : (sv : Following) (u : Val) → Is S.the-row sv (u ∷ []) → Follows cs st ys sv → ent 𝓤 (⋆ 𝓤 H A (‵ (flft κ q) ∷ [])) (Post u)
   exits sv u is e =
-      qed W (‵ (flft κ q) ∷ ‵ (ShrSlice (named 0) κ T.the-row .own x (at .1 .1 .0)) ∷ []) ∵
-      suffices ! _ (ends-at 𝓤 H A f.ended stayed (f.clauses 𝓤 H A mem run) W (((κ, tt), (q, tt), tt, a, at), tt) u sv (tt, (tt, (tt, tt))) (tt, (tt, (tt, tt)))) $ says ! e $
-      nothing ! $ move ! (1 ∷ 0 ∷ []) $ join ! $ frame ! $ nothing ! $ move ! (1 ∷ 0 ∷ []) $ fjoin ! $ owned ! S.the-row (Is S.the-row) (following-made 𝓤 H A) st _ gst $ fjoin ! $ owned ! D.the-row (Is D.the-row) (case-made 𝓤 H A) cs _ gcs $ fjoin ! $
-      frame ! $ owned ! S.the-row (Is S.the-row) (following-made 𝓤 H A) sv _ is $ done !
+      qed W (‵ (flft κ q) ∷ []) ∵ suffices ! _ (ends-at 𝓤 H A f.ended stayed (f.clauses 𝓤 H A mem run) W (((κ, tt), (q, tt), tt, a, at), tt) u sv (tt, (tt, (tt, tt))) (tt, (tt, (tt, tt)))) $ says ! e $
+      nothing ! $ move ! (1 ∷ 0 ∷ []) $ join ! $ frame ! $ nothing ! $ nothing ! $ fjoin ! $ owned ! S.the-row (Is S.the-row) (following-made 𝓤 H A) st _ gst $ fjoin ! $ owned ! D.the-row (Is D.the-row) (case-made 𝓤 H A) cs _ gcs $ fjoin ! $ frame ! $
+      owned ! S.the-row (Is S.the-row) (following-made 𝓤 H A) sv _ is $ done !
 
   abbrev at-i : Turn cs st ys → ℕ
   at-i t = t .i
@@ -188,10 +187,9 @@ module _ {M : Type 1} (𝓤 : URA M) (H : Heap 𝓤) (A : Atoms 𝓤) (W : Given
         rewrite ! 10 (λ (y : Bool). ‵ (fat fullShare tyBool l₇ 0 (vbool y))) e refl $ leaves-loop ! (load ! (from ! (stop !)) (look ! 10 refl)) $ exec ! C Λ E mir.t-4 (atRet E Post) $
         assigns ! (of-opd ! (load ! (from ! (stop !)) (look ! 16 refl))) (from ! (stop !)) (init ! 24 refl (following-typed 𝓤 H A W (t .sv) (t .u) (t .is))) $
         shuts-slice ! tt T.the-row q′ ys b o $
-        returns ! (look ! 23 refl) $ forget ! 9 refl $ forget ! 11 refl $ forget ! 13 refl $ forget ! 15 refl $ forget ! 17 refl $ forget ! 19 refl $ forget ! 21 refl $ forget ! 23 refl $
-        move ! (23 ∷ 24 ∷ []) $ free1 ! $ move ! (21 ∷ 22 ∷ []) $ free1 ! $ move ! (19 ∷ 20 ∷ []) $ free1 ! $ move ! (17 ∷ 18 ∷ []) $ free1 ! $ move ! (15 ∷ 16 ∷ []) $ free1 ! $ move ! (13 ∷ 14 ∷ []) $ free1 ! $ move ! (11 ∷ 12 ∷ []) $ free1 ! $ move ! (9 ∷ 10 ∷ []) $ free1 ! $ move ! (7 ∷ 8 ∷ []) $ free1 ! $ move ! (5 ∷ 6 ∷ []) $ free1 ! $ free0 ! $
-        move ! (3 ∷ 1 ∷ []) $ fjoin ! $ move ! (3 ∷ 0 ∷ []) $ fjoin ! $ keep ! (1 ∷ 0 ∷ []) $
-        by ! (exits (t .sv) (t .u) (t .is) (t .same (t .sv) (subst (λ zs. Follows cs (t .sv) zs (t .sv)) (sym (drop-of-length-le ys (above (t .i) n e))) none)))
+        returns ! (look ! 23 refl) $ move ! (23 ∷ 24 ∷ 21 ∷ 22 ∷ 19 ∷ 20 ∷ 17 ∷ 18 ∷ 15 ∷ 16 ∷ 13 ∷ 14 ∷ 11 ∷ 12 ∷ 9 ∷ 10 ∷ 7 ∷ 8 ∷ 5 ∷ 6 ∷ []) $
+        let-go ! $ let-go ! $ let-go ! $ let-go ! $ let-go ! $ let-go ! $ let-go ! $ let-go ! $ free1 ! $ free1 ! $ free0 ! $
+        keep ! (0 ∷ []) $ by ! (exits (t .sv) (t .u) (t .is) (t .same (t .sv) (subst (λ zs. Follows cs (t .sv) zs (t .sv)) (sym (drop-of-length-le ys (above (t .i) n e))) none)))
 
     abbrev start : Turn cs st ys
     start = record { i = 0; sv = st; u = mach; le = omega arith; is = gst; same = λ z h. h }
@@ -215,7 +213,7 @@ meets : {M : Type 1} (𝓤 : URA M) (H : Heap 𝓤) (A : Atoms 𝓤) → Given �
     → Meets 𝓤 H A f.signature (WpFn 𝓤 H (𝓣 .C) (𝓣 .Λ) code.function) (f.spec 𝓤 H A mem run)
 meets 𝓤 H A W mem run 𝓣 known =
     walk-proves 𝓤 H A W f.ended stayed (f.clauses 𝓤 H A mem run) 𝓣 code.function
-    (goes-none 𝓤 H A W 1 (λ _. D.the-row) yes (λ κs x f. refl), (goes-none 𝓤 H A W 1 (λ _. S.the-row) yes (λ κs x f. refl), (goes-none-slice 𝓤 H A W 1 (0 ∷ []) tt (plain (λ _. T.the-row)) yes, tt)))
+    (goes-none 𝓤 H A W 1 (λ _. D.the-row) yes (λ κs x f. refl), (goes-none 𝓤 H A W 1 (λ _. S.the-row) yes (λ κs x f. refl), (goes-dropped 𝓤 H A W 1 (shrSliceOf (0 ∷ []) tt (plain (λ _. T.the-row))) yes (λ κs x f. refl), tt)))
     (λ κs. (LL.vals D.the-type D′.the-laws, (LL.vals S.the-type S′.the-laws, (slice-vals, tt)))) (λ κs. (LL.tells D.the-type D′.the-laws, (LL.tells S.the-type S′.the-laws, (shr-slice-tells (named 0) (κs .0) T.the-row, tt))))
     (λ κs qs bounds a g are. walk 𝓤 H A W mem run (κs .0) (qs .0) (a .1 .1 .0 .ptr .0) (a .1 .1 .0 .ptr .1) (a .1 .1 .0 .name) (a .1 .1 .0 .now) (a .0) (are .0) (a .1 .0) (are .1 .0) (are .1 .1 .0 .0 .1) 𝓣 known)
 

@@ -77,7 +77,7 @@ use Rattle.following.proofs.lists.nth.Met as nth-thm
 use Rattle.desks.proofs.Rows.{following-made, following-typed, step-made, step-typed, list-made, list-typed, wove-made, wove-typed}
 use Rattle.desks.proofs.Calling.{calls-plain}
 use Rattle.desks.proofs.Counting.{next-fits, next-le, nearer, Nearer, nearer-wf, below, above, inside}
-use Rattle.desks.proofs.Walking.{walk-proves}
+use Rattle.desks.proofs.Walking.{let-go, walk-proves}
 use Rattle.desks.proofs.put.Key.{name as #desks·put}
 use Rattle.desks.proofs.put as f
 use Rattle.desks.proofs.put.Statement as stated
@@ -229,8 +229,8 @@ module _ {M : Type 1} (𝓤 : URA M) (H : Heap 𝓤) (A : Atoms 𝓤) (W : Given
         rewrite ! 12 (λ (y : Bool). ‵ (fat fullShare tyBool l₈ 0 (vbool y))) e refl $ leaves-loop ! (load ! (from ! (stop !)) (look ! 12 refl)) $ exec ! C Λ E mir.t-7 (atRet E Post) $
         closes-slice ! tt T.the-row ys (sofar t) (put-long (t .i) (st .list) ys) b o $
         assigns ! (of-opd ! (load ! (from ! (stop !)) (look ! 21 refl))) (from ! (stop !)) (init ! 27 refl (wove-typed 𝓤 H A W w _ gw)) $
-        returns ! (look ! 27 refl) $ forget ! 11 refl $ forget ! 13 refl $ forget ! 15 refl $ forget ! 17 refl $ forget ! 19 refl $ forget ! 21 refl $ forget ! 23 refl $ forget ! 25 refl $ forget ! 27 refl $
-        move ! (27 ∷ 28 ∷ []) $ free1 ! $ move ! (25 ∷ 26 ∷ []) $ free1 ! $ move ! (23 ∷ 24 ∷ []) $ free1 ! $ move ! (21 ∷ 22 ∷ []) $ free1 ! $ move ! (19 ∷ 20 ∷ []) $ free1 ! $ move ! (17 ∷ 18 ∷ []) $ free1 ! $ move ! (15 ∷ 16 ∷ []) $ free1 ! $ move ! (13 ∷ 14 ∷ []) $ free1 ! $ move ! (11 ∷ 12 ∷ []) $ free1 ! $ move ! (9 ∷ 10 ∷ []) $ free1 ! $ move ! (7 ∷ 8 ∷ []) $ free1 ! $ move ! (5 ∷ 6 ∷ []) $ free1 ! $ free0 ! $
+        returns ! (look ! 27 refl) $ move ! (27 ∷ 28 ∷ 25 ∷ 26 ∷ 23 ∷ 24 ∷ 21 ∷ 22 ∷ 19 ∷ 20 ∷ 17 ∷ 18 ∷ 15 ∷ 16 ∷ 13 ∷ 14 ∷ 11 ∷ 12 ∷ 9 ∷ 10 ∷ 7 ∷ 8 ∷ 5 ∷ 6 ∷ []) $
+        let-go ! $ let-go ! $ let-go ! $ let-go ! $ let-go ! $ let-go ! $ let-go ! $ let-go ! $ let-go ! $ free1 ! $ free1 ! $ free1 ! $ free0 ! $
         keep ! (0 ∷ 1 ∷ 2 ∷ []) $ by ! (exits (sofar t) w u gw (put-long (t .i) (st .list) ys) (record { settled = told; records = ap (λ (k : ℕ). putFirst k (st .list) ys) (le-antisymm (t .le) (above (t .i) m e) ∙ counted) }))
 
     abbrev start : Turn m

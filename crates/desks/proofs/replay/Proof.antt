@@ -17,7 +17,7 @@ use contract.Monad.{Fun}
 use contract.Running.{givenOf, tables, tablesOf}
 use types.Kit.{Given, ‵, raw, _⊛_, _$_, _∵_, !, qed, by, move, drop, use1, fsplit, fjoin, suffices, frame, done}
 use types.Part.{whole, sub, look-in, agg}
-use types.Run.{look, init, forget, stop, fld, from, load, lit, of-opd, and-then, no-more, assigns, land, returns, enter, alloc1, alloc0, params1, pass1, pass0, free1, free0}
+use types.Run.{look, init, stop, fld, from, load, lit, of-opd, and-then, no-more, assigns, land, returns, enter, alloc1, alloc0, params1, pass1, pass0, free0}
 use sound.WpLaws.{fmOf}
 use denote.RattleType.{owns}
 use denote.Laws.{Is}
@@ -51,7 +51,7 @@ use Rattle.following.proofs.ended.Symbol.{name as #following·ended}
 use Rattle.following.proofs.ended.Met as ended-thm
 use Rattle.desks.proofs.Rows.{case-made, case-typed, following-made, following-typed, task-is, task-typed, replayed-made, replayed-typed}
 use Rattle.desks.proofs.Calling.{calls-plain}
-use Rattle.desks.proofs.Walking.{walk-proves}
+use Rattle.desks.proofs.Walking.{let-go, walk-proves}
 use Rattle.desks.proofs.Beginning.{Begin, Follow, calls-begin, calls-follow}
 use Rattle.desks.proofs.follow.Symbol as follow-def
 use Rattle.desks.proofs.follow.Symbol.{name as #desks·follow}
@@ -116,8 +116,8 @@ module _ {M : Type 1} (𝓤 : URA M) (H : Heap 𝓤) (A : Atoms 𝓤) (W : Given
         (case-made 𝓤 H A, (following-made 𝓤 H A, tt)) (gcs, (gst, tt)) (λ r. EndedAt cs st r (st .standing)) (λ r ws. id⊢ 𝓤 _)
         (and-then ! (load ! (from ! (stop !)) (look ! 12 refl)) (and-then ! (load ! (from ! (stop !)) (look ! 8 refl)) (no-more !))) (λ v r gr e₃.
         land ! (from ! (stop !)) (init ! 13 refl (replayed-typed 𝓤 H A W r _ gr)) $
-        returns ! (look ! 13 refl) $ forget ! 1 refl $ forget ! 3 refl $ forget ! 5 refl $ forget ! 7 refl $ forget ! 9 refl $ forget ! 11 refl $ forget ! 13 refl $
-        move ! (13 ∷ 14 ∷ []) $ free1 ! $ move ! (11 ∷ 12 ∷ []) $ free1 ! $ move ! (9 ∷ 10 ∷ []) $ free1 ! $ move ! (7 ∷ 8 ∷ []) $ free1 ! $ move ! (5 ∷ 6 ∷ []) $ free1 ! $ move ! (3 ∷ 4 ∷ []) $ free1 ! $ move ! (1 ∷ 2 ∷ []) $ free1 ! $ free0 ! $
+        returns ! (look ! 13 refl) $ move ! (13 ∷ 14 ∷ 11 ∷ 12 ∷ 9 ∷ 10 ∷ 7 ∷ 8 ∷ 5 ∷ 6 ∷ 3 ∷ 4 ∷ 1 ∷ 2 ∷ []) $
+        let-go ! $ let-go ! $ let-go ! $ let-go ! $ let-go ! $ let-go ! $ let-go ! $ free0 ! $
         by ! (exits r v gr (replay-law ys r e₁ e₂ e₃))))))))))))
 
 module _ {M : Type 1} (𝓤 : URA M) (H : Heap 𝓤) (A : Atoms 𝓤) (W : Given 𝓤 H A) (mem : Memory → SProp 𝓤) (run : Routine → Fun 𝓤) (𝓣 : Tables 𝓤 H) (begins : Triple 𝓤 (𝓣 .C #following·begin) (Begin 𝓤 H A mem run)) (follows : Triple 𝓤 (𝓣 .C #desks·follow) (Follow 𝓤 H A mem run)) (ends : Triple 𝓤 (𝓣 .C #following·ended) (End 𝓤 H A mem run)) where
