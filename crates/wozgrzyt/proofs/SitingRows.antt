@@ -2,7 +2,7 @@
 use mathlib.Core.Path.{_≡_, refl, subst}
 use mathlib.Core.List.{List, [], _∷_, _++_}
 use mathlib.Core.Logic.{inl, inr}
-use Prim.Native.Nat.{ℕ, zero, suc, _+_, _-_, _^_, _≤_, _<_}
+use Prim.Native.Nat.{ℕ, _+_, _-_, _^_, _≤_, _<_}
 use native.Mathlib.Omega.{arith}
 use lib.ListN.{length, drop}
 use lib.Count.{ones, onesIn}
@@ -15,7 +15,6 @@ use Rattle.rules.proofs.Choices.{greedy-unique}
 use Rattle.rules.proofs.Ordering.{fewest-some}
 use Rattle.rules.proofs.Tests.{gap, isOne, given, subTest, holdsTest, acceptedTest, closedTest, leastTest}
 use Rattle.rules.proofs.Sought.{pick, reasonFor, reasonAt, stepFor, passFrom, extended, derive, confirmTest, aloneTest, unconfirmedTest, unconfirmed-passes, noBetter, bestTest, noneTest, greedyTest, greedy-passes, after, none, some, judged, judge, orElse, choose, seek, firstOf, smallest, fewest-passes}
-use Rattle.grid.specs.declared.Case.{Case}
 use Rattle.grid.specs.declared.refusal.Refusal.the-variants.{NoCover}
 use Rattle.grid.specs.Cases.{neighbours, gridOf, Valid}
 use Rattle.grid.proofs.Orders.{itself}
