@@ -1,20 +1,18 @@
 -- Greedy: the best site, site after site; and the list of those added, one after another.
 use mathlib.Core.Path.{_≡_, refl, sym, ap, _∙_, subst, subst⁻¹}
-use mathlib.Core.Logic.{⊎-elim}
 use mathlib.Core.List.{List, [], _∷_, _++_, append-assoc, append-nil}
 use Prim.Native.Nat.{ℕ, zero, suc, _+_, _-_, _≤_, _<_}
 use native.Mathlib.Numerals.{add-one}
 use native.Mathlib.Omega.{arith}
-use native.Mathlib.Nat.{le-refl}
 use lib.ListN.{length, length-set, take, set}
 use lib.Seq.{take-suc-set, length-take-le}
-use Rattle.busset.specs.Sets.{Bus, bit, In, Out, Sub, Minus, Lowest, Without, With, empty, add, size}
+use Rattle.busset.specs.Sets.{bit, In, Out, Minus, Lowest, Without, With, empty, add, size}
 use Rattle.busset.proofs.Digits.{bit-zero}
-use Rattle.busset.proofs.Members.{without-of, without-sub, with-add}
+use Rattle.busset.proofs.Members.{without-of, without-sub}
 use Rattle.rules.specs.Grids.{Grid}
 use Rattle.rules.specs.Observation.{Least}
 use Rattle.rules.specs.Placing.{at, Free}
-use Rattle.rules.specs.Choosing.{Best, NoneAdds, Greedy}
+use Rattle.rules.specs.Choosing.{Greedy}
 use Rattle.rules.specs.Choosing as choosing
 use Rattle.rules.proofs.Leasts.{least-unique}
 use Rattle.rules.proofs.Choices.{greedy-unique}

@@ -1,8 +1,8 @@
 -- The cuts: why the sites that they leave out are not needed, and why no group leaves no cover.
 use mathlib.Core.Path.{_≡_, sym, ap, _∙_, subst, subst⁻¹}
-use mathlib.Core.List.{List, _∷_}
+use mathlib.Core.List.{List}
 use mathlib.Core.Logic.{⊎-elim}
-use Prim.Native.Nat.{ℕ, _+_, _-_, _≤_, _<_, max, min}
+use Prim.Native.Nat.{ℕ, _+_, _-_, _≤_, _<_}
 use native.Mathlib.Omega.{arith}
 use native.Mathlib.Nat.{le-refl}
 use lib.ListN.{length, length-set, set}
@@ -14,7 +14,7 @@ use Rattle.busset.proofs.Sizes.{size-some}
 use Rattle.rules.specs.Grids.{Grid}
 use Rattle.rules.specs.Observation.{Closed, Least}
 use Rattle.rules.specs.Placing.{at, Full}
-use Rattle.rules.specs.Ways.{Cover, NoCover, Spared, Whatever}
+use Rattle.rules.specs.Ways.{NoCover, Spared, Whatever}
 use Rattle.rules.specs.Blocking.{Idle, Group}
 use Rattle.rules.proofs.Blocks.{Grouped, grouped-more, grouped-stuck, cover-other, cover-less, cover-not-idle}
 use Rattle.grid.specs.Cases.{neighbours, Lines}

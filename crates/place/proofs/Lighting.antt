@@ -1,15 +1,15 @@
 -- Spreading, sweep after sweep, and what the sets so made are for a grid.
 use mathlib.Core.Path.{_≡_, ap, subst⁻¹}
 use mathlib.Core.Bool.{Bool}
-use Prim.Native.Nat.{ℕ, max, _≤_}
+use Prim.Native.Nat.{ℕ, _≤_}
 use native.Mathlib.Omega.{arith}
 use native.Mathlib.Nat.{le-refl}
 use Rattle.busset.specs.Deciding.{Decides}
-use Rattle.busset.specs.Sets.{Bus, bit, In, Out, Sub, All, Union, With, add}
+use Rattle.busset.specs.Sets.{bit, In, Sub, All, Union, With, add}
 use Rattle.busset.proofs.Tests.{decides-by}
 use Rattle.busset.proofs.Members.{sub-of, add-of, add-sub, add-here, add-grows, with-add}
 use Rattle.rules.specs.Grids.{Grid}
-use Rattle.rules.specs.Observation.{O1, Closed, Least}
+use Rattle.rules.specs.Observation.{Closed, Least}
 use Rattle.rules.specs.Placing.{at, Full}
 use Rattle.rules.specs.Blocking.{Idle}
 use Rattle.rules.proofs.Covering.{closed-fewer}

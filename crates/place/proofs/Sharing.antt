@@ -1,15 +1,14 @@
 -- Cross-validation, unit after unit: a unit that confirms the one at p stands within two lines of p.
 use mathlib.Core.Path.{_≡_, sym, ap, _∙_, subst, subst⁻¹}
 use mathlib.Core.Bool.{Bool}
-use mathlib.Core.Logic.{⊎-elim}
-use Prim.Native.Nat.{ℕ, min}
+use Prim.Native.Nat.{ℕ}
 use native.Mathlib.Omega.{arith}
 use native.Mathlib.Nat.{le-refl}
 use Rattle.busset.specs.Deciding.{Decides}
 use Rattle.busset.specs.Sets.{bit, In, Out, Sub, empty, less, Both, With, Without}
-use Rattle.busset.proofs.Tests.{same-or, decides-by}
+use Rattle.busset.proofs.Tests.{decides-by}
 use Rattle.busset.proofs.Digits.{bit-zero}
-use Rattle.busset.proofs.Members.{out-of, sub-of, empty-of, less-here, less-there, add-of, add-here, add-grows, with-add, without-of, without-sub}
+use Rattle.busset.proofs.Members.{out-of, sub-of, empty-of, less-here, less-there, add-of, add-grows, with-add, without-of, without-sub}
 use Rattle.rules.specs.Confirming.{Confirm, joined, share, Unconfirmed, UnconfirmedSet}
 use Rattle.grid.specs.Cases.{Lines}
 use Rattle.observe.specs.Passes.{Started}

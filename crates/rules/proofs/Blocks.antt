@@ -1,8 +1,8 @@
 -- Blocking sets: a bus is unobserved exactly when one holds it; each takes a site of its own from every cover, so that groups of sites bound the covers from below.
-use mathlib.Core.Path.{_≡_, refl, sym, ap, _∙_, subst, subst⁻¹}
+use mathlib.Core.Path.{_≡_, ap, _∙_, subst, subst⁻¹}
 use mathlib.Core.Logic.{⊎-elim}
 use mathlib.Core.List.{List, [], _∷_}
-use Prim.Native.Nat.{ℕ, suc, _+_, _-_, _≤_, _<_, max, min, zero-le}
+use Prim.Native.Nat.{ℕ, suc, _+_, _-_, _≤_, _<_, zero-le}
 use native.Mathlib.Omega.{arith}
 use lib.ListN.{length}
 use Rattle.busset.specs.Sets.{Bus, bit, In, Out, Sub, Within, All, empty, add, lack, less, meet, size, Union}
@@ -11,8 +11,8 @@ use Rattle.busset.proofs.Digits.{bit-zero}
 use Rattle.busset.proofs.Members.{in-or, out-of, sub-of, lack-at, less-there, meet-at, add-here, add-grows, add-again}
 use Rattle.busset.proofs.Sizes.{size-empty, size-le, size-same, size-add, size-less}
 use Rattle.rules.specs.Grids.{Grid, Proper}
-use Rattle.rules.specs.Observation.{O1, Closed, Least}
-use Rattle.rules.specs.Placing.{at, Full, Covers, Rising, placed}
+use Rattle.rules.specs.Observation.{Closed, Least}
+use Rattle.rules.specs.Placing.{at, Full, placed}
 use Rattle.rules.specs.Ways.{Way, NoWay, Cover, NoCover, Spared}
 use Rattle.rules.specs.Blocking.{Misses, Blocking, Idle, Group}
 use Rattle.rules.proofs.Covering.{closed-fewer, placed-of, placed-max}

@@ -1,14 +1,13 @@
 -- Covers: as the units change, and against the observed set. Rising lists of sites, and the units with them.
-use mathlib.Core.Path.{_≡_, refl, sym, ap, _∙_, subst⁻¹}
-use mathlib.Core.Logic.{⊎-elim}
+use mathlib.Core.Path.{_≡_}
 use mathlib.Core.List.{List, [], _∷_}
-use Prim.Native.Nat.{ℕ, _+_, _-_, _≤_, _<_, _^_, max}
+use Prim.Native.Nat.{ℕ, _-_, _≤_, _<_, _^_, max}
 use native.Mathlib.Omega.{arith}
-use Rattle.busset.specs.Sets.{Bus, bit, In, Out, Sub, empty, add}
+use Rattle.busset.specs.Sets.{bit, In, Sub, empty, add}
 use Rattle.busset.proofs.Digits.{bit-or, bit-zero, ext}
-use Rattle.busset.proofs.Members.{in-or, sub-of, add-here, add-of}
+use Rattle.busset.proofs.Members.{add-of}
 use Rattle.rules.specs.Grids.{Grid}
-use Rattle.rules.specs.Observation.{O1, Closed, Least}
+use Rattle.rules.specs.Observation.{Closed, Least}
 use Rattle.rules.specs.Placing.{at, Full, Covers, Rising, placed}
 
 -- ---- more units

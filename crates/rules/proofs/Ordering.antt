@@ -2,9 +2,8 @@
 use mathlib.Core.Path.{_≡_, refl, sym, ap, ap₂, _∙_}
 use mathlib.Core.Logic.{inl, inr}
 use mathlib.Core.List.{List, [], _∷_}
-use Prim.Native.Nat.{ℕ, _<_}
+use Prim.Native.Nat.{ℕ}
 use native.Mathlib.Omega.{arith}
-use lib.ListN.{length}
 use Rattle.busset.specs.Sets.{empty}
 use Rattle.rules.specs.Grids.{Grid}
 use Rattle.rules.specs.Placing.{placed, Before, Earlier, Fewest, SomePlan}

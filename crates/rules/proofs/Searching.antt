@@ -6,12 +6,12 @@ use Prim.Native.Nat.{ℕ, _+_, _-_, _≤_, _<_}
 use native.Mathlib.Omega.{arith}
 use native.Mathlib.Nat.{le-refl}
 use lib.ListN.{length}
-use Rattle.busset.specs.Sets.{bit, In, Out, Sub, empty, add, Lowest, Without, Minus}
+use Rattle.busset.specs.Sets.{bit, In, Sub, empty, add, Lowest, Without, Minus}
 use Rattle.busset.proofs.Tests.{same-or, below-or}
 use Rattle.busset.proofs.Digits.{bit-zero}
 use Rattle.busset.proofs.Members.{without-sub}
 use Rattle.rules.specs.Grids.{Grid}
-use Rattle.rules.specs.Placing.{at, Covers, Free, Rising, placed, Plan, Before, Earlier, Fewest, SomePlan}
+use Rattle.rules.specs.Placing.{at, Covers, Rising, Plan, Before, Earlier, Fewest, SomePlan}
 use Rattle.rules.specs.Ways.{Way, NoWay, FirstWay}
 use Rattle.rules.proofs.Covering.{rising-to, rising-above, placed-last}
 

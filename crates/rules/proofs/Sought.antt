@@ -4,10 +4,10 @@ use mathlib.Core.List.{List, [], _∷_}
 use mathlib.Core.Logic.{⊎-elim}
 use Prim.Native.Nat.{ℕ, zero, suc, _+_, _-_, _≤_, _<_}
 use native.Mathlib.Omega.{arith}
-use Rattle.busset.specs.Sets.{Bus, bit, In, Out, Sub, Within, empty, add, lack, less, meet, upTo, size, Lowest, Without, Minus}
-use Rattle.busset.proofs.Tests.{same-or, below-or}
-use Rattle.busset.proofs.Digits.{bit-zero, ext}
-use Rattle.busset.proofs.Members.{in-or, out-of, empty-of, add-of, lack-at, meet-at, upTo-in, upTo-out}
+use Rattle.busset.specs.Sets.{Bus, bit, In, Out, Sub, Within, empty, add, lack, meet, upTo, size, Lowest, Without, Minus}
+use Rattle.busset.proofs.Tests.{below-or}
+use Rattle.busset.proofs.Digits.{ext}
+use Rattle.busset.proofs.Members.{out-of, empty-of, add-of, lack-at, meet-at, upTo-in, upTo-out}
 use Rattle.busset.proofs.Sizes.{size-empty, size-some, one-more}
 use Rattle.step.specs.declared.Reason.{Reason}
 use Rattle.step.specs.declared.Reason.the-variants.{OwnUnit, NeighbourOf, ZeroInjection}
@@ -19,8 +19,8 @@ use Rattle.rules.specs.Confirming.{Confirm, joined, share, Unconfirmed, 
 use Rattle.rules.specs.Placing.{at, Full, Free, SomePlan, Fewest}
 use Rattle.rules.specs.Ways.{NoWay, FirstWay}
 use Rattle.rules.specs.Choosing as choosing
-use Rattle.rules.specs.Choosing.{Best, NoneAdds, Greedy}
-use Rattle.rules.proofs.Tests.{total-none, gap, gap-none, given, subTest, holdsTest, leastTest, least-passes}
+use Rattle.rules.specs.Choosing.{Greedy}
+use Rattle.rules.proofs.Tests.{total-none, gap, gap-none, given, holdsTest, leastTest, least-passes}
 use Rattle.rules.proofs.Leasts.{least-unique}
 use Rattle.rules.proofs.Covering.{covers-full, full-covers}
 use Rattle.rules.proofs.Searching.{way-none, no-way-none, no-way-left, first-take, passed-lowest, passed-no, passed-first, NoFewer, no-fewer-none, no-fewer-more, first-fewest, no-plan}

@@ -1,6 +1,6 @@
 -- For each of the siting group's calls: two replies that meet its promise on one input, with the room they leave, are equal. Demand 2's sentence on the fewest.
-use mathlib.Core.Path.{_≡_, refl, sym, ap, _∙_, subst}
-use mathlib.Core.Logic.{_⊎_, inl, inr}
+use mathlib.Core.Path.{_≡_, sym, ap, _∙_, subst}
+use mathlib.Core.Logic.{inl, inr}
 use mathlib.Core.List.{List, _++_}
 use Prim.Native.Nat.{ℕ, _≤_}
 use lib.ListN.{length, drop}
@@ -11,7 +11,7 @@ use Rattle.rules.proofs.Ordering.{fewest-set-unique}
 use Rattle.rules.proofs.Choices.{unconfirmed-unique, greedy-unique}
 use Rattle.grid.specs.declared.Case.{Case}
 use Rattle.grid.specs.Cases.{gridOf, Valid}
-use Rattle.grid.specs.Refusals.{Is, Failed, numberOf}
+use Rattle.grid.specs.Refusals.{Is, Failed}
 use Rattle.grid.specs.declared.refusal.Refusal.{Refusal}
 use Rattle.grid.proofs.Orders.{failed-unique, failed-or-passed}
 use Rattle.wozgrzyt.specs.declared.siting.Verdict.{Verdict}

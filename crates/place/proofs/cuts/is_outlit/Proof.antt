@@ -1,7 +1,7 @@
 use Prim.Native.Nat.{ℕ}
 use mathlib.Core.Path.{_≡_, ap}
 use native.Mathlib.Omega.{arith}
-use borrow.Author.Tests.{not-true, not-false}
+use borrow.Author.Tests.{not-true}
 use Rattle.busset.specs.Sets.{bit, Sub, setOf, size}
 use Rattle.busset.proofs.Tests.{refutes}
 use Rattle.busset.proofs.Members.{without-sub}

@@ -1,10 +1,9 @@
-use Prim.Native.Nat.{ℕ, _+_, _-_, _≤_}
+use Prim.Native.Nat.{ℕ, _-_, _≤_}
 use mathlib.Core.Path.{_≡_, ap, subst}
 use native.Mathlib.Omega.{arith}
 use Rattle.busset.specs.Sets.{bit, Sub, setOf}
 use Rattle.busset.proofs.Tests.{refutes}
 use Rattle.busset.proofs.Digits.{bit-zero}
-use Rattle.rules.specs.Grids.{Grid}
 use Rattle.rules.specs.Observation.{Least}
 use Rattle.rules.specs.Ways.{Whatever}
 use Rattle.rules.proofs.Blocks.{Grouped, grouped-none, grouped-spared, grouped-lacks}

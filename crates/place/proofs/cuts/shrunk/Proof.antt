@@ -1,6 +1,5 @@
-use Prim.Native.Nat.{ℕ}
 use native.Mathlib.Omega.{arith}
-use borrow.Author.Tests.{not-true, not-false}
+use borrow.Author.Tests.{not-true}
 use Rattle.busset.specs.Sets.{setOf, size}
 use Rattle.busset.proofs.Tests.{refutes}
 use Rattle.grid.specs.Cases.{neighbours}

@@ -2,7 +2,7 @@ use Prim.Native.Nat.{ℕ, _-_, _≤_}
 use mathlib.Core.Path.{_≡_, subst}
 use mathlib.Core.List.{_++_}
 use native.Mathlib.Omega.{arith}
-use lib.ListN.{length, take, drop}
+use lib.ListN.{take, drop}
 use Rattle.place.proofs.Writing.{Written, written-none, written-more}
 use borrow.Author.Needs.{needs}
 use Rattle.place.proofs.greedy.write.Statement.{statement}

@@ -1,4 +1,4 @@
-use Prim.Native.Nat.{ℕ, _-_, _≤_}
+use Prim.Native.Nat.{_-_, _≤_}
 use borrow.Author.Needs.{needs}
 use Rattle.try_sites.proofs.printing.set.Statement.{statement}
 use Rattle.try_sites.proofs.printing.set.Tie as tie

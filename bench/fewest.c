@@ -1,0 +1,156 @@
+// The search for the fewest as crates/place has it, written by hand in C, over families of 64-bus grids with a budget of 8:
+// how many calls it makes (of the search and of the cut that calls itself), and the time of the slowest grid of each family.
+//   cc -O3 -o /tmp/fewest bench/fewest.c && /tmp/fewest [grids for each family]
+#include <stdint.h>
+#include <stdio.h>
+#include <stdlib.h>
+#include <string.h>
+#include <time.h>
+typedef uint64_t set;
+static int n;
+static set nbr[64], zero, all;
+static unsigned long calls;
+static int count(set s) { return __builtin_popcountll(s); }
+static int low(set s) { return __builtin_ctzll(s); }
+static set bus(int b) { return (set)1 << b; }
+static int full(set s) { return !(all & ~s); }
+
+static set spread(set s) {
+    for (;;) {
+        set r = s;
+        for (set left = zero & s; left; left &= left - 1) {
+            set m = nbr[low(left)];
+            if (count(m & ~r) == 1) r |= m;
+        }
+        if (r == s) return s;
+        s = r;
+    }
+}
+static set start(set u) {
+    set s = u;
+    for (; u; u &= u - 1) s |= nbr[low(u)];
+    return s;
+}
+static set lit(set s, int x) { return spread(s | nbr[x] | bus(x)); }
+static set shrunk(set c) {
+    set r = c;
+    for (set left = all & ~c; left; left &= left - 1) {
+        int x = low(left);
+        set here = nbr[x] | bus(x);
+        if (!(here & ~r)) continue;
+        set d = spread(r | here);
+        if (!full(d)) r = d;
+    }
+    return r;
+}
+static set group(set sites, set c) { return sites & start(all & ~c); }
+static set narrowed(set s, set sites, int k) {
+    set q = 0, t = s;
+    for (int m = 0; m < k; m++) {
+        if (full(t)) return sites;
+        set next = group(sites, shrunk(t));
+        if (!next) return 0;
+        q |= next;
+        t = spread(t | start(next));
+    }
+    return full(t) ? q : 0;
+}
+static set undominated(set s, set sites, int k) {
+    if (k < 2) return sites;
+    set rows[64], kept = sites;
+    for (set left = sites; left; left &= left - 1) rows[low(left)] = lit(s, low(left));
+    for (set left = sites; left; left &= left - 1) {
+        int x = low(left);
+        set others = kept & ~bus(x);
+        for (set o = others; o; o &= o - 1)
+            if (!(rows[x] & ~rows[low(o)])) { kept = others; break; }
+    }
+    return kept;
+}
+static int hopeless(set s, set sites, int k) {
+    calls++;
+    if (full(s)) return 0;
+    if (k == 0) return 1;
+    set left = narrowed(s, undominated(s, sites, k), k);
+    for (set tries = group(left, shrunk(s)); tries; tries &= tries - 1) {
+        int x = low(tries);
+        left &= ~bus(x);
+        if (!hopeless(lit(s, x), left, k - 1)) return 0;
+    }
+    return 1;
+}
+static int search(set s, set sites, int k, set *found) {
+    calls++;
+    if (k == 0) return full(s) ? (*found = 0, 1) : 0;
+    for (set left = sites; left;) {
+        if (hopeless(s, left, k)) return 0;
+        int x = low(left);
+        left &= left - 1;
+        if (search(lit(s, x), left, k - 1, found)) { *found |= bus(x); return 1; }
+    }
+    return 0;
+}
+static int fewest(set site, int budget, set *found) {
+    for (int k = 0; k <= budget; k++)
+        if (search(0, site, k, found)) return k;
+    return -1;
+}
+
+static unsigned long seed;
+static int dice(int m) { seed = seed * 6364136223846793005u + 1442695040888963407u; return (int)((seed >> 33) % (unsigned long)m); }
+static void line(int a, int b) { nbr[a] |= bus(b); nbr[b] |= bus(a); }
+static void shuffle(int *p) {
+    for (int i = 0; i < 64; i++) p[i] = i;
+    for (int i = 63; i > 0; i--) { int j = dice(i + 1), t = p[i]; p[i] = p[j]; p[j] = t; }
+}
+static void zeros(int many) { int p[64]; shuffle(p); zero = 0; for (int i = 0; i < many; i++) zero |= bus(p[i]); }
+static void mesh(int renumbered, int torus) {
+    int p[64];
+    shuffle(p);
+    if (!renumbered) for (int i = 0; i < 64; i++) p[i] = i;
+    for (int r = 0; r < 8; r++) for (int c = 0; c < 8; c++) {
+        if (c < 7 || torus) line(p[r * 8 + c], p[r * 8 + (c + 1) % 8]);
+        if (r < 7 || torus) line(p[r * 8 + c], p[(r + 1) % 8 * 8 + c]);
+    }
+}
+static void chance(int lines) { while (lines) { int a = dice(64), b = dice(64); if (a != b && !(nbr[a] & bus(b))) { line(a, b); lines--; } } }
+static void rooks(int m, int many) {
+    int p[64];
+    shuffle(p);
+    for (int o = 0; o < many; o++) for (int i = 0; i < m * m; i++) for (int j = 0; j < i; j++)
+        if (i / m == j / m || i % m == j % m) line(p[o * m * m + i], p[o * m * m + j]);
+    for (int i = many * m * m; i < 64; i++) line(p[i], p[i - 1]);
+}
+static void family(const char *name, int kind, int size, int grids) {
+    static const int parts[5] = {0, 21, 32, 43, 64};
+    for (int z = 0; z < 5; z++) {
+        unsigned long most = 0;
+        double slowest = 0;
+        for (int g = 0; g < grids; g++) {
+            set found;
+            seed = (unsigned long)(kind * 1000 + size * 10 + z) * 7919u + (unsigned long)g;
+            memset(nbr, 0, sizeof nbr);
+            if (kind == 0) mesh(size & 1, size >> 1); else if (kind == 1) chance(size); else rooks(size, 64 / (size * size));
+            zeros(parts[z]);
+            calls = 0;
+            clock_t t = clock();
+            fewest(all, 8, &found);
+            double s = (double)(clock() - t) / CLOCKS_PER_SEC;
+            if (calls > most) most = calls;
+            if (s > slowest) slowest = s;
+        }
+        printf("%-22s %2d Z: most calls %9lu, slowest %7.3f s\n", name, parts[z], most, slowest);
+        fflush(stdout);
+    }
+}
+int main(int c, char **v) {
+    int grids = c > 1 ? atoi(v[1]) : 3;
+    n = 64;
+    all = ~(set)0;
+    family("8 by 8 mesh", 0, 0, grids);
+    family("renumbered mesh", 0, 1, grids);
+    family("renumbered torus", 0, 3, grids);
+    for (int lines = 80; lines <= 256; lines += 44) { char name[40]; snprintf(name, sizeof name, "random, %d lines", lines); family(name, 1, lines, grids); }
+    family("4 by 4 rooks' grids", 2, 4, grids);
+    family("5 by 5 rooks' grids", 2, 5, grids);
+}
