@@ -1,6 +1,6 @@
 // The step text, line after line: no list is stored.
 ghost use mathlib.Core.Path.{_≡_};
-ghost use Prim.Native.Nat.{ℕ, _+_, _≤_, _<_};
+ghost use Prim.Native.Nat.{_+_, _≤_, _<_};
 ghost use lib.ListN.{length, drop};
 ghost use Rattle.field.specs.Split.{split};
 ghost use Rattle.steptext.specs.Steps.{reasonInRange, stepInRange, ended, readSteps, StepAt, stepsOf, listed, listSteps};

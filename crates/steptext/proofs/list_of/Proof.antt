@@ -31,7 +31,11 @@ enum-told : tie.Need-enum-told Inv-loop μ-loop
 enum-told c = search needs
 
 returns : tie.Need-returns Inv-loop μ-loop
-returns c = absurd (listing-some (c .before .before .before .before .loop .inv .1) (c .before .before .before .loop-test .taken) (c .before .before .step-at .ensures) (c .enum-told .given .1))
+returns c =
+    let at-step-at = c .before .before in
+    let at-loop-test = at-step-at .before in
+    let at-loop = at-loop-test .before in
+    absurd (listing-some (at-loop .loop .inv .1) (at-loop-test .loop-test .taken) (at-step-at .step-at .ensures) (c .enum-told .given .1))
 
 add-i : tie.Need-add-i Inv-loop μ-loop
 add-i c = search needs
@@ -40,7 +44,11 @@ loop-less : tie.Need-loop-less Inv-loop μ-loop
 loop-less c = search needs
 
 loop-again : tie.Need-loop-again Inv-loop μ-loop
-loop-again c = (search needs, listing-more (c .before .before .before .before .before .loop .inv .1) (c .before .before .before .step-at .ensures) (c .before .x .given .1))
+loop-again c =
+    let at-x = c .before in
+    let at-step-at = at-x .before .before in
+    let at-loop = at-step-at .before .before in
+    (search needs, listing-more (at-loop .loop .inv .1) (at-step-at .step-at .ensures) (at-x .x .given .1))
 
 returns-2 : tie.Need-returns-2 Inv-loop μ-loop
 returns-2 c = listing-all (c .before .loop .inv .1) (c .loop-test .left)

@@ -13,7 +13,14 @@ enum-known-answer : tie.Need-enum-known-answer
 enum-known-answer c = search needs
 
 list-of-requires : tie.Need-list-of-requires
-list-of-requires c κs = let f = steps-found _ _ (sym (c .before .before .before .check-steps .ensures) ∙ c .before .answer .given .1) in (steps-count _ _ (sym (c .before .before .before .check-steps .ensures) ∙ c .before .answer .given .1), f .few)
+list-of-requires c κs =
+    let at-answer = c .before in
+    let at-check-steps = at-answer .before .before in
+    let f = steps-found _ _ (sym (at-check-steps .check-steps .ensures) ∙ at-answer .answer .given .1) in (
+      steps-count _ _ (sym
+          (at-check-steps .check-steps .ensures) ∙ at-answer .answer .given .1),
+      f .few,
+    )
 
 enum-told : tie.Need-enum-told
 enum-told c = search needs
@@ -25,10 +32,16 @@ list-of-requires-2 : tie.Need-list-of-requires-2
 list-of-requires-2 c κs = (ap length no-steps, search needs)
 
 returns : tie.Need-returns
-returns c = list-good _ (c .before .before .before .before .check-steps .ensures) (c .before .before .answer .given .1) (c .list-of .ensures)
+returns c =
+    let at-answer = c .before .before in
+    let at-check-steps = at-answer .before .before in
+    list-good _ (at-check-steps .check-steps .ensures) (at-answer .answer .given .1) (c .list-of .ensures)
 
 returns-2 : tie.Need-returns-2
-returns-2 c = list-bad _ (c .before .before .before .before .check-steps .ensures) (c .before .before .enum-told .given .1) (c .list-of2 .ensures)
+returns-2 c =
+    let at-enum-told = c .before .before in
+    let at-check-steps = at-enum-told .before .before in
+    list-bad _ (at-check-steps .check-steps .ensures) (at-enum-told .enum-told .given .1) (c .list-of2 .ensures)
 
 pub list-steps-spec : {M : Type 1} → statement M
 list-steps-spec =
