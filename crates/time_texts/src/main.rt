@@ -1,9 +1,10 @@
 // Reads the case text on standard input 20,000 times and prints the last answer: 100 times the place plus the refusal number, or 0.
 ghost use mathlib.Core.Path.{_≡_};
-
-use grid::refusal::{number, place};
 use grid::Refusal;
-use wozgrzyt::texts::{read_case, ReadAnswer};
+use grid::refusal::number;
+use grid::refusal::place;
+use wozgrzyt::texts::ReadAnswer;
+use wozgrzyt::texts::read_case;
 
 fn wide(n: usize) -> u64
     ensures { λ r. ⌜ r ≡ n ⌝ }
