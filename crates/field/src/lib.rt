@@ -1,6 +1,6 @@
 // The pieces of a text: lines parted by line feeds, fields parted by tabs, and the numbers that stand in fields.
 ghost use mathlib.Core.Path.{_≡_};
-ghost use Prim.Native.Nat.{ℕ, _-_, _<_, _≤_};
+ghost use Prim.Native.Nat.{_-_, _<_, _≤_};
 ghost use lib.ListN.{length};
 ghost use Rattle.field.specs.Split.{PieceEnd, same};
 ghost use Rattle.field.specs.Number.{isDigit, takes, numberOf};

@@ -1,9 +1,9 @@
 -- The `line` records of a case are as many as its lines: each line is written at its lower bus, and counted at its higher.
 use mathlib.Core.Path.{_≡_, refl, sym, ap, _∙_}
 use mathlib.Core.Bool.{Bool, true, false, cond}
-use mathlib.Core.List.{List, [], _∷_, _++_}
+use mathlib.Core.List.{List, [], _∷_}
 use mathlib.Core.Logic.{⊎-elim}
-use Prim.Native.Nat.{ℕ, suc, zero, _+_, _^_, _≤_, _<_}
+use Prim.Native.Nat.{ℕ, suc, zero, _+_}
 use native.Mathlib.Nat.{mod-lt}
 use native.Mathlib.Omega.{arith}
 use borrow.Author.Tests.{eqb-true, eqb-false}

@@ -1,18 +1,17 @@
 -- What is read has at most 256 lines.
-use mathlib.Core.Path.{_≡_, refl, sym, ap, _∙_, subst}
-use mathlib.Core.Bool.{Bool, true, false, cond, _&&_}
+use mathlib.Core.Path.{_≡_, refl, _∙_, subst}
+use mathlib.Core.Bool.{Bool, true, false, cond}
 use mathlib.Core.List.{List, [], _∷_, _++_}
-use mathlib.Core.Logic.{_⊎_, inl, inr, ⊎-elim}
+use mathlib.Core.Logic.{_⊎_, ⊎-elim}
 use Prim.Native.Nat.{ℕ, suc, zero, _+_, _-_, _*_, _≤_, _<_}
 use native.Mathlib.Omega.{arith}
 use borrow.Author.Tests.{eqb-true}
-use lib.ListN.{length, getD}
-use Rattle.busset.specs.Sets.{bit, setOf, width, Bus as IsBus}
+use lib.ListN.{length}
 use Rattle.busset.proofs.Tests.{below-or, same-or}
 use Rattle.grid.specs.Cases.{neighbours}
 use Rattle.record.specs.declared.Record.{Record}
 use Rattle.record.specs.declared.Record.the-variants.{Grid, Bus, Line, Pmu, End, Wrong}
-use Rattle.reader.specs.Reading.{caseOf, Reader, isBus, inRange, verdict, next, start}
+use Rattle.reader.specs.Reading.{caseOf, Reader, verdict, next, start}
 use Rattle.inverse.specs.Grammar.{Reads}
 use Rattle.inverse.specs.Grammar.Reads.{ends, goes}
 use Rattle.reader.specs.Writing.{has, members, lineRecords}
@@ -20,7 +19,7 @@ use Rattle.grid.specs.declared.Case.{Case}
 use Rattle.reader.specs.declared.Verdict.the-variants.{Next}
 use Rattle.reader.proofs.Judged.{fit-of}
 use Rattle.inverse.proofs.Places.{Pair, Ask, Proper, place, placeOf, answer, joined, unchanged}
-use Rattle.inverse.proofs.Places.Ask.{zeroAt, siteAt, unitAt, lineAt}
+use Rattle.inverse.proofs.Places.Ask.{lineAt}
 use Rattle.inverse.proofs.Unique.{Stand, Stepped, stepped, Settled, settled}
 use Rattle.inverse.proofs.Texts.{begun, first-stand}
 use Rattle.inverse.proofs.Written.{row-push}

@@ -1,17 +1,16 @@
 -- What is read of a text is what the grammar has.
 use mathlib.Core.Path.{_≡_, refl, sym, ap, _∙_, subst, subst₂}
-use mathlib.Core.Bool.{Bool, true, false, cond, _&&_}
+use mathlib.Core.Bool.{true}
 use mathlib.Core.List.{List, [], _∷_, _++_}
-use Prim.Native.Nat.{ℕ, suc, _+_, _≤_, _<_}
+use Prim.Native.Nat.{ℕ, _+_, _≤_, _<_}
 use native.Mathlib.Omega.{arith}
-use lib.ListN.{length}
-use Rattle.field.specs.Split.{Pieces, pieces, split, join}
-use Rattle.field.proofs.Cutting.{split-cut, join-split}
+use Rattle.field.specs.Split.{split, join}
+use Rattle.field.proofs.Cutting.{split-cut}
 use Rattle.record.specs.Record.{recordOf, recordText, Formed}
 use Rattle.record.specs.declared.Record.{Record}
 use Rattle.record.specs.declared.Record.the-variants.{Grid, Bus, Line, Pmu, End, Wrong}
-use Rattle.record.proofs.Texts.{read-record, text-free, Spelt, spelt}
-use Rattle.reader.specs.Reading.{caseOf, Reader, isBus, inPlace, inRange, inOrder, accepted, verdict, next, start, refused, closed, said, got, readLines}
+use Rattle.record.proofs.Texts.{read-record, text-free, spelt}
+use Rattle.reader.specs.Reading.{caseOf, Reader, isBus, inPlace, inRange, accepted, verdict, next, refused, closed, said, got, readLines}
 use Rattle.inverse.specs.Grammar.{Reads}
 use Rattle.inverse.specs.Grammar.Reads.{ends, goes}
 use Rattle.grid.specs.declared.Case.{Case}
@@ -19,10 +18,8 @@ use Rattle.reader.specs.declared.CaseRead.{CaseRead}
 use Rattle.reader.specs.declared.Verdict.{Verdict}
 use Rattle.reader.specs.declared.Verdict.the-variants.{Next, Last, Form, Range, Order}
 use Rattle.grid.specs.declared.refusal.Refusal.{Refusal}
-use Rattle.grid.specs.declared.refusal.Refusal.the-variants.{TextTooLong, WrongForm}
-use Rattle.reader.specs.declared.ReadAnswer.{ReadAnswer}
 use Rattle.reader.specs.declared.ReadAnswer.the-variants.{Read, Refused}
-use Rattle.reader.proofs.Judged.{Accepted, accepted-of, last-of, small-of, bounded, line-ends, apart}
+use Rattle.reader.proofs.Judged.{accepted-of, last-of, small-of, bounded, line-ends, apart}
 use Rattle.reader.specs.declared.Place.{Place}
 
 small-number : (n k : ℕ) → n ≤ 64 → isBus n k ≡ true → k < 10000

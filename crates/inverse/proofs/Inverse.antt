@@ -1,26 +1,26 @@
 -- Reading and writing undo each other: the two are one form for each case.
-use mathlib.Core.Path.{_≡_, refl, sym, ap, _∙_, subst⁻¹}
-use mathlib.Core.List.{List, [], _∷_, _++_}
-use Prim.Native.Nat.{ℕ, suc, zero, _+_, _-_, _*_, _≤_, _<_}
+use mathlib.Core.Path.{_≡_, subst⁻¹}
+use mathlib.Core.List.{List}
+use Prim.Native.Nat.{ℕ, zero, _+_, _-_, _≤_, _<_}
 use native.Mathlib.Omega.{arith}
 use lib.ListN.{length, length-append}
-use Rattle.busset.specs.Sets.{bit, In, Out, Within, setOf, Bus as IsBus}
+use Rattle.busset.specs.Sets.{Out, Within, setOf}
 use Rattle.busset.proofs.Members.{out-of}
 use Rattle.record.specs.declared.Record.the-variants.{Pmu}
-use Rattle.grid.specs.Cases.{neighbours, gridOf, mostBuses, Valid}
+use Rattle.grid.specs.Cases.{neighbours, gridOf, Valid}
 use Rattle.grid.specs.declared.Case.{Case}
 use Rattle.rules.specs.Grids.{Proper as ProperGrid}
 use Rattle.reader.specs.Reading.{mostBytes, start, got, readCase}
 use Rattle.inverse.specs.Grammar.{Reads}
-use Rattle.reader.specs.Writing.{records, linesText, caseText, lineRecords}
+use Rattle.reader.specs.Writing.{records, caseText, lineRecords}
 use Rattle.reader.proofs.Lengths.{lines-length, buses-length, members-length}
 use Rattle.inverse.proofs.Counts.{line-records}
-use Rattle.inverse.proofs.Places.{Ask, Proper, answer}
+use Rattle.inverse.proofs.Places.{Ask, answer}
 use Rattle.inverse.proofs.Places.Ask.{zeroAt, siteAt, unitAt, lineAt}
 use Rattle.inverse.proofs.Texts.{begun, first-stand, reads-of, of-reads, same-text}
 use Rattle.inverse.proofs.Written.{Above, Writable, readable}
 use Rattle.inverse.proofs.Few.{read-few}
-use Rattle.inverse.proofs.Soundness.{Sound, read-sound, known}
+use Rattle.inverse.proofs.Soundness.{read-sound, known}
 
 -- ---- a valid case is written
 

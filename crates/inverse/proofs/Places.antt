@@ -1,8 +1,8 @@
 -- Where a reader stands: each record answers the questions at its own place, and places rise.
 use mathlib.Core.Path.{_≡_, refl, sym, ap, _∙_, subst, subst⁻¹}
-use mathlib.Core.Bool.{Bool, true, false, cond, _&&_, _||_}
-use mathlib.Core.List.{List, [], _∷_}
-use mathlib.Core.Logic.{_⊎_, inl, inr, ⊎-elim}
+use mathlib.Core.Bool.{Bool, true, false, _&&_, _||_}
+use mathlib.Core.List.{List}
+use mathlib.Core.Logic.{_⊎_, ⊎-elim}
 use Prim.Native.Nat.{ℕ, suc, zero, _+_, _-_, _*_, _≤_, _<_}
 use native.Mathlib.Omega.{arith}
 use borrow.Author.Tests.{leb-true, ltb-true, eqb-true}
@@ -10,7 +10,7 @@ use lib.Dec.{eqb, ltb, leb}
 use lib.ListN.{length, getD, set, length-set}
 use lib.Seq.{getD-set-same, getD-set-other}
 use Rattle.busset.specs.Sets.{bit, add, setOf, width, Bus as IsBus}
-use Rattle.busset.specs.Held.{hold, holdIf}
+use Rattle.busset.specs.Held.{hold}
 use Rattle.busset.proofs.Tests.{same-or}
 use Rattle.busset.proofs.Members.{add-here, add-there}
 use Rattle.busset.proofs.Holding.{set-hold, hold-there, if-there}
@@ -21,7 +21,7 @@ use Rattle.grid.specs.Cases.{neighbours, mostBuses}
 use Rattle.grid.specs.declared.Case.{Case}
 use Rattle.grid.proofs.Rows.{row-at, row-zero}
 use Rattle.reader.specs.Building.{withEnd, withLine}
-use Rattle.reader.specs.Reading.{Reader, caseOf, isBus, isAfter, pastBuses, inPlace, inRange, inOrder, verdict, next}
+use Rattle.reader.specs.Reading.{Reader, caseOf, isAfter, pastBuses, next}
 use Rattle.reader.specs.declared.Place.{Place}
 use Rattle.reader.proofs.Judged.{Accepted, inside, line-ends, apart}
 

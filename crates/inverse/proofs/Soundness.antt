@@ -1,11 +1,11 @@
 -- What is read is a proper grid, and a case with a proper grid is known by its answers.
-use mathlib.Core.Path.{_≡_, refl, sym, ap, _∙_, subst, subst⁻¹}
-use mathlib.Core.Bool.{Bool, true, false, cond}
-use mathlib.Core.List.{List, [], _∷_}
-use mathlib.Core.Logic.{_⊎_, inl, inr, ⊎-elim}
-use Prim.Native.Nat.{ℕ, suc, zero, _+_, _-_, _≤_, _<_}
+use mathlib.Core.Path.{_≡_, sym, _∙_, subst, subst⁻¹}
+use mathlib.Core.Bool.{Bool, true, false}
+use mathlib.Core.List.{List}
+use mathlib.Core.Logic.{_⊎_, ⊎-elim}
+use Prim.Native.Nat.{ℕ, suc, zero, _-_, _≤_, _<_}
 use native.Mathlib.Omega.{arith}
-use lib.ListN.{length, getD, length-set, length-replicate}
+use lib.ListN.{length, getD}
 use lib.Seq.{ext-getD}
 use Rattle.busset.specs.Sets.{bit, In, Out, Within, setOf, width, Bus as IsBus}
 use Rattle.busset.specs.Held.{hold, holdIf}
@@ -13,23 +13,22 @@ use Rattle.busset.proofs.Tests.{below-or, same-or}
 use Rattle.busset.proofs.Digits.{ext}
 use Rattle.busset.proofs.Members.{out-of}
 use Rattle.busset.proofs.Words.{set-zero, set-inj}
-use Rattle.busset.proofs.Holding.{hold-there, if-there}
+use Rattle.busset.proofs.Holding.{hold-there}
 use Rattle.record.specs.declared.Record.{Record}
 use Rattle.record.specs.declared.Record.the-variants.{Grid, Bus, Line, Pmu, End, Wrong}
 use Rattle.rules.specs.Grids.{Proper as ProperGrid, Line as HasLine}
 use Rattle.grid.specs.Cases.{neighbours, gridOf, Lines}
 use Rattle.grid.specs.declared.Case.{Case}
 use Rattle.reader.specs.Building.{withLine}
-use Rattle.reader.specs.Reading.{Reader, caseOf, verdict, next, start, inRange}
+use Rattle.reader.specs.Reading.{Reader, caseOf, next, start, inRange}
 use Rattle.inverse.specs.Grammar.{Reads}
 use Rattle.inverse.specs.Grammar.Reads.{ends, goes}
-use Rattle.reader.specs.declared.Verdict.the-variants.{Next}
-use Rattle.reader.proofs.Judged.{accepted-of, inside, line-ends, Ends}
-use Rattle.inverse.proofs.Places.{Pair, Ask, Proper, answer, joined, Facts, NextLine, line-here, line-back, line-other}
+use Rattle.reader.proofs.Judged.{accepted-of, inside, line-ends}
+use Rattle.inverse.proofs.Places.{Pair, Ask, Proper, answer, joined, Facts, line-here, line-back, line-other}
 use Rattle.inverse.proofs.Places.Ask.{zeroAt, siteAt, unitAt, lineAt}
-use Rattle.inverse.proofs.Unique.{Stand, Stepped, stepped}
-use Rattle.inverse.proofs.Texts.{Begun, begun, first-stand, no-bus, no-line}
-use Rattle.inverse.proofs.Counts.{both-ends, not-self, not-zero}
+use Rattle.inverse.proofs.Unique.{Stand, stepped}
+use Rattle.inverse.proofs.Texts.{begun, first-stand, no-bus, no-line}
+use Rattle.inverse.proofs.Counts.{both-ends, not-self}
 
 -- ---- a record keeps a grid proper
 

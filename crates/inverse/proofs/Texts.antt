@@ -1,19 +1,18 @@
 -- CaseRead, from the first line.
 use mathlib.Core.Path.{_≡_, refl, sym, ap, _∙_, subst}
 use mathlib.Core.Bool.{Bool, true, false, cond}
-use mathlib.Core.List.{List, [], _∷_, _++_}
-use mathlib.Core.Logic.{_⊎_, inl, inr, ⊎-elim}
-use Prim.Native.Nat.{ℕ, suc, zero, _+_, _-_, _≤_, _<_}
+use mathlib.Core.List.{List, _∷_, _++_}
+use Prim.Native.Nat.{ℕ, suc, zero, _+_, _-_, _≤_}
 use native.Mathlib.Omega.{arith}
-use borrow.Author.Tests.{le-ltb, eqb-true}
+use borrow.Author.Tests.{le-ltb}
 use lib.Dec.{ltb}
 use lib.ListN.{length, getD, replicate, length-replicate}
-use Rattle.busset.specs.Sets.{bit, setOf, width, Bus as IsBus}
+use Rattle.busset.specs.Sets.{bit, setOf}
 use Rattle.busset.proofs.Digits.{bit-zero}
 use Rattle.busset.proofs.Words.{set-empty}
 use Rattle.grid.specs.Cases.{neighbours}
 use Rattle.field.proofs.Tested.{both}
-use Rattle.field.specs.Split.{split, join}
+use Rattle.field.specs.Split.{split}
 use Rattle.field.proofs.Cutting.{join-split}
 use Rattle.record.specs.Record.{recordText}
 use Rattle.record.specs.declared.Record.{Record}
@@ -24,15 +23,13 @@ use Rattle.inverse.specs.Grammar.{Reads}
 use Rattle.inverse.specs.Grammar.Reads.{ends, goes}
 use Rattle.grid.specs.declared.Case.{Case}
 use Rattle.reader.specs.declared.CaseRead.{CaseRead}
-use Rattle.reader.specs.declared.Verdict.the-variants.{Next, Last}
-use Rattle.grid.specs.declared.refusal.Refusal.the-variants.{TextTooLong, WrongForm}
-use Rattle.reader.specs.declared.ReadAnswer.{ReadAnswer}
-use Rattle.reader.specs.declared.ReadAnswer.the-variants.{Read, Refused}
+use Rattle.reader.specs.declared.Verdict.the-variants.{Next}
+use Rattle.grid.specs.declared.refusal.Refusal.the-variants.{TextTooLong}
 use Rattle.reader.proofs.Judged.{accepted-of, last-place, inside, apart}
 use Rattle.inverse.proofs.Grammars.{not-got, reads-read, read-reads}
-use Rattle.inverse.proofs.Places.{Ask, Proper, place, answer, Facts, facts, At, same-n, past}
+use Rattle.inverse.proofs.Places.{Ask, place, answer, same-n}
 use Rattle.inverse.proofs.Places.Ask.{zeroAt, siteAt, unitAt, lineAt}
-use Rattle.inverse.proofs.Unique.{Stand, Stepped, stepped, unique, Ended, Went, seen}
+use Rattle.inverse.proofs.Unique.{Stand, stepped, unique}
 
 -- ---- the whole text
 

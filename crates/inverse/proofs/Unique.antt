@@ -3,12 +3,11 @@ use mathlib.Core.Path.{_≡_, refl, sym, ap, ap₂, _∙_, subst}
 use mathlib.Core.Bool.{Bool, true, false, cond}
 use mathlib.Core.List.{List, [], _∷_, _++_}
 use mathlib.Core.Logic.{_⊎_, inl, inr, ⊎-elim}
-use Prim.Native.Nat.{ℕ, suc, _+_, _-_, _*_, _≤_, _<_}
+use Prim.Native.Nat.{ℕ, _+_, _-_, _≤_, _<_}
 use native.Mathlib.Omega.{arith}
-use Rattle.busset.specs.Sets.{bit, setOf, width, Bus as IsBus}
-use Rattle.busset.proofs.Tests.{same-or, below-or}
+use Rattle.busset.specs.Sets.{bit, setOf}
+use Rattle.busset.proofs.Tests.{below-or}
 use Rattle.busset.proofs.Holding.{hold-here, if-here}
-use Rattle.busset.specs.Held.{holdIf}
 use Rattle.record.specs.Record.{recordText}
 use Rattle.record.specs.declared.Record.{Record}
 use Rattle.record.specs.declared.Record.the-variants.{Grid, Bus, Line, Pmu, End, Wrong}
@@ -19,7 +18,7 @@ use Rattle.grid.specs.declared.Case.{Case}
 use Rattle.reader.specs.declared.Place.{Place}
 use Rattle.reader.specs.declared.Verdict.the-variants.{Next, Last}
 use Rattle.reader.proofs.Judged.{accepted-of, goes-of, last-place, apart}
-use Rattle.inverse.proofs.Places.{Pair, Ask, Proper, place, placeOf, answer, Facts, facts, At, beyond, unchanged, stands, more-buses, past, line-here}
+use Rattle.inverse.proofs.Places.{Ask, Proper, place, placeOf, answer, Facts, facts, At, beyond, unchanged, stands, more-buses, past, line-here}
 use Rattle.inverse.proofs.Places.Ask.{zeroAt, siteAt, unitAt, lineAt}
 
 -- a reader that has read `grid` and stands at p

@@ -1,32 +1,30 @@
 -- CaseRead what is written.
 use mathlib.Core.Path.{_≡_, refl, sym, ap, ap₂, _∙_, subst}
-use mathlib.Core.Bool.{Bool, true, false, cond, _&&_}
+use mathlib.Core.Bool.{Bool, true, false, cond}
 use mathlib.Core.List.{List, [], _∷_, _++_}
-use mathlib.Core.Logic.{_⊎_, inl, inr, ⊎-elim}
+use mathlib.Core.Logic.{_⊎_, ⊎-elim}
 use Prim.Native.Nat.{ℕ, suc, zero, _+_, _-_, _*_, _≤_, _<_}
 use native.Mathlib.Omega.{arith}
 use borrow.Author.Tests.{lt-ltb, le-ltb, le-leb, eq-eqb, eqb-true, eqb-false}
-use lib.Dec.{eqb}
-use lib.ListN.{length, getD}
+use lib.ListN.{length}
 use Rattle.busset.specs.Sets.{bit, setOf, width, Bus as IsBus}
 use Rattle.busset.specs.Held.{hold, holdIf}
 use Rattle.busset.proofs.Tests.{below-or, same-or}
 use Rattle.busset.proofs.Holding.{hold-here, if-here}
 use Rattle.grid.specs.Cases.{neighbours}
 use Rattle.reader.specs.declared.Place.{Place}
-use Rattle.record.specs.Record.{recordText}
 use Rattle.record.specs.declared.Record.{Record}
-use Rattle.record.specs.declared.Record.the-variants.{Grid, Bus, Line, Pmu, End, Wrong}
-use Rattle.reader.specs.Reading.{caseOf, Reader, isBus, isAfter, pastBuses, inPlace, inRange, inOrder, accepted, verdict, next, start}
+use Rattle.record.specs.declared.Record.the-variants.{Grid, Line, Pmu, End}
+use Rattle.reader.specs.Reading.{caseOf, Reader, isBus, isAfter, pastBuses, verdict, next, start}
 use Rattle.inverse.specs.Grammar.{Reads}
 use Rattle.inverse.specs.Grammar.Reads.{ends, goes}
 use Rattle.reader.specs.Writing.{has, busRecord, busRecords, members, lineRecords, linesText, records}
 use Rattle.grid.specs.declared.Case.{Case}
-use Rattle.reader.specs.declared.Verdict.the-variants.{Next, Last}
+use Rattle.reader.specs.declared.Verdict.the-variants.{Next}
 use Rattle.reader.proofs.Judged.{accept}
-use Rattle.inverse.proofs.Places.{Pair, Ask, Proper, place, placeOf, joined, answer, Facts, At, unchanged, line-here}
+use Rattle.inverse.proofs.Places.{Pair, Ask, Proper, place, placeOf, joined, answer, unchanged, line-here}
 use Rattle.inverse.proofs.Places.Ask.{zeroAt, siteAt, unitAt, lineAt}
-use Rattle.inverse.proofs.Unique.{Stand, Stepped, stepped}
+use Rattle.inverse.proofs.Unique.{Stand, stepped}
 use Rattle.inverse.proofs.Texts.{first-stand}
 
 inside : (n k : ℕ) → 1 ≤ k → k ≤ n → isBus n k ≡ true

@@ -1,7 +1,7 @@
 -- Line after line: what is read of the whole text is what is read from where the reader stands.
 use mathlib.Core.Path.{_≡_, refl, sym, ap, _∙_}
-use mathlib.Core.Bool.{Bool, true, false, cond}
-use mathlib.Core.List.{List, [], _∷_}
+use mathlib.Core.Bool.{Bool, true, false}
+use mathlib.Core.List.{List, _∷_}
 use Prim.Native.Nat.{ℕ, suc, _+_, _≤_, _<_}
 use native.Mathlib.Numerals.{add-one}
 use native.Mathlib.Omega.{arith}
@@ -9,7 +9,7 @@ use borrow.Author.Tests.{lt-ltb, le-ltb}
 use lib.Dec.{eqb}
 use lib.ListN.{length, getD, drop, drop-of-length-le}
 use lib.Seq.{drop-cons}
-use Rattle.field.specs.Split.{Pieces, pieces, split, part, after, PieceEnd}
+use Rattle.field.specs.Split.{split, part, after, PieceEnd}
 use Rattle.field.proofs.Cutting.{after-none, after-some}
 use Rattle.record.specs.Record.{recordOf}
 use Rattle.record.specs.declared.Record.{Record}
@@ -17,7 +17,7 @@ use Rattle.grid.specs.Cases.{mostBuses}
 use Rattle.grid.specs.declared.Case.{Case}
 use Rattle.grid.specs.declared.refusal.Refusal.the-variants.{TextTooLong, WrongForm}
 use Rattle.reader.specs.Building.{nextRows, nextMarks, noRows, noMarks}
-use Rattle.reader.specs.Reading.{Reader, mostBytes, verdict, nextPlace, next, start, caseOf, got, refused, closed, said, readLines, readText, readCase}
+use Rattle.reader.specs.Reading.{Reader, mostBytes, verdict, nextPlace, start, caseOf, got, refused, closed, said, readLines, readText, readCase}
 use Rattle.reader.specs.declared.Marks.{Marks}
 use Rattle.reader.specs.declared.Place.{Place}
 use Rattle.reader.specs.declared.CaseRead.{CaseRead}

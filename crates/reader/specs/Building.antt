@@ -1,5 +1,4 @@
 -- The case, built up record by record.
-use mathlib.Core.Bool.{Bool}
 use mathlib.Core.List.{List}
 use Prim.Native.Nat.{ℕ, _-_}
 use lib.ListN.{getD, set, replicate}

@@ -1,7 +1,7 @@
 -- Reading a case text: its lines one after another, each a record that is the next, the last, or refused.
 use mathlib.Core.Bool.{Bool, true, false, cond, _&&_, _||_}
 use mathlib.Core.List.{List, [], _∷_}
-use Prim.Native.Nat.{ℕ, _+_, _≤_, _<_}
+use Prim.Native.Nat.{ℕ, _+_, _<_}
 use lib.Dec.{eqb, ltb, leb}
 use lib.ListN.{length}
 use Rattle.busset.specs.Sets.{width, Bus as IsBus}
@@ -18,7 +18,6 @@ use Rattle.reader.specs.declared.Marks.{Marks}
 use Rattle.reader.specs.declared.Place.{Place}
 use Rattle.reader.specs.declared.Verdict.{Verdict}
 use Rattle.reader.specs.declared.Verdict.the-variants.{Next, Last, Form, Range, Order}
-use Rattle.reader.specs.declared.ReadAnswer.{ReadAnswer}
 use Rattle.reader.specs.declared.ReadAnswer.the-variants.{Read, Refused}
 use Rattle.reader.specs.declared.CaseRead.{CaseRead}
 

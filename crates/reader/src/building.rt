@@ -1,10 +1,8 @@
 // The case, built up record by record.
 ghost use mathlib.Core.Path.{_≡_};
-ghost use Prim.Native.Nat.{ℕ, _≤_};
-ghost use lib.ListN.{length};
 ghost use Rattle.busset.specs.Sets.{Bus, width};
-ghost use Rattle.busset.specs.Held.{hold, holdIf};
-ghost use Rattle.reader.specs.Building.{withLine, nextRows, nextMarks, noMarks};
+ghost use Rattle.busset.specs.Held.{holdIf};
+ghost use Rattle.reader.specs.Building.{withLine, nextRows, nextMarks};
 ghost use Rattle.reader.specs.Reading.{Fit};
 use crate::Marks;
 use crate::Place;

@@ -1,7 +1,7 @@
 // What a record is where the reader stands.
 ghost use mathlib.Core.Path.{_≡_};
-ghost use mathlib.Core.Bool.{_&&_, _||_};
-ghost use Prim.Native.Nat.{ℕ, _+_};
+ghost use mathlib.Core.Bool.{_&&_};
+ghost use Prim.Native.Nat.{_+_};
 ghost use lib.Dec.{eqb, ltb};
 ghost use Rattle.reader.specs.Reading.{isBus, isAfter, pastBuses, inPlace, inRange, inOrder, accepted, verdict, nextPlace, Fit};
 use crate::Place;

@@ -1,10 +1,9 @@
 // The case text, line after line.
 ghost use mathlib.Core.Path.{_≡_};
-ghost use Prim.Native.Nat.{ℕ, _+_, _<_, _≤_};
+ghost use Prim.Native.Nat.{_+_, _<_, _≤_};
 ghost use lib.ListN.{length, drop};
 ghost use Rattle.field.specs.Split.{split};
-ghost use Rattle.reader.specs.Building.{nextRows, nextMarks, noRows, noMarks};
-ghost use Rattle.reader.specs.Reading.{Reader, mostBytes, start, next, Fit, verdict, caseOf, refused, closed, readText, readCase};
+ghost use Rattle.reader.specs.Reading.{mostBytes, next, caseOf, refused, closed, readText, readCase};
 
 pub mod building;
 pub mod judging;

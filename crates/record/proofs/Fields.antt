@@ -1,25 +1,23 @@
 -- What the fields of a line say.
 use mathlib.Core.Path.{_≡_, refl, sym, ap, _∙_}
-use mathlib.Core.Bool.{Bool, true, false, cond}
+use mathlib.Core.Bool.{true, false}
 use mathlib.Core.List.{List, [], _∷_}
-use Prim.Native.Nat.{ℕ, suc, _+_, _≤_, _<_}
+use Prim.Native.Nat.{ℕ, _+_, _≤_, _<_}
 use native.Mathlib.Omega.{arith}
 use borrow.Author.Tests.{eq-eqb, ne-eqb}
 use lib.ListN.{length, getD}
-use Rattle.field.specs.Split.{part, after, split, PieceEnd}
+use Rattle.field.specs.Split.{part, after, PieceEnd}
 use Rattle.field.specs.Number.{numberOf}
 use Rattle.field.proofs.Cutting.{after-none, after-some, after-next}
 use Rattle.record.specs.Fields.{markOf, classOf, one, none, oneNumber, oneSite}
-use Rattle.record.specs.Record.{lineOf, busOf, noFields, lineFields, busFields, wordOf, byWord, recordOf}
-use Rattle.record.specs.declared.Record.{Record}
-use Rattle.record.specs.declared.Record.the-variants.{End, Wrong}
+use Rattle.record.specs.Record.{lineOf, busOf, lineFields, busFields, wordOf, byWord, recordOf}
+use Rattle.record.specs.declared.Record.the-variants.{Wrong}
 use Rattle.record.specs.StepLine.{letterOf, stepWordOf, byLetter, reasonFields, stepOf, stepFields, byStepWord, stepLineOf}
 use Rattle.record.specs.declared.steps.Letter.{Letter}
 use Rattle.record.specs.declared.steps.StepWord.{StepWord}
 use Rattle.record.specs.declared.steps.Given.the-variants.{Wrong as NoReason}
 use Rattle.record.specs.declared.steps.StepLine.the-variants.{Wrong as NoStep}
 use Rattle.record.specs.declared.Word.{Word}
-use Rattle.record.specs.declared.Mark.{Mark}
 use Rattle.record.specs.declared.Mark.the-variants.{Is as Marked, Neither}
 
 module _ (p q : ℕ) where

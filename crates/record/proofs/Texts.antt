@@ -1,5 +1,5 @@
 -- A record's text is read as the record, and a line that is read as a record is that record's text.
-use mathlib.Core.Path.{_≡_, refl, sym, ap, ap₂, _∙_, subst}
+use mathlib.Core.Path.{_≡_, refl, sym, ap, ap₂, _∙_}
 use mathlib.Core.Bool.{Bool, true, false, cond}
 use mathlib.Core.List.{List, [], _∷_}
 use mathlib.Core.Logic.{_⊎_, inl, inr, ⊎-elim}
@@ -7,14 +7,14 @@ use Prim.Native.Nat.{ℕ, _<_}
 use native.Mathlib.Omega.{arith}
 use lib.Dec.{eqb}
 use borrow.Author.Tests.{eqb-true}
-use Rattle.field.specs.Split.{Pieces, split, join, same, bytes}
-use Rattle.field.specs.Number.{numberOf, numberText}
+use Rattle.field.specs.Split.{split, join, same, bytes}
+use Rattle.field.specs.Number.{numberOf}
 use Rattle.field.specs.declared.Numeral.{Numeral}
 use Rattle.field.specs.declared.Numeral.the-variants.{Is, Wrong as NoNumber}
 use Rattle.field.proofs.Cutting.{Free, AllFree, same-is, split-join, join-split, free-join}
 use Rattle.field.proofs.Digits.{read-number, written-number, number-free}
-use Rattle.record.specs.Fields.{markOf, classOf, siteOf, one, none, oneNumber, oneSite}
-use Rattle.record.specs.Record.{wordOf, gridOf, pmuOf, lineOf, busOf, lineFields, busFields, noFields, byWord, recordOf, letter, wordText, fieldTexts, recordText, Formed}
+use Rattle.record.specs.Fields.{markOf, classOf, siteOf, one, none}
+use Rattle.record.specs.Record.{wordOf, gridOf, pmuOf, lineOf, busOf, lineFields, busFields, byWord, recordOf, letter, wordText, fieldTexts, recordText, Formed}
 use Rattle.record.specs.declared.Record.{Record}
 use Rattle.record.specs.declared.Record.the-variants.{Grid, Bus, Line, Pmu, End, Wrong}
 use Rattle.record.specs.declared.Word.{Word}

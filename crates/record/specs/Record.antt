@@ -1,8 +1,8 @@
 -- A line of a case text, read as a record: `grid n`, `bus number class site`, `line a b`, `pmu number` or `end`, with fields parted by one tab.
-use mathlib.Core.Bool.{Bool, true, false, cond}
-use mathlib.Core.List.{List, [], _∷_, _++_}
+use mathlib.Core.Bool.{Bool, cond}
+use mathlib.Core.List.{List, [], _∷_}
 use Prim.Native.Nat.{ℕ, _<_}
-use Rattle.field.specs.Split.{Pieces, split, join, same, bytes, tab}
+use Rattle.field.specs.Split.{split, join, same, bytes, tab}
 use Rattle.field.specs.Number.{numberOf, numberText}
 use Rattle.field.specs.declared.Numeral.{Numeral}
 use Rattle.field.specs.declared.Numeral.the-variants.{Is, Wrong as NoNumber}

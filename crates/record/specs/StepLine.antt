@@ -2,7 +2,7 @@
 use mathlib.Core.Bool.{cond}
 use mathlib.Core.List.{List, [], _∷_}
 use Prim.Native.Nat.{ℕ}
-use Rattle.field.specs.Split.{Pieces, split, same, bytes, tab}
+use Rattle.field.specs.Split.{split, same, bytes, tab}
 use Rattle.field.specs.Number.{numberOf}
 use Rattle.field.specs.declared.Numeral.{Numeral}
 use Rattle.field.specs.declared.Numeral.the-variants.{Is as Number, Wrong as NoNumber}

@@ -1,7 +1,5 @@
 // One line of a text, read as a record: of a case text here, of a step text in `steps`.
 ghost use mathlib.Core.Path.{_≡_};
-ghost use Prim.Native.Nat.{ℕ, _≤_};
-ghost use lib.ListN.{length};
 ghost use Rattle.field.specs.Split.{after};
 ghost use Rattle.record.specs.Fields.{markOf, oneNumber, oneSite};
 ghost use Rattle.record.specs.Record.{wordOf, gridOf, busOf, lineOf, pmuOf, busFields, lineFields, noFields, recordOf};

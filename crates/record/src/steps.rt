@@ -1,6 +1,5 @@
 // One line of a step text, read as a step.
 ghost use mathlib.Core.Path.{_≡_};
-ghost use lib.ListN.{length};
 ghost use Rattle.field.specs.Split.{after};
 ghost use Rattle.record.specs.StepLine.{letterOf, stepWordOf, neighbourOf, zeroOf, ownFields, reasonFields, stepOf, stepFields, endFields, stepLineOf};
 use field::Numeral;

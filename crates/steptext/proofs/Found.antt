@@ -1,12 +1,12 @@
 -- What is known of a step text that is found good: as many steps as it says, at most 1,024, each with numbers 1 to 64.
-use mathlib.Core.Path.{_≡_, refl, sym, ap, _∙_}
-use mathlib.Core.Bool.{Bool, true, false, cond, _&&_}
+use mathlib.Core.Path.{_≡_, refl}
+use mathlib.Core.Bool.{Bool, true, false, cond}
 use mathlib.Core.List.{List, [], _∷_}
-use Prim.Native.Nat.{ℕ, suc, _+_, _-_, _≤_, _<_}
+use Prim.Native.Nat.{ℕ, _+_, _-_, _≤_}
 use native.Mathlib.Omega.{arith}
 use borrow.Author.Tests.{ltb-false}
 use lib.Dec.{ltb}
-use lib.ListN.{length, drop}
+use lib.ListN.{length}
 use Rattle.field.specs.Split.{split}
 use Rattle.field.proofs.Tested.{both}
 use Rattle.step.specs.declared.Reason.{Reason}
@@ -18,7 +18,7 @@ use Rattle.record.specs.declared.steps.StepLine.{StepLine}
 use Rattle.record.specs.declared.steps.StepLine.the-variants.{Step as StepOf, End, Wrong}
 use Rattle.grid.specs.Cases.{mostBuses}
 use Rattle.grid.specs.declared.refusal.Refusal.{Refusal}
-use Rattle.grid.specs.declared.refusal.Refusal.the-variants.{TextTooLong, WrongForm, OutOfRange, TooManySteps}
+use Rattle.grid.specs.declared.refusal.Refusal.the-variants.{TextTooLong, OutOfRange, TooManySteps}
 use Rattle.reader.specs.Reading.{isBus}
 use Rattle.reader.proofs.Judged.{inside, apart}
 use Rattle.steptext.specs.Steps.{mostStepBytes, mostSteps, reasonInRange, stepInRange, ended, lineSaid, stepLines, readSteps, andSteps, stepsIn, stepsFrom, stepsOf, AllNamed}

@@ -1,6 +1,6 @@
 -- A step text, line after line: what is read of the whole is what is read from where the reader stands.
 use mathlib.Core.Path.{_≡_, refl, sym, ap, _∙_}
-use mathlib.Core.Bool.{Bool, true, false, cond, _&&_}
+use mathlib.Core.Bool.{Bool, true, false}
 use mathlib.Core.List.{List, [], _∷_}
 use Prim.Native.Nat.{ℕ, suc, _+_, _-_, _≤_, _<_}
 use native.Mathlib.Numerals.{add-one}
@@ -9,12 +9,12 @@ use borrow.Author.Tests.{lt-ltb, le-ltb}
 use lib.Dec.{eqb}
 use lib.ListN.{length, getD, drop, drop-of-length-le}
 use lib.Seq.{drop-cons}
-use Rattle.field.specs.Split.{Pieces, pieces, split, part, after, PieceEnd}
+use Rattle.field.specs.Split.{split, part, after, PieceEnd}
 use Rattle.field.proofs.Cutting.{after-none, after-some}
 use Rattle.step.specs.declared.Step.{Step}
 use Rattle.record.specs.StepLine.{stepLineOf}
 use Rattle.record.specs.declared.steps.StepLine.{StepLine}
-use Rattle.record.specs.declared.steps.StepLine.the-variants.{Step as StepOf, End, Wrong}
+use Rattle.record.specs.declared.steps.StepLine.the-variants.{Step as StepOf}
 use Rattle.grid.specs.declared.refusal.Refusal.the-variants.{TextTooLong, WrongForm, OutOfRange, TooManySteps}
 use Rattle.steptext.specs.Steps.{mostStepBytes, mostSteps, stepInRange, ended, lineSaid, stepLines, readSteps, andSteps, stepsIn, stepsFrom, StepHere}
 use Rattle.steptext.specs.declared.StepsRead.{StepsRead}

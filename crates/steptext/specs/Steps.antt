@@ -4,7 +4,8 @@ use mathlib.Core.List.{List, [], _∷_}
 use Prim.Native.Nat.{ℕ, _+_, _-_, _≤_, _<_}
 use mathlib.Core.Path.{_≡_}
 use lib.Dec.{ltb}
-use lib.ListN.{length, drop}
+use lib.ListN.{length, drop, replicate}
+use lib.Seq.{sets}
 use Rattle.field.specs.Split.{split, lineFeed}
 use Rattle.step.specs.declared.Reason.{Reason}
 use Rattle.step.specs.declared.Reason.the-variants.{OwnUnit, NeighbourOf, ZeroInjection}
@@ -18,6 +19,7 @@ use Rattle.rules.specs.Steps.{Names}
 use Rattle.reader.specs.Reading.{isBus}
 use Rattle.steptext.specs.declared.StepsRead.{StepsRead}
 use Rattle.steptext.specs.declared.StepsRead.the-variants.{Steps, Refused}
+use Rattle.steptext.specs.declared.StepList.{StepList}
 use Rattle.steptext.specs.declared.NextStep.{NextStep}
 use Rattle.steptext.specs.declared.NextStep.the-variants.{At, Nothing}
 
@@ -100,3 +102,21 @@ StepAt text a Nothing = stepsFrom text a ≡ []
 abbrev pub AllNamed : List Step → Type 0
 AllNamed [] = Unit {0}
 AllNamed (x ∷ xs) = Names mostBuses x × AllNamed xs
+
+-- ---- the list
+
+-- the record that no step fills
+abbrev pub noStep : Step
+noStep = record { bus = 0; reason = OwnUnit }
+
+-- a list of 1,024 records that begins with these steps
+unfoldable pub listed : List Step → List Step
+listed xs = sets (replicate mostSteps noStep) 0 xs
+
+-- what is said of a text, with its steps where it is good
+abbrev pub listFor : StepsRead → List Step → StepList
+listFor (Steps n) xs = record { answer = Steps n; steps = listed xs }
+listFor (Refused r) xs = record { answer = Refused r; steps = listed [] }
+
+unfoldable pub listSteps : List ℕ → StepList
+listSteps text = listFor (readSteps text) (stepsOf text)

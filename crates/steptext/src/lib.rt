@@ -1,9 +1,9 @@
 // The step text, line after line: no list is stored.
 ghost use mathlib.Core.Path.{_≡_};
-ghost use Prim.Native.Nat.{ℕ, _+_, _≤_, _<_};
+ghost use Prim.Native.Nat.{_+_, _≤_, _<_};
 ghost use lib.ListN.{length, drop};
 ghost use Rattle.field.specs.Split.{split};
-ghost use Rattle.steptext.specs.Steps.{reasonInRange, stepInRange, ended, readSteps, StepAt};
+ghost use Rattle.steptext.specs.Steps.{reasonInRange, stepInRange, ended, readSteps, StepAt, stepsOf, listed, listSteps};
 use field::piece_end;
 use grid::Refusal;
 use reader::judging::is_bus;
@@ -102,5 +102,52 @@ pub fn step_at(text: &[u8], at: usize) -> NextStep
         StepLine::Step(x) => NextStep::At(x, e + 1),
         StepLine::End => NextStep::Nothing,
         StepLine::Wrong => NextStep::Nothing,
+    }
+}
+
+// What reading a step text says, and its steps; the places after them, and all of them where the text is refused, hold bus 0.
+pub struct StepList {
+    pub answer: StepsRead,
+    pub steps: [Step; 1024],
+}
+
+// The n steps of a text, one after another.
+fn list_of(text: &[u8], n: usize) -> [Step; 1024]
+    requires { ⌜ (length (stepsOf (now text)) ≡ n) × (n ≤ 1024) ⌝ }
+    ensures { λ r. ⌜ r ≡ listed (stepsOf (now (text .entry))) ⌝ }
+{
+    let mut steps: [Step; 1024] = [Step {
+        bus: 0,
+        reason: Reason::OwnUnit,
+    }; 1024];
+    let mut at: usize = 0;
+    for i in 0..n {
+        match step_at(text, at) {
+            NextStep::At(x, e) => {
+                steps[i] = x;
+                at = e;
+            }
+            NextStep::Nothing => {
+                return steps;
+            }
+        }
+    }
+    steps
+}
+
+// The steps of a text, as a list.
+pub fn list_steps(text: &[u8]) -> StepList
+    ensures { λ r. ⌜ r ≡ listSteps (now (text .entry)) ⌝ }
+{
+    let answer = check_steps(text);
+    match answer {
+        StepsRead::Steps(n) => StepList {
+            answer,
+            steps: list_of(text, n),
+        },
+        StepsRead::Refused(_) => StepList {
+            answer,
+            steps: list_of(b"", 0),
+        },
     }
 }

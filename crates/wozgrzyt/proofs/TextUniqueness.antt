@@ -10,10 +10,14 @@ use Rattle.reader.specs.Reading.{mostBytes, got}
 use Rattle.reader.specs.Writing.{caseText}
 use Rattle.reader.specs.declared.CaseRead.{CaseRead}
 use Rattle.inverse.proofs.Inverse as inverse
+use Rattle.steptext.specs.Steps.{mostSteps, stepsOf, AllNamed}
+use Rattle.steptext.specs.declared.StepList.{StepList}
 use Rattle.steptext.specs.declared.StepsRead.{StepsRead}
+use Rattle.steptext.specs.declared.StepsRead.the-variants.{Steps}
+use Rattle.steptext.proofs.Found as found
 use Rattle.wozgrzyt.specs.declared.texts.Written.{Written}
 use Rattle.wozgrzyt.specs.declared.texts.Written.the-variants as written
-use Rattle.wozgrzyt.specs.TextReplies.{CaseReadReply, writeChecks, CaseWrittenReply, StepsCheckedReply}
+use Rattle.wozgrzyt.specs.TextReplies.{CaseReadReply, writeChecks, CaseWrittenReply, StepsCheckedReply, StepsListedReply}
 
 -- ---- uniqueness
 
@@ -40,6 +44,20 @@ case-written-unique c lent (written.Refused r) (written.Refused s) left right p 
 
 pub steps-checked-unique : (text : List ℕ) (a b : StepsRead) → StepsCheckedReply text a → StepsCheckedReply text b → a ≡ b
 steps-checked-unique text a b p q = p ∙ sym q
+
+pub steps-listed-unique : (text : List ℕ) (a b : StepList) → StepsListedReply text a → StepsListedReply text b → a ≡ b
+steps-listed-unique text a b p q = p ∙ sym q
+
+-- a step text that is found good has as many steps as it says
+pub steps-counted : (text : List ℕ) (n : ℕ) → StepsCheckedReply text (Steps n) → length (stepsOf text) ≡ n
+steps-counted text n e = found.steps-count text n (sym e)
+
+-- at most 1,024, each with numbers 1 to 64
+pub steps-few : (text : List ℕ) (n : ℕ) → StepsCheckedReply text (Steps n) → n ≤ mostSteps
+steps-few text n e = found.steps-found text n (sym e) .few
+
+pub steps-named : (text : List ℕ) (n : ℕ) → StepsCheckedReply text (Steps n) → AllNamed (stepsOf text)
+steps-named text n e = found.steps-found text n (sym e) .named
 
 -- ---- one form for each case
 

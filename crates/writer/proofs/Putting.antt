@@ -1,11 +1,11 @@
 -- Texts put one after another.
 use mathlib.Core.Path.{_≡_, refl, sym, ap, _∙_}
-use mathlib.Core.List.{List, [], _∷_, _++_, append-nil}
+use mathlib.Core.List.{List, [], _∷_, _++_}
 use Prim.Native.Nat.{ℕ, suc, _+_, _/_, _%_, _≤_, _<_}
-use native.Mathlib.Nat.{add-zero, add-suc, suc-add}
+use native.Mathlib.Nat.{add-zero}
 use native.Mathlib.Numerals.{add-one}
 use native.Mathlib.Omega.{arith}
-use lib.ListN.{length, set, getD, take, drop, length-append, length-set}
+use lib.ListN.{length, set, getD, take, length-append}
 use lib.Seq.{sets, set-out, take-suc, take-all, length-sets}
 use mathlib.Core.Bool.{Bool, true, false}
 use Rattle.record.specs.Record.{letter}

@@ -1,11 +1,11 @@
 -- A text put from the first byte on, where there is room for it: the text, and the bytes after it as they were.
-use mathlib.Core.Path.{_≡_, refl, ap, _∙_}
+use mathlib.Core.Path.{_≡_, ap, _∙_}
 use mathlib.Core.List.{List, _++_}
 use Prim.Native.Nat.{ℕ, _+_, _≤_}
 use native.Mathlib.Omega.{arith}
 use native.Mathlib.Nat.{zero-add}
 use lib.ListN.{length, drop}
-use lib.Seq.{sets, sets-eq}
+use lib.Seq.{sets-eq}
 use Rattle.writer.specs.Put.{Put}
 
 pub put-whole : {l t m : List ℕ} {k : ℕ} → Put l 0 t m k → length t ≤ length l → m ≡ t ++ drop (length t) l

@@ -1,8 +1,8 @@
 // The text of a case.
 ghost use mathlib.Core.Path.{_≡_};
 ghost use mathlib.Core.Bool.{cond};
-ghost use mathlib.Core.List.{List, [], _∷_, _++_};
-ghost use Prim.Native.Nat.{ℕ, _+_, _-_, _<_, _≤_, _^_};
+ghost use mathlib.Core.List.{[]};
+ghost use Prim.Native.Nat.{_+_, _-_, _<_, _≤_, _^_};
 ghost use Rattle.busset.specs.Sets.{Bus, width, setOf};
 ghost use Rattle.record.specs.Record.{Formed};
 ghost use Rattle.record.specs.declared.Record.the-variants.{Line, Pmu};

@@ -1,7 +1,7 @@
 // Texts written into lent bytes. A byte past the end is counted and not written, so that what counts is what writes.
 ghost use mathlib.Core.Path.{_≡_};
-ghost use mathlib.Core.List.{List, [], _∷_, _++_};
-ghost use Prim.Native.Nat.{ℕ, _+_, _<_, _^_};
+ghost use mathlib.Core.List.{[], _∷_, _++_};
+ghost use Prim.Native.Nat.{_+_, _<_, _^_};
 ghost use Rattle.field.specs.Number.{numberText};
 ghost use Rattle.record.specs.Record.{letter, Formed};
 ghost use lib.ListN.{length};

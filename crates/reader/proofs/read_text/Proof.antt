@@ -23,7 +23,11 @@ refusal-requires : tie.Need-refusal-requires Inv-loop μ-loop
 refusal-requires c κs = search needs
 
 returns : tie.Need-returns Inv-loop μ-loop
-returns c = c .refusal .ensures ∙ no-feed (c .before .before .before .loop .inv) (c .before .before .piece-end .ensures) (c .before .if1 .taken)
+returns c =
+    let at-if1 = c .before in
+    let at-piece-end = at-if1 .before in
+    let at-loop = at-piece-end .before in
+    c .refusal .ensures ∙ no-feed (at-loop .loop .inv) (at-piece-end .piece-end .ensures) (at-if1 .if1 .taken)
 
 sub-record-of : tie.Need-sub-record-of Inv-loop μ-loop
 sub-record-of c = search needs
@@ -44,13 +48,25 @@ enum-told : tie.Need-enum-told Inv-loop μ-loop
 enum-told c = search needs
 
 build-rows-requires : tie.Need-build-rows-requires Inv-loop μ-loop
-build-rows-requires c κs = fit-of _ _ (c .before .before .before .before .before .before .before .before .loop .inv .small) (sym (c .before .before .before .judge .ensures) ∙ c .before .enum-told .given .1)
+build-rows-requires c κs =
+    let at-enum-told = c .before in
+    let at-judge = at-enum-told .before .before in
+    let at-loop = at-judge .before .before .before .before .before in
+    fit-of _ _ (at-loop .loop .inv .small) (sym (at-judge .judge .ensures) ∙ at-enum-told .enum-told .given .1)
 
 build-marks-requires : tie.Need-build-marks-requires Inv-loop μ-loop
-build-marks-requires c κs = fit-of _ _ (c .before .before .before .before .before .before .before .before .before .loop .inv .small) (sym (c .before .before .before .before .judge .ensures) ∙ c .before .before .enum-told .given .1)
+build-marks-requires c κs =
+    let at-enum-told = c .before .before in
+    let at-judge = at-enum-told .before .before in
+    let at-loop = at-judge .before .before .before .before .before in
+    fit-of _ _ (at-loop .loop .inv .small) (sym (at-judge .judge .ensures) ∙ at-enum-told .enum-told .given .1)
 
 next-place-requires : tie.Need-next-place-requires Inv-loop μ-loop
-next-place-requires c κs = fit-of _ _ (c .before .before .before .before .before .before .before .before .before .before .loop .inv .small) (sym (c .before .before .before .before .before .judge .ensures) ∙ c .before .before .before .enum-told .given .1)
+next-place-requires c κs =
+    let at-enum-told = c .before .before .before in
+    let at-judge = at-enum-told .before .before in
+    let at-loop = at-judge .before .before .before .before .before in
+    fit-of _ _ (at-loop .loop .inv .small) (sym (at-judge .judge .ensures) ∙ at-enum-told .enum-told .given .1)
 
 enum-told-2 : tie.Need-enum-told-2 Inv-loop μ-loop
 enum-told-2 c = search needs
@@ -62,7 +78,15 @@ at-end-requires : tie.Need-at-end-requires Inv-loop μ-loop
 at-end-requires c κs = search needs
 
 returns-2 : tie.Need-returns-2 Inv-loop μ-loop
-returns-2 c = c .at-end .ensures ∙ line-said (c .before .before .before .before .before .before .before .before .before .loop .inv) (c .before .before .before .before .before .before .before .before .piece-end .ensures) (c .before .before .before .before .before .before .before .if1 .left) (c .before .before .before .before .before .record-of .ensures) (c .before .before .before .before .judge .ensures) (c .before .before .enum-told2 .given .1)
+returns-2 c =
+    let at-enum-told2 = c .before .before in
+    let at-judge = at-enum-told2 .before .before in
+    let at-record-of = at-judge .before in
+    let at-if1 = at-record-of .before .before in
+    let at-piece-end = at-if1 .before in
+    let at-loop = at-piece-end .before in
+    c .at-end .ensures ∙ line-said (at-loop .loop .inv) (at-piece-end .piece-end .ensures) (at-if1 .if1 .left) (at-record-of .record-of .ensures)
+    (at-judge .judge .ensures) (at-enum-told2 .enum-told2 .given .1)
 
 enum-told-3 : tie.Need-enum-told-3 Inv-loop μ-loop
 enum-told-3 c = search needs
@@ -71,7 +95,15 @@ refusal-requires-2 : tie.Need-refusal-requires-2 Inv-loop μ-loop
 refusal-requires-2 c κs = search needs
 
 returns-3 : tie.Need-returns-3 Inv-loop μ-loop
-returns-3 c = c .refusal2 .ensures ∙ line-said (c .before .before .before .before .before .before .before .before .loop .inv) (c .before .before .before .before .before .before .before .piece-end .ensures) (c .before .before .before .before .before .before .if1 .left) (c .before .before .before .before .record-of .ensures) (c .before .before .before .judge .ensures) (c .before .enum-told3 .given .1)
+returns-3 c =
+    let at-enum-told3 = c .before in
+    let at-judge = at-enum-told3 .before .before in
+    let at-record-of = at-judge .before in
+    let at-if1 = at-record-of .before .before in
+    let at-piece-end = at-if1 .before in
+    let at-loop = at-piece-end .before in
+    c .refusal2 .ensures ∙ line-said (at-loop .loop .inv) (at-piece-end .piece-end .ensures) (at-if1 .if1 .left) (at-record-of .record-of .ensures)
+    (at-judge .judge .ensures) (at-enum-told3 .enum-told3 .given .1)
 
 enum-told-4 : tie.Need-enum-told-4 Inv-loop μ-loop
 enum-told-4 c = search needs
@@ -80,7 +112,15 @@ refusal-requires-3 : tie.Need-refusal-requires-3 Inv-loop μ-loop
 refusal-requires-3 c κs = search needs
 
 returns-4 : tie.Need-returns-4 Inv-loop μ-loop
-returns-4 c = c .refusal3 .ensures ∙ line-said (c .before .before .before .before .before .before .before .before .loop .inv) (c .before .before .before .before .before .before .before .piece-end .ensures) (c .before .before .before .before .before .before .if1 .left) (c .before .before .before .before .record-of .ensures) (c .before .before .before .judge .ensures) (c .before .enum-told4 .given .1)
+returns-4 c =
+    let at-enum-told4 = c .before in
+    let at-judge = at-enum-told4 .before .before in
+    let at-record-of = at-judge .before in
+    let at-if1 = at-record-of .before .before in
+    let at-piece-end = at-if1 .before in
+    let at-loop = at-piece-end .before in
+    c .refusal3 .ensures ∙ line-said (at-loop .loop .inv) (at-piece-end .piece-end .ensures) (at-if1 .if1 .left) (at-record-of .record-of .ensures)
+    (at-judge .judge .ensures) (at-enum-told4 .enum-told4 .given .1)
 
 enum-told-5 : tie.Need-enum-told-5 Inv-loop μ-loop
 enum-told-5 c = search needs
@@ -89,7 +129,15 @@ refusal-requires-4 : tie.Need-refusal-requires-4 Inv-loop μ-loop
 refusal-requires-4 c κs = search needs
 
 returns-5 : tie.Need-returns-5 Inv-loop μ-loop
-returns-5 c = c .refusal4 .ensures ∙ line-said (c .before .before .before .before .before .before .before .before .loop .inv) (c .before .before .before .before .before .before .before .piece-end .ensures) (c .before .before .before .before .before .before .if1 .left) (c .before .before .before .before .record-of .ensures) (c .before .before .before .judge .ensures) (c .before .enum-told5 .given .1)
+returns-5 c =
+    let at-enum-told5 = c .before in
+    let at-judge = at-enum-told5 .before .before in
+    let at-record-of = at-judge .before in
+    let at-if1 = at-record-of .before .before in
+    let at-piece-end = at-if1 .before in
+    let at-loop = at-piece-end .before in
+    c .refusal4 .ensures ∙ line-said (at-loop .loop .inv) (at-piece-end .piece-end .ensures) (at-if1 .if1 .left) (at-record-of .record-of .ensures)
+    (at-judge .judge .ensures) (at-enum-told5 .enum-told5 .given .1)
 
 add-k : tie.Need-add-k Inv-loop μ-loop
 add-k c = search needs
@@ -101,7 +149,17 @@ loop-less : tie.Need-loop-less Inv-loop μ-loop
 loop-less c = search needs
 
 loop-again : tie.Need-loop-again Inv-loop μ-loop
-loop-again c = going-on (c .before .before .before .before .before .before .before .before .before .before .before .loop .inv) (c .before .before .before .before .before .before .before .before .before .before .piece-end .ensures) (c .before .before .before .before .before .before .before .before .before .if1 .left) (c .before .before .before .before .before .before .before .record-of .ensures) (c .before .before .before .before .before .before .judge .ensures) (c .before .before .before .before .enum-told .given .1) (c .next-place .ensures) (c .before .before .build-rows .ensures) (c .before .build-marks .ensures)
+loop-again c =
+    let at-build-marks = c .before in
+    let at-build-rows = at-build-marks .before in
+    let at-enum-told = at-build-rows .before .before in
+    let at-judge = at-enum-told .before .before in
+    let at-record-of = at-judge .before in
+    let at-if1 = at-record-of .before .before in
+    let at-piece-end = at-if1 .before in
+    let at-loop = at-piece-end .before in
+    going-on (at-loop .loop .inv) (at-piece-end .piece-end .ensures) (at-if1 .if1 .left) (at-record-of .record-of .ensures) (at-judge .judge .ensures)
+    (at-enum-told .enum-told .given .1) (c .next-place .ensures) (at-build-rows .build-rows .ensures) (at-build-marks .build-marks .ensures)
 
 pub read-text-spec : {M : Type 1} → statement M
 read-text-spec =

@@ -44,10 +44,27 @@ step-in-range-requires : tie.Need-step-in-range-requires Inv-loop μ-loop
 step-in-range-requires c κs = search needs
 
 returns-3 : tie.Need-returns-3 Inv-loop μ-loop
-returns-3 c = out-of-range (c .before .before .before .before .before .before .before .before .before .loop .inv) (c .before .before .before .before .before .before .before .before .piece-end .ensures) (c .before .before .before .before .before .before .before .if2 .left) (c .before .before .before .before .before .step-line-of .ensures) (c .before .before .before .x .given .1) (failed (c .before .step-in-range .ensures) (c .if3 .taken))
+returns-3 c =
+    let at-step-in-range = c .before in
+    let at-x = at-step-in-range .before .before in
+    let at-step-line-of = at-x .before .before in
+    let at-if2 = at-step-line-of .before .before in
+    let at-piece-end = at-if2 .before in
+    let at-loop = at-piece-end .before in
+    out-of-range (at-loop .loop .inv) (at-piece-end .piece-end .ensures) (at-if2 .if2 .left) (at-step-line-of .step-line-of .ensures)
+    (at-x .x .given .1) (failed (at-step-in-range .step-in-range .ensures) (c .if3 .taken))
 
 returns-4 : tie.Need-returns-4 Inv-loop μ-loop
-returns-4 c = too-many (c .before .before .before .before .before .before .before .before .before .before .loop .inv) (c .before .before .before .before .before .before .before .before .before .piece-end .ensures) (c .before .before .before .before .before .before .before .before .if2 .left) (c .before .before .before .before .before .before .step-line-of .ensures) (c .before .before .before .before .x .given .1) (held (c .before .before .step-in-range .ensures) (c .before .if3 .left)) (c .if4 .taken)
+returns-4 c =
+    let at-if3 = c .before in
+    let at-step-in-range = at-if3 .before in
+    let at-x = at-step-in-range .before .before in
+    let at-step-line-of = at-x .before .before in
+    let at-if2 = at-step-line-of .before .before in
+    let at-piece-end = at-if2 .before in
+    let at-loop = at-piece-end .before in
+    too-many (at-loop .loop .inv) (at-piece-end .piece-end .ensures) (at-if2 .if2 .left) (at-step-line-of .step-line-of .ensures) (at-x .x .given .1)
+    (held (at-step-in-range .step-in-range .ensures) (at-if3 .if3 .left)) (c .if4 .taken)
 
 enum-told : tie.Need-enum-told Inv-loop μ-loop
 enum-told c = search needs
@@ -56,13 +73,26 @@ at-end-requires : tie.Need-at-end-requires Inv-loop μ-loop
 at-end-requires c κs = search needs
 
 returns-5 : tie.Need-returns-5 Inv-loop μ-loop
-returns-5 c = c .at-end .ensures ∙ line-said (c .before .before .before .before .before .before .before .loop .inv) (c .before .before .before .before .before .before .piece-end .ensures) (c .before .before .before .before .before .if2 .left) (c .before .before .before .step-line-of .ensures) (c .before .enum-told .given .1)
+returns-5 c =
+    let at-enum-told = c .before in
+    let at-step-line-of = at-enum-told .before .before in
+    let at-if2 = at-step-line-of .before .before in
+    let at-piece-end = at-if2 .before in
+    let at-loop = at-piece-end .before in
+    c .at-end .ensures ∙ line-said (at-loop .loop .inv) (at-piece-end .piece-end .ensures) (at-if2 .if2 .left)
+    (at-step-line-of .step-line-of .ensures) (at-enum-told .enum-told .given .1)
 
 enum-told-2 : tie.Need-enum-told-2 Inv-loop μ-loop
 enum-told-2 c = search needs
 
 returns-6 : tie.Need-returns-6 Inv-loop μ-loop
-returns-6 c = line-said (c .before .before .before .before .before .before .loop .inv) (c .before .before .before .before .before .piece-end .ensures) (c .before .before .before .before .if2 .left) (c .before .before .step-line-of .ensures) (c .enum-told2 .given .1)
+returns-6 c =
+    let at-step-line-of = c .before .before in
+    let at-if2 = at-step-line-of .before .before in
+    let at-piece-end = at-if2 .before in
+    let at-loop = at-piece-end .before in
+    line-said (at-loop .loop .inv) (at-piece-end .piece-end .ensures) (at-if2 .if2 .left) (at-step-line-of .step-line-of .ensures)
+    (c .enum-told2 .given .1)
 
 add-k : tie.Need-add-k Inv-loop μ-loop
 add-k c = search needs
@@ -74,7 +104,16 @@ loop-less : tie.Need-loop-less Inv-loop μ-loop
 loop-less c = search needs
 
 loop-again : tie.Need-loop-again Inv-loop μ-loop
-loop-again c = going-on (c .before .before .before .before .before .before .before .before .before .before .loop .inv) (c .before .before .before .before .before .before .before .before .before .piece-end .ensures) (c .before .before .before .before .before .before .before .before .if2 .left) (c .before .before .before .before .before .before .step-line-of .ensures) (c .before .before .before .before .x .given .1) (held (c .before .before .step-in-range .ensures) (c .before .if3 .left)) (c .if4 .left)
+loop-again c =
+    let at-if3 = c .before in
+    let at-step-in-range = at-if3 .before in
+    let at-x = at-step-in-range .before .before in
+    let at-step-line-of = at-x .before .before in
+    let at-if2 = at-step-line-of .before .before in
+    let at-piece-end = at-if2 .before in
+    let at-loop = at-piece-end .before in
+    going-on (at-loop .loop .inv) (at-piece-end .piece-end .ensures) (at-if2 .if2 .left) (at-step-line-of .step-line-of .ensures) (at-x .x .given .1)
+    (held (at-step-in-range .step-in-range .ensures) (at-if3 .if3 .left)) (c .if4 .left)
 
 pub check-steps-spec : {M : Type 1} → statement M
 check-steps-spec =

@@ -1,5 +1,4 @@
-use mathlib.Core.Path.{_≡_, refl}
-use Prim.Native.Nat.{_+_, _-_, _≤_}
+use Prim.Native.Nat.{_-_, _≤_}
 use lib.ListN.{length}
 use native.Mathlib.Omega.{arith}
 use borrow.Author.Needs.{needs}
@@ -28,7 +27,10 @@ one-line-requires : tie.Need-one-line-requires Inv-loop μ-loop
 one-line-requires c κs = search needs
 
 loop-less : tie.Need-loop-less Inv-loop μ-loop
-loop-less c = omega (arith, c .before .before .line-end .ensures .some (c .before .before .before .loop-test .taken))
+loop-less c =
+    let at-line-end = c .before .before in
+    let at-loop-test = at-line-end .before in
+    omega (arith, at-line-end .line-end .ensures .some (at-loop-test .loop-test .taken))
 
 loop-again : tie.Need-loop-again Inv-loop μ-loop
 loop-again c = search needs

@@ -46,7 +46,10 @@ element-write-rows-2 : tie.Need-element-write-rows-2
 element-write-rows-2 c = search needs
 
 returns : tie.Need-returns
-returns c = cc (hold-is _ _ (c .before .before .before .before .pre .1 .some) (c .before .before .with .ensures), hold-is _ _ (c .before .before .before .before .pre .0 .some) (c .with2 .ensures))
+returns c =
+    let at-with = c .before .before in
+    let at-pre = at-with .before .before in
+    cc (hold-is _ _ (at-pre .pre .1 .some) (at-with .with .ensures), hold-is _ _ (at-pre .pre .0 .some) (c .with2 .ensures))
 
 pub add-line-spec : {M : Type 1} → statement M
 add-line-spec =

@@ -12,10 +12,16 @@ enum-known-r : tie.Need-enum-known-r
 enum-known-r c = search needs
 
 hold-if-requires : tie.Need-hold-if-requires
-hold-if-requires c κs = subst (Fit (c .before .before .before .args .s)) (c .before .r .given .1) (c .before .before .before .pre)
+hold-if-requires c κs =
+    let at-r = c .before in
+    let at-args = at-r .before .before in
+    subst (Fit (at-args .args .s)) (at-r .r .given .1) (at-args .pre)
 
 hold-if-requires-2 : tie.Need-hold-if-requires-2
-hold-if-requires-2 c κs = subst (Fit (c .before .before .before .before .args .s)) (c .before .before .r .given .1) (c .before .before .before .before .pre)
+hold-if-requires-2 c κs =
+    let at-r = c .before .before in
+    let at-args = at-r .before .before in
+    subst (Fit (at-args .args .s)) (at-r .r .given .1) (at-args .pre)
 
 enum-told-2 : tie.Need-enum-told-2
 enum-told-2 c = search needs
@@ -24,7 +30,10 @@ enum-known-r-2 : tie.Need-enum-known-r-2
 enum-known-r-2 c = search needs
 
 with-requires : tie.Need-with-requires
-with-requires c κs = subst (Fit (c .before .before .before .args .s)) (c .before .r2 .given .1) (c .before .before .before .pre)
+with-requires c κs =
+    let at-r2 = c .before in
+    let at-args = at-r2 .before .before in
+    subst (Fit (at-args .args .s)) (at-r2 .r2 .given .1) (at-args .pre)
 
 enum-told-3 : tie.Need-enum-told-3
 enum-told-3 c = search needs
@@ -42,7 +51,11 @@ returns-3 : tie.Need-returns-3
 returns-3 c = search needs
 
 returns-4 : tie.Need-returns-4
-returns-4 c = let f = subst (Fit (c .before .before .before .before .args .s)) (c .before .before .r2 .given .1) (c .before .before .before .before .pre) in rw (c .before .before .r2 .given .1) (cc (hold-is _ _ (f .some) (c .with .ensures)))
+returns-4 c =
+    let at-r2 = c .before .before in
+    let at-args = at-r2 .before .before in
+    let f = subst (Fit (at-args .args .s)) (at-r2 .r2 .given .1) (at-args .pre) in rw (at-r2 .r2 .given .1) (cc (hold-is _ _ (f .some)
+    (c .with .ensures)))
 
 returns-5 : tie.Need-returns-5
 returns-5 c = search needs

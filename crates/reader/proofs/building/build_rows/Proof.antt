@@ -14,7 +14,10 @@ enum-known-r : tie.Need-enum-known-r
 enum-known-r c = search needs
 
 add-line-requires : tie.Need-add-line-requires
-add-line-requires c κs = let f = subst (Fit (c .before .before .before .before .args .s)) (c .before .before .r .given .1) (c .before .before .before .before .pre) in (f .0, f .1)
+add-line-requires c κs =
+    let at-r = c .before .before in
+    let at-args = at-r .before .before in
+    let f = subst (Fit (at-args .args .s)) (at-r .r .given .1) (at-args .pre) in (f .0, f .1)
 
 enum-told-3 : tie.Need-enum-told-3
 enum-told-3 c = search needs

@@ -1,4 +1,4 @@
-use borrow.Author.Tests.{lt-ltb, le-ltb, le-leb, lt-leb, eq-eqb, ne-eqb}
+use borrow.Author.Tests.{lt-ltb, le-ltb, eq-eqb, ne-eqb}
 use Rattle.reader.specs.Reading.{isAfter}
 use Rattle.reader.proofs.judging.is_after.Statement.{statement}
 use Rattle.reader.proofs.judging.is_after.Tie as tie

@@ -1,4 +1,4 @@
-use borrow.Author.Tests.{lt-ltb, le-ltb, le-leb, lt-leb, eq-eqb, ne-eqb}
+use borrow.Author.Tests.{le-leb, lt-leb}
 use Rattle.reader.specs.Reading.{isBus}
 use Rattle.reader.proofs.judging.is_bus.Statement.{statement}
 use Rattle.reader.proofs.judging.is_bus.Tie as tie

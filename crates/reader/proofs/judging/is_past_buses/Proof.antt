@@ -1,4 +1,4 @@
-use borrow.Author.Tests.{lt-ltb, le-ltb, le-leb, lt-leb, eq-eqb, ne-eqb}
+use borrow.Author.Tests.{lt-ltb, le-ltb}
 use Rattle.reader.specs.Reading.{pastBuses}
 use Rattle.reader.proofs.judging.is_past_buses.Statement.{statement}
 use Rattle.reader.proofs.judging.is_past_buses.Tie as tie

@@ -15,7 +15,10 @@ enum-known-r-3 : tie.Need-enum-known-r-3
 enum-known-r-3 c = search needs
 
 add-t9 : tie.Need-add-t9
-add-t9 c = let f = subst (Fit (c .before .before .before .before .args .s)) (c .before .before .r3 .given .1) (c .before .before .before .before .pre) in omega arith
+add-t9 c =
+    let at-r3 = c .before .before in
+    let at-args = at-r3 .before .before in
+    let f = subst (Fit (at-args .args .s)) (at-r3 .r3 .given .1) (at-args .pre) in omega arith
 
 enum-known-r-4 : tie.Need-enum-known-r-4
 enum-known-r-4 c = search needs

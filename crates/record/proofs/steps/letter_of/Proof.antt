@@ -22,7 +22,11 @@ is-same-requires-2 c κs = search needs
 
 returns-2 : tie.Need-returns-2
 unfolding letterOf
-returns-2 c = rw (sym (c .before .before .before .before .is-same .ensures) ∙ c .before .before .before .if1 .left, sym (c .before .is-same2 .ensures) ∙ c .if2 .taken)
+returns-2 c =
+    let at-is-same2 = c .before in
+    let at-if1 = at-is-same2 .before .before in
+    let at-is-same = at-if1 .before in
+    rw (sym (at-is-same .is-same .ensures) ∙ at-if1 .if1 .left, sym (at-is-same2 .is-same2 .ensures) ∙ c .if2 .taken)
 
 slice-aggregate-is-same-3 : tie.Need-slice-aggregate-is-same-3
 slice-aggregate-is-same-3 c = search needs
@@ -32,11 +36,33 @@ is-same-requires-3 c κs = search needs
 
 returns-3 : tie.Need-returns-3
 unfolding letterOf
-returns-3 c = rw (sym (c .before .before .before .before .before .before .before .is-same .ensures) ∙ c .before .before .before .before .before .before .if1 .left, sym (c .before .before .before .before .is-same2 .ensures) ∙ c .before .before .before .if2 .left, sym (c .before .is-same3 .ensures) ∙ c .if3 .taken)
+returns-3 c =
+    let at-is-same3 = c .before in
+    let at-if2 = at-is-same3 .before .before in
+    let at-is-same2 = at-if2 .before in
+    let at-if1 = at-is-same2 .before .before in
+    let at-is-same = at-if1 .before in
+    rw (
+      sym (at-is-same .is-same .ensures) ∙ at-if1 .if1 .left,
+      sym (at-is-same2 .is-same2 .ensures) ∙ at-if2 .if2 .left,
+      sym
+          (at-is-same3 .is-same3 .ensures) ∙ c .if3 .taken,
+    )
 
 returns-4 : tie.Need-returns-4
 unfolding letterOf
-returns-4 c = rw (sym (c .before .before .before .before .before .before .before .is-same .ensures) ∙ c .before .before .before .before .before .before .if1 .left, sym (c .before .before .before .before .is-same2 .ensures) ∙ c .before .before .before .if2 .left, sym (c .before .is-same3 .ensures) ∙ c .if3 .left)
+returns-4 c =
+    let at-is-same3 = c .before in
+    let at-if2 = at-is-same3 .before .before in
+    let at-is-same2 = at-if2 .before in
+    let at-if1 = at-is-same2 .before .before in
+    let at-is-same = at-if1 .before in
+    rw (
+      sym (at-is-same .is-same .ensures) ∙ at-if1 .if1 .left,
+      sym (at-is-same2 .is-same2 .ensures) ∙ at-if2 .if2 .left,
+      sym
+          (at-is-same3 .is-same3 .ensures) ∙ c .if3 .left,
+    )
 
 pub letter-of-spec : {M : Type 1} → statement M
 letter-of-spec =

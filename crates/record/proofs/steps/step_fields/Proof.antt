@@ -33,7 +33,13 @@ step-of-requires : tie.Need-step-of-requires
 step-of-requires c κs = search needs
 
 returns-2 : tie.Need-returns-2
-returns-2 c = c .step-of .ensures ∙ ap₂ stepOf (c .before .before .number-of .ensures) (c .before .reason-fields .ensures) ∙ step-is (c .before .before .before .before .before .if1 .left) (c .before .before .before .before .piece-end .ensures)
+returns-2 c =
+    let at-reason-fields = c .before in
+    let at-number-of = at-reason-fields .before in
+    let at-piece-end = at-number-of .before .before in
+    let at-if1 = at-piece-end .before in
+    c .step-of .ensures ∙ ap₂ stepOf (at-number-of .number-of .ensures) (at-reason-fields .reason-fields .ensures) ∙ step-is (at-if1 .if1 .left)
+    (at-piece-end .piece-end .ensures)
 
 pub step-fields-spec : {M : Type 1} → statement M
 step-fields-spec =

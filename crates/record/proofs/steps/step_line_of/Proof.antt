@@ -35,13 +35,24 @@ enum-told-3 : tie.Need-enum-told-3
 enum-told-3 c = search needs
 
 returns : tie.Need-returns
-returns c = c .step-fields .ensures ∙ step-by (c .before .before .before .before .before .piece-end .ensures) (c .before .before .before .step-word-of .ensures) (c .before .enum-told .given .1)
+returns c =
+    let at-enum-told = c .before in
+    let at-step-word-of = at-enum-told .before .before in
+    let at-piece-end = at-step-word-of .before .before in
+    c .step-fields .ensures ∙ step-by (at-piece-end .piece-end .ensures) (at-step-word-of .step-word-of .ensures) (at-enum-told .enum-told .given .1)
 
 returns-2 : tie.Need-returns-2
-returns-2 c = c .end-fields .ensures ∙ step-by (c .before .before .before .before .before .piece-end .ensures) (c .before .before .before .step-word-of .ensures) (c .before .enum-told2 .given .1)
+returns-2 c =
+    let at-enum-told2 = c .before in
+    let at-step-word-of = at-enum-told2 .before .before in
+    let at-piece-end = at-step-word-of .before .before in
+    c .end-fields .ensures ∙ step-by (at-piece-end .piece-end .ensures) (at-step-word-of .step-word-of .ensures) (at-enum-told2 .enum-told2 .given .1)
 
 returns-3 : tie.Need-returns-3
-returns-3 c = step-by (c .before .before .before .before .piece-end .ensures) (c .before .before .step-word-of .ensures) (c .enum-told3 .given .1)
+returns-3 c =
+    let at-step-word-of = c .before .before in
+    let at-piece-end = at-step-word-of .before .before in
+    step-by (at-piece-end .piece-end .ensures) (at-step-word-of .step-word-of .ensures) (c .enum-told3 .given .1)
 
 pub step-line-of-spec : {M : Type 1} → statement M
 step-line-of-spec =

@@ -22,11 +22,19 @@ is-same-requires-2 c κs = search needs
 
 returns-2 : tie.Need-returns-2
 unfolding stepWordOf
-returns-2 c = rw (sym (c .before .before .before .before .is-same .ensures) ∙ c .before .before .before .if1 .left, sym (c .before .is-same2 .ensures) ∙ c .if2 .taken)
+returns-2 c =
+    let at-is-same2 = c .before in
+    let at-if1 = at-is-same2 .before .before in
+    let at-is-same = at-if1 .before in
+    rw (sym (at-is-same .is-same .ensures) ∙ at-if1 .if1 .left, sym (at-is-same2 .is-same2 .ensures) ∙ c .if2 .taken)
 
 returns-3 : tie.Need-returns-3
 unfolding stepWordOf
-returns-3 c = rw (sym (c .before .before .before .before .is-same .ensures) ∙ c .before .before .before .if1 .left, sym (c .before .is-same2 .ensures) ∙ c .if2 .left)
+returns-3 c =
+    let at-is-same2 = c .before in
+    let at-if1 = at-is-same2 .before .before in
+    let at-is-same = at-if1 .before in
+    rw (sym (at-is-same .is-same .ensures) ∙ at-if1 .if1 .left, sym (at-is-same2 .is-same2 .ensures) ∙ c .if2 .left)
 
 pub step-word-of-spec : {M : Type 1} → statement M
 step-word-of-spec =

@@ -16,7 +16,11 @@ same-length : tie.Need-same-length
 same-length c = search needs
 
 returns : tie.Need-returns
-returns c = rw (← has-is _ _ _ (c .before .before .before .before .before .has .ensures), ← has-is _ _ _ (c .before .before .before .before .has2 .ensures)) (c .before .before .put-line .ensures)
+returns c =
+    let at-put-line = c .before .before in
+    let at-has2 = at-put-line .before .before in
+    let at-has = at-has2 .before in
+    rw (← has-is _ _ _ (at-has .has .ensures), ← has-is _ _ _ (at-has2 .has2 .ensures)) (at-put-line .put-line .ensures)
 
 pub put-bus-spec : {M : Type 1} → statement M
 put-bus-spec =

@@ -30,7 +30,21 @@ loop-less : tie.Need-loop-less Inv-loop μ-loop
 loop-less c = search needs
 
 loop-again : tie.Need-loop-again Inv-loop μ-loop
-loop-again c = (search needs, search needs, refl, omega (arith, c .before .before .put-bus .ensures .next, line-length (busRecord (setOf (c .before .before .before .before .before .before .before .args .zero)) (setOf (c .before .before .before .before .before .before .before .args .site)) (c .before .before .before .before .before .loop .b))), left-more (c .before .before .before .before .before .loop .inv .4) (buses-next _ _ _ _ (search needs)) (c .before .before .put-bus .ensures))
+loop-again c =
+    let at-put-bus = c .before .before in
+    let at-loop = at-put-bus .before .before .before in
+    let at-args = at-loop .before .before in (
+      search needs,
+      search needs,
+      refl,
+      omega (
+        arith,
+        at-put-bus .put-bus .ensures .next,
+        line-length (busRecord (setOf (at-args .args .zero)) (setOf
+            (at-args .args .site)) (at-loop .loop .b)),
+      ),
+      left-more (at-loop .loop .inv .4) (buses-next _ _ _ _ (search needs)) (at-put-bus .put-bus .ensures),
+    )
 
 same-length : tie.Need-same-length Inv-loop μ-loop
 same-length c = c .before .loop .inv .4 .size

@@ -13,22 +13,73 @@ put-line-requires : tie.Need-put-line-requires
 put-line-requires c κs = search needs
 
 put-buses-requires : tie.Need-put-buses-requires
-put-buses-requires c κs = omega (arith, c .before .before .before .put-line .ensures .next, line-length (Grid (c .before .before .before .before .before .before .before .args .case .n)))
+put-buses-requires c κs =
+    let at-put-line = c .before .before .before in
+    let at-args = at-put-line .before .before .before .before in
+    omega (arith, at-put-line .put-line .ensures .next, line-length (Grid (at-args .args .case .n)))
 
 put-lines-requires : tie.Need-put-lines-requires
-put-lines-requires c κs = omega (arith, c .before .before .before .before .before .before .before .before .put-line .ensures .next, line-length (Grid (c .before .before .before .before .before .before .before .before .before .before .before .before .args .case .n)), c .before .before .before .before .put-buses .ensures .next, buses-most (c .before .before .before .before .before .before .before .before .before .before .before .before .args .case .n) (c .before .before .before .before .before .before .before .before .before .before .before .before .pre) (setOf (c .before .before .before .before .before .before .before .before .before .before .before .before .args .case .zero)) (setOf (c .before .before .before .before .before .before .before .before .before .before .before .before .args .case .site)))
+put-lines-requires c κs =
+    let at-put-buses = c .before .before .before .before in
+    let at-put-line = at-put-buses .before .before .before .before in
+    let at-args = at-put-line .before .before .before .before in
+    omega (
+      arith,
+      at-put-line .put-line .ensures .next,
+      line-length (Grid (at-args .args .case .n)),
+      at-put-buses .put-buses .ensures .next,
+      buses-most (at-args .args .case .n) (at-args .pre) (setOf (at-args .args .case .zero)) (setOf (at-args .args .case .site)),
+    )
 
 put-units-requires : tie.Need-put-units-requires
-put-units-requires c κs = omega (arith, c .before .before .before .before .before .before .before .before .before .before .before .before .put-line .ensures .next, line-length (Grid (c .before .before .before .before .before .before .before .before .before .before .before .before .before .before .before .before .args .case .n)), c .before .before .before .before .before .before .before .before .put-buses .ensures .next, buses-most (c .before .before .before .before .before .before .before .before .before .before .before .before .before .before .before .before .args .case .n) (c .before .before .before .before .before .before .before .before .before .before .before .before .before .before .before .before .pre) (setOf (c .before .before .before .before .before .before .before .before .before .before .before .before .before .before .before .before .args .case .zero)) (setOf (c .before .before .before .before .before .before .before .before .before .before .before .before .before .before .before .before .args .case .site)), c .before .before .before .put-lines .ensures .next, rows-most (c .before .before .before .before .before .before .before .before .before .before .before .before .before .before .before .before .args .case .n) (c .before .before .before .before .before .before .before .before .before .before .before .before .before .before .before .before .pre) (neighbours (c .before .before .before .before .before .before .before .before .before .before .before .before .before .before .before .before .args .case .nbr)))
+put-units-requires c κs =
+    let at-put-lines = c .before .before .before in
+    let at-put-buses = at-put-lines .before .before .before .before .before in
+    let at-put-line = at-put-buses .before .before .before .before in
+    let at-args = at-put-line .before .before .before .before in
+    omega (
+      arith,
+      at-put-line .put-line .ensures .next,
+      line-length (Grid (at-args .args .case .n)),
+      at-put-buses .put-buses .ensures .next,
+      buses-most (at-args .args .case .n) (at-args .pre) (setOf (at-args .args .case .zero)) (setOf (at-args .args .case .site)),
+      at-put-lines .put-lines .ensures .next,
+      rows-most (at-args .args .case .n) (at-args .pre) (neighbours (at-args .args .case .nbr)),
+    )
 
 put-line-requires-2 : tie.Need-put-line-requires-2
-put-line-requires-2 c κs = (omega (arith, c .before .before .before .before .before .before .before .before .before .before .before .before .before .before .before .before .put-line .ensures .next, line-length (Grid (c .before .before .before .before .before .before .before .before .before .before .before .before .before .before .before .before .before .before .before .before .args .case .n)), c .before .before .before .before .before .before .before .before .before .before .before .before .put-buses .ensures .next, buses-most (c .before .before .before .before .before .before .before .before .before .before .before .before .before .before .before .before .before .before .before .before .args .case .n) (c .before .before .before .before .before .before .before .before .before .before .before .before .before .before .before .before .before .before .before .before .pre) (setOf (c .before .before .before .before .before .before .before .before .before .before .before .before .before .before .before .before .before .before .before .before .args .case .zero)) (setOf (c .before .before .before .before .before .before .before .before .before .before .before .before .before .before .before .before .before .before .before .before .args .case .site)), c .before .before .before .before .before .before .before .put-lines .ensures .next, rows-most (c .before .before .before .before .before .before .before .before .before .before .before .before .before .before .before .before .before .before .before .before .args .case .n) (c .before .before .before .before .before .before .before .before .before .before .before .before .before .before .before .before .before .before .before .before .pre) (neighbours (c .before .before .before .before .before .before .before .before .before .before .before .before .before .before .before .before .before .before .before .before .args .case .nbr)), c .before .before .before .put-units .ensures .next, members-most (c .before .before .before .before .before .before .before .before .before .before .before .before .before .before .before .before .before .before .before .before .args .case .n) (c .before .before .before .before .before .before .before .before .before .before .before .before .before .before .before .before .before .before .before .before .pre) Pmu (setOf (c .before .before .before .before .before .before .before .before .before .before .before .before .before .before .before .before .before .before .before .before .args .case .units))), tt)
+put-line-requires-2 c κs =
+    let at-put-units = c .before .before .before in
+    let at-put-lines = at-put-units .before .before .before .before in
+    let at-put-buses = at-put-lines .before .before .before .before .before in
+    let at-put-line = at-put-buses .before .before .before .before in
+    let at-args = at-put-line .before .before .before .before in (
+      omega (
+        arith,
+        at-put-line .put-line .ensures .next,
+        line-length (Grid (at-args .args .case .n)),
+        at-put-buses .put-buses .ensures .next,
+        buses-most (at-args .args .case .n) (at-args .pre) (setOf (at-args .args .case .zero)) (setOf (at-args .args .case .site)),
+        at-put-lines .put-lines .ensures .next,
+        rows-most (at-args .args .case .n) (at-args .pre) (neighbours (at-args .args .case .nbr)),
+        at-put-units .put-units .ensures .next,
+        members-most (at-args .args .case .n) (at-args .pre) Pmu (setOf (at-args .args .case .units)),
+      ),
+      tt,
+    )
 
 same-length : tie.Need-same-length
 same-length c = search needs
 
 returns : tie.Need-returns
-returns c = put-same (whole _ _ _ _ _) (put-then (c .before .before .before .before .before .before .before .before .before .before .before .before .before .before .before .before .before .before .before .put-line .ensures) (put-then (c .before .before .before .before .before .before .before .before .before .before .before .before .before .before .before .put-buses .ensures) (put-then (c .before .before .before .before .before .before .before .before .before .before .put-lines .ensures) (put-then (c .before .before .before .before .before .before .put-units .ensures) (c .before .before .put-line2 .ensures)))))
+returns c =
+    let at-put-line2 = c .before .before in
+    let at-put-units = at-put-line2 .before .before .before .before in
+    let at-put-lines = at-put-units .before .before .before .before in
+    let at-put-buses = at-put-lines .before .before .before .before .before in
+    let at-put-line = at-put-buses .before .before .before .before in
+    put-same (whole _ _ _ _ _) (put-then (at-put-line .put-line .ensures) (put-then (at-put-buses .put-buses .ensures) (put-then
+    (at-put-lines .put-lines .ensures) (put-then (at-put-units .put-units .ensures) (at-put-line2 .put-line2 .ensures)))))
 
 pub put-case-spec : {M : Type 1} → statement M
 put-case-spec =

@@ -10,7 +10,10 @@ same-length : tie.Need-same-length
 same-length c = search needs
 
 returns : tie.Need-returns
-returns c = rw (c .before .before .before .before .if1 .taken) (c .before .before .put-line .ensures)
+returns c =
+    let at-put-line = c .before .before in
+    let at-if1 = at-put-line .before .before in
+    rw (at-if1 .if1 .taken) (at-put-line .put-line .ensures)
 
 returns-2 : tie.Need-returns-2
 returns-2 c = rw (c .if1 .left) put-none

@@ -33,7 +33,24 @@ loop-less : tie.Need-loop-less Inv-loop μ-loop
 loop-less c = search needs
 
 loop-again : tie.Need-loop-again Inv-loop μ-loop
-loop-again c = let p = row-put (neighbours (c .before .before .before .before .before .before .before .before .args .nbr .now)) (c .before .before .before .before .before .before .before .before .args .n) (c .before .before .before .before .before .before .loop .a) _ (c .before .before .before .row .ensures) (c .before .before .put-row .ensures) in (search needs, search needs, refl, omega (arith, p .next, row-length (neighbours (c .before .before .before .before .before .before .before .before .args .nbr .now)) (c .before .before .before .before .before .before .before .before .args .n) (c .before .before .before .before .before .before .loop .a) (c .before .before .before .before .before .before .before .before .pre .1)), left-more (c .before .before .before .before .before .before .loop .inv .4) (lines-next _ _ _ (search needs)) p)
+loop-again c =
+    let at-put-row = c .before .before in
+    let at-row = at-put-row .before in
+    let at-loop = at-row .before .before .before in
+    let at-args = at-loop .before .before in
+    let p = row-put (neighbours (at-args .args .nbr .now)) (at-args .args .n) (at-loop .loop .a) _ (at-row .row .ensures)
+    (at-put-row .put-row .ensures) in (
+      search needs,
+      search needs,
+      refl,
+      omega (
+        arith,
+        p .next,
+        row-length (neighbours (at-args .args .nbr .now))
+            (at-args .args .n) (at-loop .loop .a) (at-args .pre .1),
+      ),
+      left-more (at-loop .loop .inv .4) (lines-next _ _ _ (search needs)) p,
+    )
 
 same-length : tie.Need-same-length Inv-loop μ-loop
 same-length c = c .before .loop .inv .4 .size

@@ -3,7 +3,7 @@ use Prim.Native.Nat.{_+_, _-_, _*_, _≤_}
 use mathlib.Core.Path.{_≡_, refl}
 use native.Mathlib.Omega.{arith}
 use Rattle.busset.specs.Sets.{setOf}
-use Rattle.record.specs.declared.Record.the-variants.{Line, Pmu}
+use Rattle.record.specs.declared.Record.the-variants.{Pmu}
 use Rattle.reader.specs.Writing.{members, linesText}
 use Rattle.writer.proofs.Turns.{Left, left-none, left-more, left-all, restMembers, members-first, members-next, members-all, has-is, lined-length}
 use Rattle.writer.proofs.cases.put_units.Statement.{statement}
@@ -34,7 +34,16 @@ loop-less : tie.Need-loop-less Inv-loop μ-loop
 loop-less c = search needs
 
 loop-again : tie.Need-loop-again Inv-loop μ-loop
-loop-again c = (search needs, search needs, refl, omega (arith, c .before .before .put-if .ensures .next, lined-length (c .before .before .before .has .result) (Pmu (c .before .before .before .before .before .before .loop .b))), left-more (c .before .before .before .before .before .before .loop .inv .4) (members-next _ _ _ _ _ (search needs) (has-is _ _ _ (c .before .before .before .has .ensures))) (c .before .before .put-if .ensures))
+loop-again c =
+    let at-put-if = c .before .before in
+    let at-has = at-put-if .before in
+    let at-loop = at-has .before .before .before in (
+      search needs,
+      search needs,
+      refl,
+      omega (arith, at-put-if .put-if .ensures .next, lined-length (at-has .has .result) (Pmu (at-loop .loop .b))),
+      left-more (at-loop .loop .inv .4) (members-next _ _ _ _ _ (search needs) (has-is _ _ _ (at-has .has .ensures))) (at-put-if .put-if .ensures),
+    )
 
 same-length : tie.Need-same-length Inv-loop μ-loop
 same-length c = c .before .loop .inv .4 .size
