@@ -35,5 +35,8 @@ pub fn weave_first(
 {
     let mut records = out;
     let answer = desks::weave(case, &plan[..count], &mut records[..room]);
-    Shown { answer, out: records }
+    Shown {
+        answer,
+        out: records,
+    }
 }
