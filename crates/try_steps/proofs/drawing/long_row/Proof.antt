@@ -1,4 +1,4 @@
-use Prim.Native.Nat.{ℕ, _-_, _≤_}
+use Prim.Native.Nat.{_-_, _≤_}
 use borrow.Author.Needs.{needs}
 use Rattle.try_steps.proofs.drawing.long_row.Statement.{statement}
 use Rattle.try_steps.proofs.drawing.long_row.Tie as tie
@@ -43,19 +43,4 @@ returns : tie.Need-returns Inv-loop μ-loop
 returns c = search needs
 
 pub long-row-spec : {M : Type 1} → statement M
-long-row-spec =
-    tie.close
-    (tie.spec
-    Inv-loop
-    μ-loop
-    blank-requires
-    with-zero-requires
-    loop-holds
-    add-joined
-    joined-requires
-    with-zero-requires-2
-    add-b
-    loop-less
-    loop-again
-    with-unit-requires
-    returns)
+long-row-spec = tie.close (tie.spec Inv-loop μ-loop blank-requires with-zero-requires loop-holds add-joined joined-requires with-zero-requires-2 add-b loop-less loop-again with-unit-requires returns)

@@ -1,4 +1,4 @@
-use Prim.Native.Nat.{ℕ, _-_, _≤_}
+use Prim.Native.Nat.{_-_, _≤_}
 use borrow.Author.Needs.{needs}
 use Rattle.try_steps.proofs.drawing.ring.Statement.{statement}
 use Rattle.try_steps.proofs.drawing.ring.Tie as tie
@@ -61,25 +61,4 @@ returns : tie.Need-returns Inv-loop μ-loop
 returns c = search needs
 
 pub ring-spec : {M : Type 1} → statement M
-ring-spec =
-    tie.close
-    (tie.spec
-    Inv-loop
-    μ-loop
-    blank-requires
-    joined-requires
-    loop-holds
-    add-joined
-    joined-requires-2
-    add-b
-    loop-less
-    loop-again
-    with-zero-requires
-    with-zero-requires-2
-    with-zero-requires-3
-    with-zero-requires-4
-    with-zero-requires-5
-    with-zero-requires-6
-    with-unit-requires
-    with-unit-requires-2
-    returns)
+ring-spec = tie.close (tie.spec Inv-loop μ-loop blank-requires joined-requires loop-holds add-joined joined-requires-2 add-b loop-less loop-again with-zero-requires with-zero-requires-2 with-zero-requires-3 with-zero-requires-4 with-zero-requires-5 with-zero-requires-6 with-unit-requires with-unit-requires-2 returns)

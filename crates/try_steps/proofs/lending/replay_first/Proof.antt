@@ -1,5 +1,5 @@
 -- `replay_first` meets its contract: a walk of its MIR, by hand. The array is copied to a place in memory, its first steps are lent there as a slice for a lifetime that the walk makes, passed to `replay`, and taken back.
-use mathlib.Core.Path.{_≡_, refl, sym, subst}
+use mathlib.Core.Path.{_≡_, refl, sym}
 use Prim.Native.Nat.{ℕ, _≤_}
 use mathlib.Core.List.{List, [], _∷_, _++_}
 use lib.Dec.{lit<}
@@ -21,7 +21,7 @@ use types.Tokens.{lft-new, lft-end, lent-back}
 use types.Part.{agg}
 use types.Run.{look, init, forget, stop, from, load, of-opd, addr, and-then, no-more, assigns, land, returns, enter, alloc1, alloc0, params1, pass1, pass0, free1, free0}
 use sound.WpLaws.{fmOf, WpFn-mono}
-use denote.RattleType.{RattleType, owns}
+use denote.RattleType.{owns}
 use denote.Memory.{pointee}
 use denote.Array.{array-tells, array-lawful, array-makes}
 use denote.Laws.{Is}

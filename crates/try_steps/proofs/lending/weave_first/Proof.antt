@@ -21,7 +21,7 @@ use types.Tokens.{lft-new, lft-end, lent-back}
 use types.Part.{agg}
 use types.Run.{look, init, forget, stop, from, load, of-opd, addr, and-then, no-more, assigns, land, returns, enter, alloc1, alloc0, params1, pass1, pass0, free1, free0}
 use sound.WpLaws.{fmOf, WpFn-mono}
-use denote.RattleType.{RattleType, owns}
+use denote.RattleType.{owns}
 use denote.Memory.{pointee}
 use denote.Array.{array-tells, array-lawful, array-makes}
 use denote.Laws.{Is}

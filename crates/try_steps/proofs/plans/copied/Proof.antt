@@ -1,4 +1,4 @@
-use Prim.Native.Nat.{ℕ, _-_, _≤_}
+use Prim.Native.Nat.{_-_, _≤_}
 use borrow.Author.Needs.{needs}
 use Rattle.try_steps.proofs.plans.copied.Statement.{statement}
 use Rattle.try_steps.proofs.plans.copied.Tie as tie
@@ -31,15 +31,4 @@ returns : tie.Need-returns Inv-loop μ-loop
 returns c = search needs
 
 pub copied-spec : {M : Type 1} → statement M
-copied-spec =
-    tie.close
-    (tie.spec
-    Inv-loop
-    μ-loop
-    loop-holds
-    nth-requires
-    add-requires
-    add-i
-    loop-less
-    loop-again
-    returns)
+copied-spec = tie.close (tie.spec Inv-loop μ-loop loop-holds nth-requires add-requires add-i loop-less loop-again returns)

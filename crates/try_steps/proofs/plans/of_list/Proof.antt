@@ -1,4 +1,4 @@
-use Prim.Native.Nat.{ℕ, _-_, _≤_}
+use Prim.Native.Nat.{_-_, _≤_}
 use borrow.Author.Needs.{needs}
 use Rattle.try_steps.proofs.plans.of_list.Statement.{statement}
 use Rattle.try_steps.proofs.plans.of_list.Tie as tie
@@ -34,16 +34,4 @@ returns : tie.Need-returns Inv-loop μ-loop
 returns c = search needs
 
 pub of-list-spec : {M : Type 1} → statement M
-of-list-spec =
-    tie.close
-    (tie.spec
-    Inv-loop
-    μ-loop
-    none-requires
-    loop-holds
-    nth-requires
-    add-requires
-    add-i
-    loop-less
-    loop-again
-    returns)
+of-list-spec = tie.close (tie.spec Inv-loop μ-loop none-requires loop-holds nth-requires add-requires add-i loop-less loop-again returns)

@@ -1,4 +1,4 @@
-use Prim.Native.Nat.{ℕ, _-_, _≤_}
+use Prim.Native.Nat.{_-_, _≤_}
 use borrow.Author.Needs.{needs}
 use Rattle.try_steps.proofs.plans.stretched.Statement.{statement}
 use Rattle.try_steps.proofs.plans.stretched.Tie as tie
@@ -34,16 +34,4 @@ returns-2 : tie.Need-returns-2 Inv-loop μ-loop
 returns-2 c = search needs
 
 pub stretched-spec : {M : Type 1} → statement M
-stretched-spec =
-    tie.close
-    (tie.spec
-    Inv-loop
-    μ-loop
-    returns
-    nth-requires
-    loop-holds
-    add-requires
-    add--i
-    loop-less
-    loop-again
-    returns-2)
+stretched-spec = tie.close (tie.spec Inv-loop μ-loop returns nth-requires loop-holds add-requires add--i loop-less loop-again returns-2)

@@ -1,4 +1,4 @@
-use Prim.Native.Nat.{ℕ, _-_, _≤_}
+use Prim.Native.Nat.{_-_, _≤_}
 use borrow.Author.Needs.{needs}
 use Rattle.try_steps.proofs.printing.set.Statement.{statement}
 use Rattle.try_steps.proofs.printing.set.Tie as tie
@@ -31,15 +31,4 @@ returns : tie.Need-returns Inv-loop μ-loop
 returns c = search needs
 
 pub set-spec : {M : Type 1} → statement M
-set-spec =
-    tie.close
-    (tie.spec
-    Inv-loop
-    μ-loop
-    loop-holds
-    has-requires
-    spaced-requires
-    add-b
-    loop-less
-    loop-again
-    returns)
+set-spec = tie.close (tie.spec Inv-loop μ-loop loop-holds has-requires spaced-requires add-b loop-less loop-again returns)

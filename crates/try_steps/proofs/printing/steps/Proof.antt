@@ -1,4 +1,4 @@
-use Prim.Native.Nat.{ℕ, _-_, _≤_}
+use Prim.Native.Nat.{_-_, _≤_}
 use borrow.Author.Needs.{needs}
 use Rattle.try_steps.proofs.printing.steps.Statement.{statement}
 use Rattle.try_steps.proofs.printing.steps.Tie as tie
@@ -31,15 +31,4 @@ returns : tie.Need-returns Inv-loop μ-loop
 returns c = search needs
 
 pub steps-spec : {M : Type 1} → statement M
-steps-spec =
-    tie.close
-    (tie.spec
-    Inv-loop
-    μ-loop
-    loop-holds
-    nth-requires
-    step-requires
-    add-i
-    loop-less
-    loop-again
-    returns)
+steps-spec = tie.close (tie.spec Inv-loop μ-loop loop-holds nth-requires step-requires add-i loop-less loop-again returns)

@@ -1,5 +1,5 @@
 use mathlib.Core.Path.{_≡_}
-use Prim.Native.Nat.{ℕ, _-_, _≤_}
+use Prim.Native.Nat.{_-_, _≤_}
 use lib.ListN.{length}
 use borrow.Author.Needs.{needs}
 use Rattle.try_steps.proofs.records.filled.Statement.{statement}
@@ -39,17 +39,4 @@ returns : tie.Need-returns Inv-loop μ-loop
 returns c = search needs
 
 pub filled-spec : {M : Type 1} → statement M
-filled-spec =
-    tie.close
-    (tie.spec
-    Inv-loop
-    μ-loop
-    filling-requires
-    loop-holds
-    filling-requires-2
-    mul-out
-    array-set-from-out
-    add-i
-    loop-less
-    loop-again
-    returns)
+filled-spec = tie.close (tie.spec Inv-loop μ-loop filling-requires loop-holds filling-requires-2 mul-out array-set-from-out add-i loop-less loop-again returns)

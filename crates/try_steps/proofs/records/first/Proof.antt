@@ -1,4 +1,4 @@
-use Prim.Native.Nat.{ℕ, _-_, _≤_}
+use Prim.Native.Nat.{_-_, _≤_}
 use borrow.Author.Needs.{needs}
 use Rattle.try_steps.proofs.records.first.Statement.{statement}
 use Rattle.try_steps.proofs.records.first.Tie as tie
@@ -40,18 +40,4 @@ returns-2 : tie.Need-returns-2 Inv-loop μ-loop
 returns-2 c = search needs
 
 pub first-spec : {M : Type 1} → statement M
-first-spec =
-    tie.close
-    (tie.spec
-    Inv-loop
-    μ-loop
-    none-requires
-    returns
-    loop-holds
-    mul-add
-    array-copy-out-add
-    add-requires
-    add-i
-    loop-less
-    loop-again
-    returns-2)
+first-spec = tie.close (tie.spec Inv-loop μ-loop none-requires returns loop-holds mul-add array-copy-out-add add-requires add-i loop-less loop-again returns-2)

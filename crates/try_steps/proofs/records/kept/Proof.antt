@@ -1,4 +1,4 @@
-use Prim.Native.Nat.{ℕ, _-_, _≤_}
+use Prim.Native.Nat.{_-_, _≤_}
 use borrow.Author.Needs.{needs}
 use Rattle.try_steps.proofs.records.kept.Statement.{statement}
 use Rattle.try_steps.proofs.records.kept.Tie as tie
@@ -37,17 +37,4 @@ returns-2 : tie.Need-returns-2 Inv-loop μ-loop
 returns-2 c = search needs
 
 pub kept-spec : {M : Type 1} → statement M
-kept-spec =
-    tie.close
-    (tie.spec
-    Inv-loop
-    μ-loop
-    loop-holds
-    mul-is-filling
-    array-copy-out-is-filling
-    is-filling-requires
-    returns
-    add-i
-    loop-less
-    loop-again
-    returns-2)
+kept-spec = tie.close (tie.spec Inv-loop μ-loop loop-holds mul-is-filling array-copy-out-is-filling is-filling-requires returns add-i loop-less loop-again returns-2)

@@ -1,4 +1,4 @@
-use Prim.Native.Nat.{ℕ, _-_, _≤_}
+use Prim.Native.Nat.{_-_, _≤_}
 use borrow.Author.Needs.{needs}
 use Rattle.try_steps.proofs.shuffles.opened.Statement.{statement}
 use Rattle.try_steps.proofs.shuffles.opened.Tie as tie
@@ -55,23 +55,4 @@ returns : tie.Need-returns Inv-loop μ-loop
 returns c = search needs
 
 pub opened-spec : {M : Type 1} → statement M
-opened-spec =
-    tie.close
-    (tie.spec
-    Inv-loop
-    μ-loop
-    no-desks-requires
-    loop-holds
-    add-drawn-list
-    drawn-list-requires
-    text-requires
-    slice-aggregate-text
-    text-requires-2
-    steps-requires
-    slice-aggregate-replays
-    replays-requires
-    with-desk-requires
-    add-d
-    loop-less
-    loop-again
-    returns)
+opened-spec = tie.close (tie.spec Inv-loop μ-loop no-desks-requires loop-holds add-drawn-list drawn-list-requires text-requires slice-aggregate-text text-requires-2 steps-requires slice-aggregate-replays replays-requires with-desk-requires add-d loop-less loop-again returns)

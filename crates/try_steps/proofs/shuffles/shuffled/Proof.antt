@@ -1,5 +1,5 @@
 use mathlib.Core.Path.{_≡_}
-use Prim.Native.Nat.{ℕ, _-_, _≤_}
+use Prim.Native.Nat.{_-_, _≤_}
 use lib.ListN.{length}
 use borrow.Author.Needs.{needs}
 use Rattle.try_steps.proofs.shuffles.shuffled.Statement.{statement}
@@ -63,25 +63,4 @@ returns : tie.Need-returns Inv-loop μ-loop
 returns c = search needs
 
 pub shuffled-spec : {M : Type 1} → statement M
-shuffled-spec =
-    tie.close
-    (tie.spec
-    Inv-loop
-    μ-loop
-    none-requires
-    loop-holds
-    after-requires
-    turn-requires
-    mul-nth
-    array-read-nth
-    nth-requires
-    add-requires
-    mul-onward
-    array-read-onward
-    onward-requires
-    mul-next
-    array-write-next
-    add--i
-    loop-less
-    loop-again
-    returns)
+shuffled-spec = tie.close (tie.spec Inv-loop μ-loop none-requires loop-holds after-requires turn-requires mul-nth array-read-nth nth-requires add-requires mul-onward array-read-onward onward-requires mul-next array-write-next add--i loop-less loop-again returns)

@@ -1,4 +1,4 @@
-use Prim.Native.Nat.{ℕ, _-_, _≤_}
+use Prim.Native.Nat.{_-_, _≤_}
 use borrow.Author.Needs.{needs}
 use Rattle.try_steps.proofs.shuffles.shuffles.Statement.{statement}
 use Rattle.try_steps.proofs.shuffles.shuffles.Tie as tie
@@ -58,24 +58,4 @@ returns : tie.Need-returns Inv-loop μ-loop
 returns c = search needs
 
 pub shuffles-spec : {M : Type 1} → statement M
-shuffles-spec =
-    tie.close
-    (tie.spec
-    Inv-loop
-    μ-loop
-    opened-requires
-    loop-holds
-    shuffled-requires
-    text-requires
-    slice-aggregate-text
-    text-requires-2
-    number-requires
-    slice-aggregate-text-2
-    text-requires-3
-    number-requires-2
-    slice-aggregate-weaves
-    weaves-requires
-    add-k
-    loop-less
-    loop-again
-    returns)
+shuffles-spec = tie.close (tie.spec Inv-loop μ-loop opened-requires loop-holds shuffled-requires text-requires slice-aggregate-text text-requires-2 number-requires slice-aggregate-text-2 text-requires-3 number-requires-2 slice-aggregate-weaves weaves-requires add-k loop-less loop-again returns)

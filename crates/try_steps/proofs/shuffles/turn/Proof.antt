@@ -1,4 +1,4 @@
-use Prim.Native.Nat.{ℕ, _-_, _≤_}
+use Prim.Native.Nat.{_-_, _≤_}
 use borrow.Author.Needs.{needs}
 use Rattle.try_steps.proofs.shuffles.turn.Statement.{statement}
 use Rattle.try_steps.proofs.shuffles.turn.Tie as tie
@@ -43,19 +43,4 @@ returns-2 : tie.Need-returns-2 Inv-loop μ-loop
 returns-2 c = search needs
 
 pub turn-spec : {M : Type 1} → statement M
-turn-spec =
-    tie.close
-    (tie.spec
-    Inv-loop
-    μ-loop
-    loop-holds
-    add-e
-    mul-if1
-    array-read-if1
-    mul-if1-2
-    array-read-if1-2
-    returns
-    add-k
-    loop-less
-    loop-again
-    returns-2)
+turn-spec = tie.close (tie.spec Inv-loop μ-loop loop-holds add-e mul-if1 array-read-if1 mul-if1-2 array-read-if1-2 returns add-k loop-less loop-again returns-2)
