@@ -1,22 +1,6 @@
 #!/usr/bin/env python3
 """Prints what crates/try_grids must print, by the reference: tests/try_grids.py | diff - crates/try_grids/stdout"""
-import copy
-
-from reference import blank, firing_figure, observed_set, test_step
-
-
-def drawn(case, lines=(), half=(), zero=(), site=(), units=()):
-    case = copy.deepcopy(case)
-    for a, b in lines:
-        for x, y in ((a, b), (b, a)):
-            if x in case["rows"] and 1 <= y <= 64:
-                case["rows"][x].add(y)
-    for a, b in half:
-        case["rows"][a].add(b)
-    case["zero"] |= set(zero)
-    case["site"] |= set(site)
-    case["units"] |= set(units)
-    return case
+from reference import blank, drawn, firing_figure, observed_set, test_step
 
 
 def say(name, answer):
