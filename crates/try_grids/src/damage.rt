@@ -1,11 +1,11 @@
 // Damaged case values: one for each clause of refusal 5, and beside it what stands just within the limit.
-use crate::drawing::blank;
-use crate::drawing::joined;
-use crate::drawing::one_sided;
-use crate::drawing::with_site;
-use crate::drawing::with_unit;
-use crate::drawing::with_zero;
 use crate::printing::observed;
+use drawn::drawing::blank;
+use drawn::drawing::joined;
+use drawn::drawing::one_sided;
+use drawn::drawing::with_site;
+use drawn::drawing::with_unit;
+use drawn::drawing::with_zero;
 
 // At bus n, where there is nothing to refuse but a line with one end.
 pub fn at_n() {

@@ -1,8 +1,8 @@
 // Firing figures.
-use crate::drawing::joined;
-use crate::drawing::marked;
-use crate::grids;
 use crate::printing::fires;
+use drawn::drawing::joined;
+use drawn::drawing::marked;
+use drawn::grids;
 
 // Document 01's three, and the two ends of the range.
 pub fn documents() {

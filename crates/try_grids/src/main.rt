@@ -1,8 +1,6 @@
 // Runs the calls on document 01's grids, on grids at a limit and on damaged case values, and prints each answer.
 mod damage;
-mod drawing;
 mod figures;
-mod grids;
 mod printing;
 mod sets;
 mod steps;

@@ -1,9 +1,9 @@
 // Observed sets.
-use crate::drawing::joined;
-use crate::drawing::with_unit;
-use crate::drawing::with_zero;
-use crate::grids;
 use crate::printing::observed;
+use drawn::drawing::joined;
+use drawn::drawing::with_unit;
+use drawn::drawing::with_zero;
+use drawn::grids;
 
 // Document 01's grids.
 pub fn documents() {

@@ -1,9 +1,9 @@
 // Steps tested alone.
-use crate::drawing::marked;
-use crate::drawing::one_sided;
-use crate::drawing::with_unit;
-use crate::grids;
 use crate::printing::tests;
+use drawn::drawing::marked;
+use drawn::drawing::one_sided;
+use drawn::drawing::with_unit;
+use drawn::grids;
 use wozgrzyt::Reason;
 
 // The seven buses with a unit at 3: each reason, where it holds and where it does not.

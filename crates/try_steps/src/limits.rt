@@ -1,10 +1,11 @@
 // 1,024 and 1,025 steps, and room that is one short, exact and larger.
-use crate::drawing::joined;
-use crate::drawing::long_row;
 use crate::lists;
 use crate::plans;
 use crate::plans::Plan;
 use crate::printing;
+use drawn::drawing::joined;
+use drawn::drawing::with_unit;
+use drawn::grids::long_row;
 use grid::Case;
 
 // So many steps: the derivation, and its last step again and again.
@@ -42,7 +43,7 @@ pub fn room() {
     printing::weaves(b"weave 5 into 5", c, p, 5);
     printing::weaves(b"weave 5 into 6", c, p, 6);
     printing::weaves(b"weave 5 and a bad step into 0", c, plans::own(p, 8), 0);
-    let row = long_row();
+    let row = with_unit(long_row(), 1);
     let q = lists::good(row);
     printing::weaves(b"weave 64 into 63", row, q, 63);
     printing::weaves(b"weave 64 into 64", row, q, 64);

@@ -1,10 +1,10 @@
 // Lists with a bad step first, in the middle and last, on document 01's seven buses with a unit at 3.
-use crate::drawing::joined;
-use crate::drawing::seven;
-use crate::drawing::with_unit;
 use crate::plans;
 use crate::plans::Plan;
 use crate::printing;
+use drawn::drawing::joined;
+use drawn::drawing::with_unit;
+use drawn::grids::seven;
 use grid::Case;
 use step::Reason;
 use step::Step;

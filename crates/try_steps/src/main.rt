@@ -1,5 +1,4 @@
 // Runs the derivation, replay and weaving on lent records, and prints each answer.
-mod drawing;
 mod lending;
 mod limits;
 mod lists;
@@ -8,8 +7,10 @@ mod printing;
 mod records;
 mod shuffles;
 
-use drawing::seven;
-use drawing::with_unit;
+use drawn::drawing;
+use drawn::drawing::with_unit;
+use drawn::grids;
+use drawn::grids::seven;
 
 // The derivation of document 01's grids, and replay of it.
 fn derivations() {
@@ -19,9 +20,9 @@ fn derivations() {
     derivation(b"seven, unit at 3", with_unit(c, 3));
     derivation(b"seven, unit at 4", with_unit(c, 4));
     derivation(b"seven, units at 1 and 4", with_unit(with_unit(c, 1), 4));
-    derivation(b"path", drawing::path());
-    derivation(b"row of 64 Z, unit at 1", drawing::long_row());
-    derivation(b"ring", drawing::ring());
+    derivation(b"path", grids::path());
+    derivation(b"row of 64 Z, unit at 1", with_unit(grids::long_row(), 1));
+    derivation(b"ring", grids::ring());
     printing::derives(b"invalid case", drawing::joined(c, 8, 1));
 }
 
@@ -34,7 +35,7 @@ fn derivation(name: &[u8], case: grid::Case) {
 fn desks() {
     let c = seven();
     let d = with_unit(with_unit(c, 1), 4);
-    let r = drawing::ring();
+    let r = grids::ring();
     shuffles::shuffles(b"seven, units at 1 and 4, two desks", d, 2);
     shuffles::shuffles(b"seven, units at 1 and 4, five desks", d, 5);
     shuffles::shuffles(b"ring, two desks", r, 2);

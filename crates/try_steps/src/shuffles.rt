@@ -1,8 +1,8 @@
 // Desks' lists, drawn and shuffled from a fixed seed.
-use crate::drawing::marked;
 use crate::plans;
 use crate::plans::Plan;
 use crate::printing;
+use drawn::drawing::marked;
 use grid::Case;
 use step::Reason;
 use step::Step;

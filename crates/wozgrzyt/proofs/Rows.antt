@@ -16,7 +16,7 @@ use Rattle.rules.specs.Grids.{total}
 use Rattle.rules.specs.Steps.{Names, ReasonNames}
 use Rattle.rules.specs.Figures.{figure}
 use Rattle.rules.proofs.Tests.{gap, gap-none, isOne, given, subTest, holdsTest, acceptedTest, closedTest, leastTest, least-passes, holds-tests}
-use Rattle.rules.proofs.Sought.{Sought, pick, reasonFor, reasonAt, stepFor, passFrom, extended, derive, confirmTest, aloneTest, unconfirmedTest, noBetter, bestTest, noneTest, greedyTest, after, none, some, judged, judge, orElse, choose, seek, firstOf, smallest}
+use Rattle.rules.proofs.Sought.{Sought, pick, reasonFor, reasonAt, stepFor, passFrom, extended, derive, confirmTest, aloneTest, unconfirmedTest, noBetter, bestTest, noneTest, greedyTest, after, none, some, unsure, judged, judge, orElse, choose, seek, firstOf, smallest}
 use Rattle.grid.specs.declared.Case.{Case}
 use Rattle.grid.proofs.Orders.{itself}
 use Rattle.grid.specs.Cases.{neighbours, gridOf, Valid}
@@ -38,18 +38,30 @@ gapZ-none (pos a) (negsuc b) e = absurd (omega arith)
 gapZ-none (negsuc a) (pos b) e = absurd (omega arith)
 gapZ-none (negsuc a) (negsuc b) e = ap negsuc (gap-none a b e)
 
+-- the answer of a search, as a number
+abbrev told : Sought → ℕ
+told none = 0
+told unsure = 1
+told (some m) = suc (suc m)
+
 -- how far two answers of a search are apart
-abbrev gapSought : Sought → Sought → ℕ
-gapSought none none = 0
-gapSought none (some b) = 1
-gapSought (some a) none = 1
-gapSought (some a) (some b) = gap a b
+unfoldable gapSought : Sought → Sought → ℕ
+gapSought a b = gap (told a) (told b)
+
+told-inj : (a b : Sought) → told a ≡ told b → a ≡ b
+told-inj none none e = refl
+told-inj none unsure e = absurd (omega arith)
+told-inj none (some m) e = absurd (omega arith)
+told-inj unsure none e = absurd (omega arith)
+told-inj unsure unsure e = refl
+told-inj unsure (some m) e = absurd (omega arith)
+told-inj (some m) none e = absurd (omega arith)
+told-inj (some m) unsure e = absurd (omega arith)
+told-inj (some m) (some k) e = ap some (omega arith)
 
 gapSought-none : (a b : Sought) → gapSought a b ≡ 0 → a ≡ b
-gapSought-none none none e = refl
-gapSought-none none (some b) e = absurd (omega arith)
-gapSought-none (some a) none e = absurd (omega arith)
-gapSought-none (some a) (some b) e = ap some (gap-none a b e)
+unfolding gapSought
+gapSought-none a b e = told-inj a b (gap-none (told a) (told b) e)
 
 -- b is a bus 1 to n
 unfoldable busTest : ℕ → ℕ → ℕ
@@ -155,5 +167,5 @@ derivations =
 
 -- every row of the table is right
 pub table-right : AllRight table
-unfolding allWrong wrong busTest reasonTest namesTest validTest withinTest rowTest leastTest acceptedTest holdsTest closedTest subTest isOne gap given total neighbours setOf figure upTo less lack meet add ones onesIn pick reasonFor reasonAt stepFor passFrom extended derive confirmTest aloneTest unconfirmedTest noBetter bestTest noneTest greedyTest after judged judge orElse choose seek firstOf smallest
+unfolding allWrong wrong gapSought busTest reasonTest namesTest validTest withinTest rowTest leastTest acceptedTest holdsTest closedTest subTest isOne gap given total neighbours setOf figure upTo less lack meet add ones onesIn pick reasonFor reasonAt stepFor passFrom extended derive confirmTest aloneTest unconfirmedTest noBetter bestTest noneTest greedyTest after judged judge orElse choose seek firstOf smallest
 table-right = all-right table derivations refl

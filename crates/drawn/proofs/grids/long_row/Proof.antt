@@ -1,7 +1,7 @@
-use Prim.Native.Nat.{_-_, _≤_}
+use Prim.Native.Nat.{ℕ, _-_, _≤_}
 use borrow.Author.Needs.{needs}
-use Rattle.try_steps.proofs.drawing.long_row.Statement.{statement}
-use Rattle.try_steps.proofs.drawing.long_row.Tie as tie
+use Rattle.drawn.proofs.grids.long_row.Statement.{statement}
+use Rattle.drawn.proofs.grids.long_row.Tie as tie
 
 abbrev Inv-loop : tie.InvT-loop
 Inv-loop c₀ b₀ c b = (1 ≤ b) × (b ≤ 64)
@@ -36,11 +36,8 @@ loop-less c = search needs
 loop-again : tie.Need-loop-again Inv-loop μ-loop
 loop-again c = search needs
 
-with-unit-requires : tie.Need-with-unit-requires Inv-loop μ-loop
-with-unit-requires c κs = search needs
-
 returns : tie.Need-returns Inv-loop μ-loop
 returns c = search needs
 
 pub long-row-spec : {M : Type 1} → statement M
-long-row-spec = tie.close (tie.spec Inv-loop μ-loop blank-requires with-zero-requires loop-holds add-joined joined-requires with-zero-requires-2 add-b loop-less loop-again with-unit-requires returns)
+long-row-spec = tie.close (tie.spec Inv-loop μ-loop blank-requires with-zero-requires loop-holds add-joined joined-requires with-zero-requires-2 add-b loop-less loop-again returns)

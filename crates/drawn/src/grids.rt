@@ -3,7 +3,7 @@ use crate::drawing::blank;
 use crate::drawing::joined;
 use crate::drawing::with_unit;
 use crate::drawing::with_zero;
-use wozgrzyt::Case;
+use grid::Case;
 
 // Document 01's grid of seven buses, with no unit.
 pub fn seven() -> Case {
@@ -63,4 +63,15 @@ pub fn star() -> Case {
         c = joined(c, 1, b);
     }
     c
+}
+
+// Twelve buses in a ring, each second one Z, with units at 1 and 7.
+pub fn ring() -> Case {
+    let mut c = joined(blank(12), 12, 1);
+    for b in 1..12 {
+        c = joined(c, b, b + 1);
+    }
+    c = with_zero(with_zero(with_zero(c, 2), 4), 6);
+    c = with_zero(with_zero(with_zero(c, 8), 10), 12);
+    with_unit(with_unit(c, 1), 7)
 }

@@ -1,7 +1,7 @@
 use Prim.Native.Nat.{ℕ, _-_, _≤_}
 use borrow.Author.Needs.{needs}
-use Rattle.try_grids.proofs.grids.band.Statement.{statement}
-use Rattle.try_grids.proofs.grids.band.Tie as tie
+use Rattle.drawn.proofs.grids.band.Statement.{statement}
+use Rattle.drawn.proofs.grids.band.Tie as tie
 
 abbrev Inv-loop : tie.InvT-loop
 Inv-loop c₀ a₀ c a = (1 ≤ a) × (a ≤ 65)

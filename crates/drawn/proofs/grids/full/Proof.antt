@@ -1,7 +1,7 @@
 use Prim.Native.Nat.{ℕ, _-_, _≤_}
 use borrow.Author.Needs.{needs}
-use Rattle.try_grids.proofs.grids.full.Statement.{statement}
-use Rattle.try_grids.proofs.grids.full.Tie as tie
+use Rattle.drawn.proofs.grids.full.Statement.{statement}
+use Rattle.drawn.proofs.grids.full.Tie as tie
 
 abbrev Inv-loop : tie.InvT-loop
 Inv-loop c₀ b₀ c b = (10 ≤ b) × (b ≤ 20)

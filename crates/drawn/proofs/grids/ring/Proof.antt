@@ -1,7 +1,7 @@
 use Prim.Native.Nat.{_-_, _≤_}
 use borrow.Author.Needs.{needs}
-use Rattle.try_steps.proofs.drawing.ring.Statement.{statement}
-use Rattle.try_steps.proofs.drawing.ring.Tie as tie
+use Rattle.drawn.proofs.grids.ring.Statement.{statement}
+use Rattle.drawn.proofs.grids.ring.Tie as tie
 
 abbrev Inv-loop : tie.InvT-loop
 Inv-loop c₀ b₀ c b = (1 ≤ b) × (b ≤ 12)
