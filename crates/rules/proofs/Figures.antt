@@ -1,5 +1,5 @@
--- The firing figure of a bus towards a neighbour: 1 or 0, less the other neighbours that are not observed. So it runs from -62 to 1 on at most
--- 64 buses, and is 1 exactly when the bus and all its other neighbours are observed.
+-- The firing figure of a bus towards a neighbour: 1 or 0, less the other neighbours that are not observed. So on k + 2 buses it runs from -k
+-- to 1, and it is 1 exactly when the bus and all its other neighbours are observed.
 use mathlib.Core.Path.{_≡_, refl, sym, ap, _∙_, subst, subst⁻¹}
 use mathlib.Core.Logic.{⊎-elim}
 use Prim.Native.Nat.{ℕ, zero, suc, _+_, _-_, _≤_, _<_, min}
@@ -68,17 +68,26 @@ told (suc zero) zero l = one refl
 told (suc zero) (suc k) l = subst⁻¹ (Told (suc k) 1) (one-less k) (minus k (omega arith))
 told (suc (suc b)) k l = absurd (omega arith)
 
-runs-minus : (m : ℕ) → m ≤ 62 → Runs (negℤ (pos m))
-runs-minus zero l = record { low = record { le = tt }; high = record { le = tt } }
-runs-minus (suc m) l = record { low = record { le = le→leb m 61 (omega arith) }; high = record { le = tt } }
+runs-minus : (k m : ℕ) → m ≤ k → Runs k (negℤ (pos m))
+runs-minus k zero l = record { low = from-none k; high = record { le = tt } }
+  where
+    from-none : (k : ℕ) → negℤ (pos k) ≤ℤ pos 0
+    from-none zero = record { le = tt }
+    from-none (suc k) = record { le = tt }
+runs-minus zero (suc m) l = absurd (omega arith)
+runs-minus (suc k) (suc m) l = record { low = record { le = le→leb m k (omega arith) }; high = record { le = tt } }
 
-runs-told : {k b : ℕ} {z : ℤ} → k ≤ 62 → Told k b z → Runs z
-runs-told l (one e) = record { low = record { le = tt }; high = record { le = tt } }
-runs-told l (minus m h) = runs-minus m (omega arith)
+runs-one : (k : ℕ) → Runs k (pos 1)
+runs-one zero = record { low = record { le = tt }; high = record { le = tt } }
+runs-one (suc k) = record { low = record { le = tt }; high = record { le = tt } }
+
+runs-told : {u b : ℕ} {z : ℤ} (k : ℕ) → u ≤ k → Told u b z → Runs k z
+runs-told k l (one e) = runs-one k
+runs-told k l (minus m h) = runs-minus k m (omega arith)
 
 -- the other neighbours are buses other than i and j
-other-neighbours : (g : Grid) (s i j : ℕ) → Proper g → g .n ≤ 64 → In (g .nbr i) j → unknown (g .nbr) s i j ≤ 62
-other-neighbours g s i j v most joined =
+other-neighbours : (g : Grid) (k s i j : ℕ) → Proper g → g .n ≤ k + 2 → In (g .nbr i) j → unknown (g .nbr) s i j ≤ k
+other-neighbours g k s i j v most joined =
     let u = lack (less (g .nbr i) j) s in
     omega (arith, size-add u i no-i, size-add (add u i) j no-j, size-most (g .n) (add (add u i) j) within)
   where
@@ -103,10 +112,10 @@ other-neighbours g s i j v most joined =
         add-of {P = Bus (g .n)} (add (lack (less (g .nbr i) j) s) i) j (line .to)
         (add-of {P = Bus (g .n)} (lack (less (g .nbr i) j) s) i (line .from) (λ b h. v .lines i b (neighbour b h .0) .to))
 
-pub figure-runs : (g : Grid) (s i j : ℕ) → Proper g → g .n ≤ 64 → In (g .nbr i) j → Runs (figure (g .nbr) s i j)
-figure-runs g s i j v most joined =
-    subst⁻¹ Runs (figure-is (g .nbr) s i j joined)
-    (runs-told (other-neighbours g s i j v most joined) (told (bit s i) (unknown (g .nbr) s i j) (omega arith)))
+pub figure-runs : (g : Grid) (k s i j : ℕ) → Proper g → g .n ≤ k + 2 → In (g .nbr i) j → Runs k (figure (g .nbr) s i j)
+figure-runs g k s i j v most joined =
+    subst⁻¹ (Runs k) (figure-is (g .nbr) s i j joined)
+    (runs-told k (other-neighbours g k s i j v most joined) (told (bit s i) (unknown (g .nbr) s i j) (omega arith)))
 
 -- ---- when it is 1
 

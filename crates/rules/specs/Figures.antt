@@ -8,7 +8,7 @@ use Rattle.busset.specs.Sets.{bit, size, less, meet}
 unfoldable pub figure : (ℕ → ℕ) → ℕ → ℕ → ℕ → ℤ
 figure nbr s i j = pos 1 -ℤ pos (size (nbr i)) +ℤ pos (bit s i) +ℤ pos (size (less (meet (nbr i) s) j))
 
--- z runs from -62 to 1
-pub record Runs (z : ℤ) : Type 0 where
-  pub low : negℤ (pos 62) ≤ℤ z
+-- z runs from -k to 1
+pub record Runs (k : ℕ) (z : ℤ) : Type 0 where
+  pub low : negℤ (pos k) ≤ℤ z
   pub high : z ≤ℤ pos 1

@@ -1,17 +1,20 @@
--- Demands 2 and 3, over the promises of the calls themselves.
+-- Demands 2 and 3, and the firing figure's range, over the promises of the calls themselves.
 use mathlib.Core.Path.{_≡_, refl, sym, ap, _∙_, subst, subst⁻¹}
 use mathlib.Core.Bool.{Bool}
 use mathlib.Core.List.{List, [], _∷_, _++_}
 use mathlib.Core.Logic.{inl, inr}
 use Prim.Native.Nat.{ℕ, suc, _≤_}
 use native.Mathlib.Omega.{arith}
+use lib.IntN.{ℤ, pos}
 use lib.ListN.{length}
 use Rattle.busset.specs.Sets.{Out, In, empty, add, size, setOf}
 use Rattle.step.specs.declared.Step.{Step}
 use Rattle.rules.specs.Grids.{Grid, Proper}
-use Rattle.rules.specs.Observation.{Least}
+use Rattle.rules.specs.Observation.{AllBut, Least}
 use Rattle.rules.specs.Steps.{Holds, Allowed, Names, AcceptedFrom, reached, Accepted, Finished}
 use Rattle.rules.specs.Weaving.{WeavableFrom, Weavable, woven, Each, Some, Shuffle, Woven}
+use Rattle.rules.specs.Figures.{Runs}
+use Rattle.rules.proofs.Figures.{figure-runs, figure-one, one-figure}
 use Rattle.rules.proofs.Reasons.{allowed-names}
 use Rattle.rules.proofs.Shuffles.{shuffle-each, weaving-shuffles}
 use Rattle.grid.specs.declared.Case.{Case}
@@ -25,6 +28,8 @@ use Rattle.following.specs.declared.Replayed.{Replayed}
 use Rattle.following.specs.declared.Replayed.the-variants as replayed
 use Rattle.following.specs.declared.Wove.{Wove}
 use Rattle.following.specs.declared.Wove.the-variants as wove
+use Rattle.wozgrzyt.specs.declared.Figured.the-variants as figured
+use Rattle.wozgrzyt.specs.Replies.{stated, FigureReply}
 use Rattle.wozgrzyt.specs.Demands.{Demand3}
 
 -- ---- demand 2: a list is accepted exactly when each step is allowed where it stands
@@ -85,3 +90,16 @@ demand-3 c desks received before after (wove.Written count s) v ok sh l room p =
 
     same : setOf s ≡ reached (woven received)
     same = p .2 ∙ sym (w .reaches)
+
+-- ---- the firing figure runs from -62 to 1, and is 1 exactly when i and all its other neighbours are observed
+
+pub figure-range : (c : Case) (s i j : ℕ) (z : ℤ) → FigureReply c s i j (figured.Figure z) → Runs 62 z
+figure-range c s i j z p =
+    subst⁻¹ (Runs 62) (p .1) (figure-runs (gridOf c) 62 (stated c s) i j (p .0 .0 .proper) (p .0 .0 .buses .most) (p .0 .1 .1 .0))
+
+pub figure-usable : (c : Case) (s i j : ℕ) (z : ℤ) → FigureReply c s i j (figured.Figure z)
+    → (z ≡ pos 1 → In (stated c s) i × AllBut (gridOf c .nbr i) j (stated c s)) × (In (stated c s) i → AllBut (gridOf c .nbr i) j (stated c s) → z ≡ pos 1)
+figure-usable c s i j z p = (
+  λ e. one-figure (gridOf c .nbr) (stated c s) i j (p .0 .1 .1 .0) (sym (p .1) ∙ e),
+  λ h b. p .1 ∙ figure-one (gridOf c .nbr) (stated c s) i j (p .0 .1 .1 .0) h b,
+)
