@@ -1,6 +1,9 @@
-// The search for the fewest as crates/place has it, written by hand in C, over families of 64-bus grids with a budget of 8:
-// how many calls it makes (of the search and of the cut that calls itself), and the time of the slowest grid of each family.
-//   cc -O3 -o /tmp/fewest bench/fewest.c && /tmp/fewest [grids for each family]
+// The observed set and the search for the fewest, as the crates observe and place have them, written by hand in C.
+//   by_hand calls GRIDS              over families of 64-bus grids, GRIDS of each, with a budget of 8: how many calls the search makes
+//                                    (of the search and of the cut that calls itself), and the time of the slowest grid of each family
+//   by_hand write FAMILY SIZE ZEROS  the text of one grid of a family: 0 meshes, 1 random with SIZE lines, 2 rooks' grids
+//   by_hand fewest                   for the case text on standard input, what the program time_sites prints
+//   by_hand observed                 for the case text on standard input, what the program time_observed prints
 #include <stdint.h>
 #include <stdio.h>
 #include <stdlib.h>
@@ -90,9 +93,9 @@ static int search(set s, set sites, int k, set *found) {
     }
     return 0;
 }
-static int fewest(set site, int budget, set *found) {
+static int fewest(set lit_already, set site, int budget, set *found) {
     for (int k = 0; k <= budget; k++)
-        if (search(0, site, k, found)) return k;
+        if (search(lit_already, site, k, found)) return k;
     return -1;
 }
 
@@ -121,6 +124,55 @@ static void rooks(int m, int many) {
         if (i / m == j / m || i % m == j % m) line(p[o * m * m + i], p[o * m * m + j]);
     for (int i = many * m * m; i < 64; i++) line(p[i], p[i - 1]);
 }
+static void grid(int kind, int size, int many_zeros, int g) {
+    seed = (unsigned long)(kind * 1000 + size * 10 + many_zeros) * 7919u + (unsigned long)g;
+    memset(nbr, 0, sizeof nbr);
+    if (kind == 0) mesh(size & 1, size >> 1); else if (kind == 1) chance(size); else rooks(size, 64 / (size * size));
+    zeros(many_zeros);
+}
+static int write_text(void) {
+    printf("grid\t%d\n", n);
+    for (int b = 0; b < n; b++) printf("bus\t%d\t%c\tY\n", b + 1, zero & bus(b) ? 'Z' : 'I');
+    for (int a = 0; a < n; a++) for (int b = a + 1; b < n; b++) if (nbr[a] & bus(b)) printf("line\t%d\t%d\n", a + 1, b + 1);
+    return puts("end") < 0;
+}
+static set site, units;
+static int read_text(void) {
+    char kind[8], class, allowed;
+    int a, b;
+    while (scanf("%7s", kind) == 1 && strcmp(kind, "end"))
+        if (!strcmp(kind, "grid")) { if (scanf("%d", &n) != 1) return 0; all = n == 64 ? ~(set)0 : bus(n) - 1; }
+        else if (!strcmp(kind, "bus")) { if (scanf("%d %c %c", &a, &class, &allowed) != 3) return 0; if (class == 'Z') zero |= bus(a - 1); if (allowed == 'Y') site |= bus(a - 1); }
+        else if (!strcmp(kind, "line")) { if (scanf("%d %d", &a, &b) != 2) return 0; line(a - 1, b - 1); }
+        else { if (scanf("%d", &a) != 1) return 0; units |= bus(a - 1); }
+    return 1;
+}
+static int valid(void) {
+    int lines = 0;
+    if (n < 1 || n > 64 || (zero | site | units) & ~all) return 0;
+    for (int a = 0; a < 64; a++)
+        for (set left = nbr[a]; left; left &= left - 1) {
+            int b = low(left);
+            if (a >= n || b >= n || a == b || !(nbr[b] & bus(a))) return 0;
+        }
+    for (int a = 0; a < n; a++) lines += count(nbr[a] & (bus(a) - 1));
+    return lines <= 256;
+}
+static int read_fewest(void) {
+    set found;
+    if (!read_text() || !valid()) return 1;
+    int k = fewest(spread(start(units)), site & ~units, 8, &found);
+    return printf("%llu\n", k < 0 ? 0ull : (unsigned long long)found) < 0;
+}
+static int read_observed(void) {
+    volatile set last = 0;
+    if (!read_text()) return 1;
+    for (int i = 0; i < 200000; i++) {
+        __asm__ volatile("" ::: "memory");
+        last = valid() ? spread(start(units)) : 0;
+    }
+    return printf("%llu\n", (unsigned long long)last) < 0;
+}
 static void family(const char *name, int kind, int size, int grids) {
     static const int parts[5] = {0, 21, 32, 43, 64};
     for (int z = 0; z < 5; z++) {
@@ -128,13 +180,10 @@ static void family(const char *name, int kind, int size, int grids) {
         double slowest = 0;
         for (int g = 0; g < grids; g++) {
             set found;
-            seed = (unsigned long)(kind * 1000 + size * 10 + z) * 7919u + (unsigned long)g;
-            memset(nbr, 0, sizeof nbr);
-            if (kind == 0) mesh(size & 1, size >> 1); else if (kind == 1) chance(size); else rooks(size, 64 / (size * size));
-            zeros(parts[z]);
+            grid(kind, size, parts[z], g);
             calls = 0;
             clock_t t = clock();
-            fewest(all, 8, &found);
+            fewest(0, all, 8, &found);
             double s = (double)(clock() - t) / CLOCKS_PER_SEC;
             if (calls > most) most = calls;
             if (s > slowest) slowest = s;
@@ -144,9 +193,12 @@ static void family(const char *name, int kind, int size, int grids) {
     }
 }
 int main(int c, char **v) {
-    int grids = c > 1 ? atoi(v[1]) : 3;
+    if (c > 1 && !strcmp(v[1], "fewest")) return read_fewest();
+    if (c > 1 && !strcmp(v[1], "observed")) return read_observed();
     n = 64;
     all = ~(set)0;
+    if (c > 4 && !strcmp(v[1], "write")) { grid(atoi(v[2]), atoi(v[3]), atoi(v[4]), 0); return write_text(); }
+    int grids = c > 2 ? atoi(v[2]) : 3;
     family("8 by 8 mesh", 0, 0, grids);
     family("renumbered mesh", 0, 1, grids);
     family("renumbered torus", 0, 3, grids);

@@ -1,0 +1,33 @@
+use borrow.Author.Needs.{needs}
+use Prim.Native.Nat.{_-_, _≤_}
+use Rattle.time_observed.proofs.repeated.Statement.{statement}
+use Rattle.time_observed.proofs.repeated.Tie as tie
+
+abbrev Inv-loop : tie.InvT-loop
+Inv-loop case last₀ i₀ last i = i ≤ 200000
+
+abbrev μ-loop : tie.MeasureT-loop
+μ-loop case last₀ i₀ last i = 200000 - i
+
+loop-holds : tie.Need-loop-holds Inv-loop μ-loop
+loop-holds c = search needs
+
+observed-requires : tie.Need-observed-requires Inv-loop μ-loop
+observed-requires c κs = search needs
+
+add-i : tie.Need-add-i Inv-loop μ-loop
+add-i c = search needs
+
+loop-less : tie.Need-loop-less Inv-loop μ-loop
+loop-less c = search needs
+
+loop-again : tie.Need-loop-again Inv-loop μ-loop
+loop-again c = search needs
+
+returns : tie.Need-returns Inv-loop μ-loop
+returns c = search needs
+
+pub repeated-spec : {M : Type 1} → statement M
+repeated-spec =
+    tie.close
+    (tie.spec Inv-loop μ-loop loop-holds observed-requires add-i loop-less loop-again returns)
