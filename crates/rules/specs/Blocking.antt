@@ -19,7 +19,7 @@ pub record Idle (nbr : ℕ → ℕ) (c x : ℕ) : Type 0 where
   pub own : In c x
   pub near : Sub (nbr x) c
 
--- r is those of the sites that are not idle in c
+-- r is some of the sites, and has all of them that are not idle in c
 pub record Group (nbr : ℕ → ℕ) (sites c r : ℕ) : Type 0 where
   pub of : Sub r sites
   pub rest : (x : ℕ) → In sites x → Out r x → Idle nbr c x
