@@ -2,7 +2,8 @@
 use mathlib.Core.Path.{_≡_, refl, sym, ap₂, _∙_}
 use mathlib.Core.List.{List, [], _∷_}
 use mathlib.Core.Logic.{inl, inr}
-use Prim.Native.Nat.{ℕ}
+use Prim.Native.Nat.{ℕ, _≤_}
+use native.Mathlib.Omega.{arith}
 use lib.ListN.{getD}
 use Rattle.grid.specs.declared.refusal.Refusal.{Refusal}
 use Rattle.grid.specs.declared.refusal.Refusal.the-variants.{TextTooLong, WrongForm, OutOfRange, OutOfOrder, InvalidCase, NoRoom, NoSuchBus, AlreadyObserved, ReasonFails, OverBudget, NoCover, TooManySteps, NotJoined}
@@ -50,3 +51,19 @@ failed-unique (x ∷ qs) r q (inr a) (inr b) = failed-unique qs r q (a .1) (b .1
 pub failed-or-passed : (qs : List Check) (r : Refusal) → Failed qs r → Passed qs → ⊥
 failed-or-passed (x ∷ qs) r (inl a) p = a .0 (p .0)
 failed-or-passed (x ∷ qs) r (inr a) p = failed-or-passed qs r (a .1) (p .1)
+
+-- the table has 13 rows
+pub number-most : (r : Refusal) → numberOf r ≤ 13
+number-most TextTooLong = omega arith
+number-most (WrongForm p) = omega arith
+number-most (OutOfRange p) = omega arith
+number-most (OutOfOrder p) = omega arith
+number-most InvalidCase = omega arith
+number-most NoRoom = omega arith
+number-most (NoSuchBus p) = omega arith
+number-most (AlreadyObserved p) = omega arith
+number-most (ReasonFails p) = omega arith
+number-most (OverBudget p) = omega arith
+number-most NoCover = omega arith
+number-most (TooManySteps p) = omega arith
+number-most NotJoined = omega arith

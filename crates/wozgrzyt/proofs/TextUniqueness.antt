@@ -15,8 +15,8 @@ use Rattle.steptext.specs.declared.StepList.{StepList}
 use Rattle.steptext.specs.declared.StepsRead.{StepsRead}
 use Rattle.steptext.specs.declared.StepsRead.the-variants.{Steps}
 use Rattle.steptext.proofs.Found as found
-use Rattle.wozgrzyt.specs.declared.texts.Written.{Written}
-use Rattle.wozgrzyt.specs.declared.texts.Written.the-variants as written
+use Rattle.writer.specs.declared.Written.{Written}
+use Rattle.writer.specs.declared.Written.the-variants as written
 use Rattle.wozgrzyt.specs.TextReplies.{CaseReadReply, writeChecks, CaseWrittenReply, StepsCheckedReply, StepsListedReply}
 
 -- ---- uniqueness

@@ -12,8 +12,8 @@ use Rattle.reader.specs.declared.CaseRead.{CaseRead}
 use Rattle.steptext.specs.Steps.{readSteps, listSteps}
 use Rattle.steptext.specs.declared.StepList.{StepList}
 use Rattle.steptext.specs.declared.StepsRead.{StepsRead}
-use Rattle.wozgrzyt.specs.declared.texts.Written.{Written}
-use Rattle.wozgrzyt.specs.declared.texts.Written.the-variants as written
+use Rattle.writer.specs.declared.Written.{Written}
+use Rattle.writer.specs.declared.Written.the-variants as written
 
 -- ---- a case text read: 1, then the first bad line, in it 2, 3, 4
 

@@ -6,12 +6,7 @@ pub use reader::CaseRead;
 pub use reader::ReadAnswer;
 pub use steptext::StepList;
 pub use steptext::StepsRead;
-
-// What writing a case says: how many bytes its text has.
-pub enum Written {
-    Bytes(usize),
-    Refused(Refusal),
-}
+pub use writer::Written;
 
 // The case that a text says.
 pub fn read_case(text: &[u8]) -> CaseRead

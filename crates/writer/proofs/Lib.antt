@@ -1,3 +1,4 @@
 pub mod Putting
 pub mod Turns
 pub mod Whole
+pub mod Printed

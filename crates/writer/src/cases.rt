@@ -75,7 +75,7 @@ fn put_lines(out: &mut [u8], at: usize, n: usize, nbr: &[BusSet; 64]) -> usize
 }
 
 // The units.
-fn put_units(out: &mut [u8], at: usize, n: usize, units: BusSet) -> usize
+pub fn put_units(out: &mut [u8], at: usize, n: usize, units: BusSet) -> usize
     requires { ⌜ (at < 2 ^ 20) × (n ≤ width) ⌝ }
     ensures { λ k. ⌜ Put (now (out .entry)) at (linesText (members Pmu (setOf units) 1 n)) (now (out .exit)) k ⌝ }
 {

@@ -8,8 +8,16 @@ ghost use lib.ListN.{length};
 ghost use Rattle.writer.specs.Put.{Put, lineText};
 
 pub mod cases;
+pub mod printing;
 
+use grid::Refusal;
 use record::Record;
+
+// What writing says: how many bytes the text has.
+pub enum Written {
+    Bytes(usize),
+    Refused(Refusal),
+}
 
 // One byte.
 pub fn put_byte(out: &mut [u8], at: usize, b: u8) -> usize
@@ -56,7 +64,7 @@ pub fn put_number(out: &mut [u8], at: usize, n: usize) -> usize
 }
 
 // A word with its tab, and a number.
-fn put_tagged(out: &mut [u8], at: usize, w: &[u8], n: usize) -> usize
+pub fn put_tagged(out: &mut [u8], at: usize, w: &[u8], n: usize) -> usize
     requires { ⌜ (at < 2 ^ 30) × (length (now w) < 2 ^ 30) × (n < 10000) ⌝ }
     ensures { λ r. ⌜ Put (now (out .entry)) at (now (w .entry) ++ numberText n) (now (out .exit)) r ⌝ }
 {

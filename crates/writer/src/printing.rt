@@ -1,0 +1,30 @@
+// The lines that the programs print for a refusal.
+ghost use Prim.Native.Nat.{_<_, _^_};
+ghost use Rattle.grid.specs.Refusals.{placeOf};
+ghost use Rattle.writer.specs.Put.{Put};
+ghost use Rattle.writer.specs.Printing.{refusedText, RefusedText, PrintedReply};
+use crate::Written;
+use grid::Refusal;
+
+// `refused number place`.
+pub fn put_refused(out: &mut [u8], at: usize, q: Refusal) -> usize
+    requires { ⌜ (at < 2 ^ 29) × (placeOf q < 10000) ⌝ }
+    ensures { λ k. ⌜ Put (now (out .entry)) at (refusedText q) (now (out .exit)) k ⌝ }
+{
+    let a = crate::put_tagged(out, at, b"refused\t", grid::refusal::number(q) as usize);
+    let b = crate::put_tagged(out, a, b"\t", grid::refusal::place(q));
+    crate::put_byte(out, b, 10)
+}
+
+// The same, in the bytes lent.
+pub fn print_refused(out: &mut [u8], q: Refusal) -> Written
+    requires { ⌜ placeOf q < 10000 ⌝ }
+    ensures { λ r. ⌜ PrintedReply (RefusedText q) (now (out .entry)) (now (out .exit)) r ⌝ }
+{
+    let mut none: [u8; 1] = [0];
+    if out.len() < put_refused(&mut none, 0, q) {
+        return Written::Refused(Refusal::NoRoom);
+    }
+    let k = put_refused(out, 0, q);
+    Written::Bytes(k)
+}
