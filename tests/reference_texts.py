@@ -266,4 +266,5 @@ def main():
     by_line(text["many"], True)
 
 
-main()
+if __name__ == "__main__":
+    main()

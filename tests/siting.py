@@ -1,6 +1,6 @@
 #!/usr/bin/env python3
 """What crates/try_sites must print, found without it: every answer is worked out here from document 01's sentences by trying all
-placements, and the grids are read from tests/vectors. One answer is not: that 57 buses need 12 units, which an integer program found.
+placements, and the grids are read from cases. One answer is not: that 57 buses need 12 units, which an integer program found.
 
     tests/siting.py            prints the expected output
     tests/siting.py --grids    prints crates/try_sites/src/grids.rt, the same grids as numbers
@@ -14,7 +14,7 @@ HERE = os.path.dirname(os.path.abspath(__file__))
 
 def read(name):
     n, zeros, lines = 0, [], []
-    for line in open(os.path.join(HERE, "vectors", name + ".case")):
+    for line in open(os.path.join(HERE, "..", "cases", name + ".case")):
         word = line.rstrip("\n").split("\t")
         if word[0] == "grid":
             n = int(word[1])
@@ -102,7 +102,7 @@ def fewest(name, g, budget, answer=False):
 
 
 def grids():
-    print("// The grids of tests/vectors, as numbers: written by tests/siting.py --grids.")
+    print("// The grids of cases, as numbers: written by tests/siting.py --grids.")
     print("use crate::drawing::drawn;\nuse wozgrzyt::Case;")
     for f, name in (("seven", "seven"), ("ieee14", "ieee14"), ("ieee30", "ieee30"), ("ieee57", "ieee57"), ("source000-fig4", "figure4"), ("source000-gadget", "gadget")):
         n, lines, zeros = read(f)
@@ -160,4 +160,5 @@ def main():
     print("no buses: refused 5 0 refused 5 0 refused 5 0")
 
 
-grids() if "--grids" in sys.argv else main()
+if __name__ == "__main__":
+    grids() if "--grids" in sys.argv else main()

@@ -1,4 +1,4 @@
-// The grids of tests/vectors, as numbers: written by tests/siting.py --grids.
+// The grids of cases, as numbers: written by tests/siting.py --grids.
 use crate::drawing::drawn;
 use wozgrzyt::Case;
 
