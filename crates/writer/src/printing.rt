@@ -22,7 +22,8 @@ pub fn print_refused(out: &mut [u8], q: Refusal) -> Written
     ensures { λ r. ⌜ PrintedReply (RefusedText q) (now (out .entry)) (now (out .exit)) r ⌝ }
 {
     let mut none: [u8; 1] = [0];
-    if out.len() < put_refused(&mut none, 0, q) {
+    let counted: &mut [u8] = &mut none;
+    if out.len() < put_refused(counted, 0, q) {
         return Written::Refused(Refusal::NoRoom);
     }
     let k = put_refused(out, 0, q);

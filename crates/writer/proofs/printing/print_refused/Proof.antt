@@ -4,8 +4,8 @@ use borrow.Author.Needs.{needs}
 use Rattle.writer.proofs.printing.print_refused.Statement.{statement}
 use Rattle.writer.proofs.printing.print_refused.Tie as tie
 
-slice-aggregate-put-refused : tie.Need-slice-aggregate-put-refused
-slice-aggregate-put-refused c = search needs
+slice-aggregate-counted : tie.Need-slice-aggregate-counted
+slice-aggregate-counted c = search needs
 
 put-refused-requires : tie.Need-put-refused-requires
 put-refused-requires c κs = search needs
@@ -30,7 +30,7 @@ pub print-refused-spec : {M : Type 1} → statement M
 print-refused-spec =
     tie.close
     (tie.spec
-    slice-aggregate-put-refused
+    slice-aggregate-counted
     put-refused-requires
     returns
     put-refused-requires-2
