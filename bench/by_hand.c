@@ -3,6 +3,7 @@
 //                                    (of the search and of the cut that calls itself), and the time of the slowest grid of each family
 //   by_hand write FAMILY SIZE ZEROS  the text of one grid of a family: 0 meshes, 1 random with SIZE lines, 2 rooks' grids
 //   by_hand fewest                   for the case text on standard input, what the program time_sites prints
+//   by_hand count                    for the case text on standard input, how many calls the search for the fewest makes
 //   by_hand observed                 for the case text on standard input, what the program time_observed prints
 #include <stdint.h>
 #include <stdio.h>
@@ -158,10 +159,11 @@ static int valid(void) {
     for (int a = 0; a < n; a++) lines += count(nbr[a] & (bus(a) - 1));
     return lines <= 256;
 }
-static int read_fewest(void) {
+static int read_fewest(int counted) {
     set found;
     if (!read_text() || !valid()) return 1;
     int k = fewest(spread(start(units)), site & ~units, 8, &found);
+    if (counted) return printf("%lu\n", calls) < 0;
     return printf("%llu\n", k < 0 ? 0ull : (unsigned long long)found) < 0;
 }
 static int read_observed(void) {
@@ -193,7 +195,7 @@ static void family(const char *name, int kind, int size, int grids) {
     }
 }
 int main(int c, char **v) {
-    if (c > 1 && !strcmp(v[1], "fewest")) return read_fewest();
+    if (c > 1 && (!strcmp(v[1], "fewest") || !strcmp(v[1], "count"))) return read_fewest(v[1][0] == 'c');
     if (c > 1 && !strcmp(v[1], "observed")) return read_observed();
     n = 64;
     all = ~(set)0;
