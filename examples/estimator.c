@@ -4,9 +4,9 @@
 #include <stdio.h>
 #include <string.h>
 
-#define GRID                                                                                                                       \
-    "grid\t7\n"                                                                                                                    \
-    "bus\t1\tI\tY\nbus\t2\tZ\tY\nbus\t3\tZ\tY\nbus\t4\tI\tY\nbus\t5\tZ\tY\nbus\t6\tI\tY\nbus\t7\tI\tY\n"                           \
+#define GRID                                                                                             \
+    "grid\t7\n"                                                                                          \
+    "bus\t1\tI\tY\nbus\t2\tZ\tY\nbus\t3\tZ\tY\nbus\t4\tI\tY\nbus\t5\tZ\tY\nbus\t6\tI\tY\nbus\t7\tI\tY\n" \
     "line\t1\t2\nline\t2\t3\nline\t3\t4\nline\t3\t7\nline\t4\t5\nline\t5\t6\n"
 
 static const char without_units[] = GRID "end\n";

@@ -103,7 +103,8 @@ uint32_t wz_fewest(const uint8_t *case_text, size_t case_len, size_t budget, uin
 
 /* The set that a list of steps reaches, whether or not a further step would be allowed after it. Refuses 1, 2, 3, 4, 51, 52, 53, 62, 7,
  * 8, 9, 6. */
-uint32_t wz_replay(const uint8_t *case_text, size_t case_len, const uint8_t *step_text, size_t step_len, uint8_t *set, size_t set_len);
+uint32_t wz_replay(const uint8_t *case_text, size_t case_len, const uint8_t *step_text, size_t step_len, uint8_t *set,
+                   size_t set_len);
 
 #ifdef __cplusplus
 }

@@ -3,8 +3,8 @@
 #define BOUNDARY_H
 
 /* Document 01's seven buses: `grid` on line 1, the buses on 2 to 8, the lines on 9 to 14; what is added starts on line 15. */
-#define SEVEN_BUSES                                                                                                                \
-    "grid\t7\n"                                                                                                                    \
+#define SEVEN_BUSES \
+    "grid\t7\n"     \
     "bus\t1\tI\tY\nbus\t2\tZ\tY\nbus\t3\tZ\tY\nbus\t4\tI\tY\nbus\t5\tZ\tY\nbus\t6\tI\tY\nbus\t7\tI\tY\n"
 #define SEVEN SEVEN_BUSES "line\t1\t2\nline\t2\t3\nline\t3\t4\nline\t3\t7\nline\t4\t5\nline\t5\t6\n"
 #define SEVEN_UNIT_3 SEVEN "pmu\t3\nend\n"

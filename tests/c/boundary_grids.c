@@ -5,10 +5,14 @@
 
 #include <stdio.h>
 
-#define FIVE                                                                                                                       \
-    "grid\t5\n"                                                                                                                    \
-    "bus\t1\tI\tY\nbus\t2\tI\tY\nbus\t3\tZ\tY\nbus\t4\tI\tY\nbus\t5\tI\tY\n"                                                       \
+#define FIVE                                                                 \
+    "grid\t5\n"                                                              \
+    "bus\t1\tI\tY\nbus\t2\tI\tY\nbus\t3\tZ\tY\nbus\t4\tI\tY\nbus\t5\tI\tY\n" \
     "line\t1\t2\nline\t2\t3\nline\t3\t4\nline\t4\t5\n"
+#define FOUR_FROM_THE_END                                      \
+    "grid\t4\n"                                                \
+    "bus\t1\tI\tY\nbus\t2\tZ\tY\nbus\t3\tZ\tY\nbus\t4\tI\tY\n" \
+    "line\t1\t2\nline\t2\t3\nline\t3\t4\npmu\t4\n"
 #define SEVEN_LINES "line\t1\t2\nline\t2\t3\nline\t3\t4\nline\t3\t7\nline\t4\t5\nline\t5\t6\n"
 #define SEVEN_BUSES_FROM_2 "bus\t2\tZ\tY\nbus\t3\tZ\tY\nbus\t4\tI\tY\nbus\t5\tZ\tY\nbus\t6\tI\tY\nbus\t7\tI\tY\n"
 #define SEVEN_1_BARRED "grid\t7\nbus\t1\tI\tN\n" SEVEN_BUSES_FROM_2 SEVEN_LINES
@@ -22,6 +26,7 @@ static void check_observed(void)
     expect_set("seven buses, unit at 4", ask_observed(SEVEN "pmu\t4\nend\n"), "3 4 5 6");
     expect_set("seven buses, units at 1 and 4", ask_observed(SEVEN "pmu\t1\npmu\t4\nend\n"), "1 2 3 4 5 6 7");
     expect_set("path of five, units at 1 and 5", ask_observed(FIVE "pmu\t1\npmu\t5\nend\n"), "1 2 4 5");
+    expect_set("a firing frees a lower bus, and that one another", ask_observed(FOUR_FROM_THE_END "end\n"), "1 2 3 4");
     expect_set("a unit at a bus with no line", ask_observed(TWO "pmu\t2\nend\n"), "2");
     expect_set("a Z bus with a single neighbour", ask_observed(TWO "line\t1\t2\npmu\t1\nend\n"), "1 2");
     expect_set("one bus, no unit", ask_observed("grid\t1\nbus\t1\tZ\tY\nend\n"), "");
@@ -56,12 +61,13 @@ static void check_fewest(void)
 
 static void check_replay(void)
 {
-    expect_set("the derivation", ask_replay(SEVEN_UNIT_3, "step\t2\tN\t3\nstep\t3\tO\nstep\t1\tZ\t2\nstep\t4\tN\t3\nstep\t7\tN\t3\nend\n"),
+    expect_set("the derivation",
+               ask_replay(SEVEN_UNIT_3, "step\t2\tN\t3\nstep\t3\tO\nstep\t1\tZ\t2\nstep\t4\tN\t3\nstep\t7\tN\t3\nend\n"),
                "1 2 3 4 7");
     expect_refusal("1 by Z 2 first", ask_replay(SEVEN_UNIT_3, "step\t1\tZ\t2\nend\n"), 109);
-    expect_refusal("Z at a bus of class I",
-                   ask_replay(SEVEN_UNIT_3, "step\t4\tN\t3\nstep\t3\tO\nstep\t5\tZ\t4\nend\n"), 309);
-    expect_refusal("Z while two neighbours are dark", ask_replay(SEVEN_UNIT_3, "step\t3\tO\nstep\t2\tN\t3\nstep\t4\tZ\t3\nend\n"), 309);
+    expect_refusal("Z at a bus of class I", ask_replay(SEVEN_UNIT_3, "step\t4\tN\t3\nstep\t3\tO\nstep\t5\tZ\t4\nend\n"), 309);
+    expect_refusal("Z while two neighbours are dark", ask_replay(SEVEN_UNIT_3, "step\t3\tO\nstep\t2\tN\t3\nstep\t4\tZ\t3\nend\n"),
+                   309);
     expect_refusal("N of a bus that has no unit", ask_replay(SEVEN_UNIT_3, "step\t2\tN\t1\nend\n"), 109);
     expect_refusal("N of a unit that is not joined", ask_replay(SEVEN_UNIT_3, "step\t1\tN\t3\nend\n"), 109);
     expect_refusal("O where no unit stands", ask_replay(SEVEN_UNIT_3, "step\t2\tO\nend\n"), 109);
@@ -69,7 +75,8 @@ static void check_replay(void)
     expect_set("an unfinished list is an answer", ask_replay(SEVEN_UNIT_3, "step\t3\tO\nend\n"), "3");
     expect_set("the empty list", ask_replay(SEVEN_UNIT_3, "end\n"), "");
     expect_set("N at a bus with its own unit", ask_replay(SEVEN "pmu\t3\npmu\t4\nend\n", "step\t3\tN\t4\nend\n"), "3");
-    expect_set("any order that holds", ask_replay(SEVEN_UNIT_3, "step\t7\tN\t3\nstep\t4\tN\t3\nstep\t2\tN\t3\nstep\t3\tO\nend\n"), "2 3 4 7");
+    expect_set("any order that holds", ask_replay(SEVEN_UNIT_3, "step\t7\tN\t3\nstep\t4\tN\t3\nstep\t2\tN\t3\nstep\t3\tO\nend\n"),
+               "2 3 4 7");
 }
 
 void check_grids(void)

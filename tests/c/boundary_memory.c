@@ -43,8 +43,8 @@ static void check_null(void)
 
 static void check_budgets(void)
 {
-    static const size_t above[] = {9, 10, 64, 255, 256, 258, 65536, 65538, (size_t)1 << 31, ((size_t)1 << 32) - 1, (size_t)1 << 32,
-                                   ((size_t)1 << 32) + 2, SIZE_MAX / 2, SIZE_MAX - 1, SIZE_MAX};
+    static const size_t above[] = {9,          10,         64,          255,         256,          258,          65536,   65538,
+                                   0x80000000, 0xffffffff, 0x100000000, 0x100000002, SIZE_MAX / 2, SIZE_MAX - 1, SIZE_MAX};
     for (size_t i = 0; i < sizeof above / sizeof *above; i++) {
         char name[60];
         snprintf(name, sizeof name, "budget %zu", above[i]);

@@ -9,10 +9,10 @@
 enum program { DAY, PLAN, PROGRAM_COUNT };
 
 enum feeding {
-    FEED_PIPE,   /* through a pipe, as fast as it takes it */
-    FEED_BYTES,  /* through a pipe, each byte after the one before was read */
-    FEED_FILE,   /* from a file */
-    FEED_CLOSED  /* standard input is closed */
+    FEED_PIPE,  /* through a pipe, as fast as it takes it */
+    FEED_BYTES, /* through a pipe, each byte after the one before was read */
+    FEED_FILE,  /* from a file */
+    FEED_CLOSED /* standard input is closed */
 };
 
 enum { PRINTED_ROOM = 4096 };

@@ -139,7 +139,9 @@ static size_t draw_size(struct dice *dice)
 static void draw_units(struct dice *dice, struct grid_case *grid)
 {
     size_t share = draw_share(dice);
-    if (percent(dice, 50)) {
+    if (percent(dice, 30))
+        return;
+    if (percent(dice, 60)) {
         for (size_t units = below(dice, 6); units > 0; units--)
             grid->unit[between(dice, 1, grid->buses)] = true;
         return;
@@ -193,7 +195,7 @@ static size_t count_additions(const struct grid_case *grid, size_t budget)
 
 void shorten_search(struct dice *dice, struct grid_case *grid, size_t budget)
 {
-    size_t most = percent(dice, 1) ? 20000 : 500;
+    size_t most = percent(dice, 1) ? 30000 : 3000;
     if (budget > MOST_BUDGET)
         budget = MOST_BUDGET;
     while (count_additions(grid, budget) > most)

@@ -109,9 +109,9 @@ static void move_record(struct dice *dice, struct text *text)
 /* Puts another word, number or letter, good or bad, in the place of a field. */
 static void change_field(struct dice *dice, struct text *text)
 {
-    static const char *const others[] = {"0",  "00", "07",  "1",   "2",   "3",    "12",   "13", "64", "65", "99", "9999", "10000", "",
-                                         "+1", "-1", "1 ",  "0x1", "I",   "Z",    "Y",    "N",  "O",  "K",  "L",  "i",    "ZZ",    "y",
-                                         "x",  "bus", "grid", "line", "pmu", "end", "step", "ends"};
+    static const char *const others[] = {"0",     "00", "07", "1",  "2",  "3",   "12",   "13",   "64",  "65",  "99",   "9999",
+                                         "10000", "",   "+1", "-1", "1 ", "0x1", "I",    "Z",    "Y",   "N",   "O",    "K",
+                                         "L",     "i",  "ZZ", "y",  "x",  "bus", "grid", "line", "pmu", "end", "step", "ends"};
     const char *other = others[below(dice, sizeof others / sizeof *others)];
     size_t from, to;
     draw_field(dice, text, &from, &to);
@@ -158,8 +158,9 @@ static size_t after_line_records(const struct text *text)
 /* A record of any kind, before a drawn line or after the last `line` record. */
 static void insert_record(struct dice *dice, struct text *text)
 {
-    static const char *const forms[] = {"line\t%zu\t%zu\n", "line\t%zu\t0%zu\n", "pmu\t%zu\n", "bus\t%zu\tI\tY\n", "grid\t%zu\n",
-                                        "end\n",            "step\t%zu\tO\n",    "\n",         "step\t%zu\tN\t%zu\n"};
+    static const char *const forms[] = {
+        "line\t%zu\t%zu\n",   "line\t%zu\t0%zu\n", "pmu\t%zu\n", "bus\t%zu\tI\tY\n", "grid\t%zu\n", "end\n", "step\t%zu\tO\n", "\n",
+        "step\t%zu\tN\t%zu\n"};
     struct text record = {.length = 0};
     size_t from, to, kind = percent(dice, 50) ? 0 : below(dice, sizeof forms / sizeof *forms);
     draw_line(dice, text, &from, &to);
@@ -191,9 +192,9 @@ static void pad(struct dice *dice, struct text *text, size_t byte_limit)
 void damage_text(struct dice *dice, struct text *text, size_t byte_limit)
 {
     static void (*const damages[])(struct dice *, struct text *) = {
-        remove_byte,  double_byte,  change_byte,   insert_byte,       cut_text,      double_record, drop_record,   move_record,
-        change_field, change_field, change_number, change_number,     change_number, insert_record, insert_record, add_after_end,
-        change_number, add_or_drop_field};
+        remove_byte,   double_byte,   change_byte,   insert_byte,   cut_text,      double_record,
+        drop_record,   move_record,   change_field,  change_field,  change_number, change_number,
+        change_number, insert_record, insert_record, add_after_end, change_number, add_or_drop_field};
     size_t times = percent(dice, 70) ? 1 : between(dice, 2, 3);
     for (; times > 0 && text->length > 0; times--) {
         if (percent(dice, 5))
