@@ -86,8 +86,10 @@ static void draw_mesh(struct drawing *drawing)
 
 static void draw_by_chance(struct drawing *drawing, size_t tries)
 {
-    for (size_t i = 0; i < tries; i++)
-        join(drawing, below(drawing->dice, drawing->grid->buses), below(drawing->dice, drawing->grid->buses));
+    for (size_t tried = 0; tried < tries; tried++) {
+        size_t i = below(drawing->dice, drawing->grid->buses), j = below(drawing->dice, drawing->grid->buses);
+        join(drawing, i, j);
+    }
 }
 
 static void draw_lines(struct drawing *drawing)

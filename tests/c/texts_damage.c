@@ -60,7 +60,8 @@ static void double_byte(struct dice *dice, struct text *text)
 
 static void change_byte(struct dice *dice, struct text *text)
 {
-    text->bytes[below(dice, text->length)] = draw_odd_byte(dice);
+    size_t at = below(dice, text->length);
+    text->bytes[at] = draw_odd_byte(dice);
 }
 
 static void insert_byte(struct dice *dice, struct text *text)
@@ -166,7 +167,8 @@ static void insert_record(struct dice *dice, struct text *text)
     draw_line(dice, text, &from, &to);
     if (percent(dice, 50))
         from = after_line_records(text);
-    add_line(&record, forms[kind], between(dice, 0, 65), between(dice, 0, 65));
+    size_t a = between(dice, 0, 65), b = between(dice, 0, 65);
+    add_line(&record, forms[kind], a, b);
     replace(text, from, from, record.bytes, record.length);
 }
 
@@ -191,6 +193,7 @@ static void pad(struct dice *dice, struct text *text, size_t byte_limit)
 
 void damage_text(struct dice *dice, struct text *text, size_t byte_limit)
 {
+    /* What stands here several times is drawn so much more often. */
     static void (*const damages[])(struct dice *, struct text *) = {
         remove_byte,   double_byte,   change_byte,   insert_byte,   cut_text,      double_record,
         drop_record,   move_record,   change_field,  change_field,  change_number, change_number,

@@ -10,7 +10,10 @@ struct drawn_steps {
 
 static struct step draw_step(struct dice *dice, size_t highest_bus)
 {
-    struct step step = {(unsigned)between(dice, 1, highest_bus), "ONZ"[below(dice, 3)], (unsigned)between(dice, 1, highest_bus)};
+    struct step step;
+    step.bus = (unsigned)between(dice, 1, highest_bus);
+    step.reason = "ONZ"[below(dice, 3)];
+    step.by = (unsigned)between(dice, 1, highest_bus);
     return step;
 }
 
