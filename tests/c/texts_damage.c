@@ -144,30 +144,41 @@ static void add_or_drop_field(struct dice *dice, struct text *text)
         replace(text, from, to + 1, "", 0);
 }
 
-/* Where the last `line` record ends; the text's end where there is none. */
-static size_t after_line_records(const struct text *text)
+/* How many `line` records there are, and where the last one ends: the text's end where there is none. */
+static size_t count_line_records(const struct text *text, size_t *after)
 {
-    size_t after = text->length;
-    for (size_t i = 0; i + 4 <= text->length; i++)
-        if ((i == 0 || text->bytes[i - 1] == '\n') && memcmp(text->bytes + i, "line", 4) == 0)
-            after = i;
-    while (after < text->length && text->bytes[after] != '\n')
-        after++;
-    return after < text->length ? after + 1 : after;
+    size_t count = 0;
+    *after = text->length;
+    for (size_t i = 0; i + 5 <= text->length; i++)
+        if ((i == 0 || text->bytes[i - 1] == '\n') && memcmp(text->bytes + i, "line\t", 5) == 0) {
+            *after = i;
+            count++;
+        }
+    while (*after < text->length && text->bytes[*after] != '\n')
+        (*after)++;
+    if (*after < text->length)
+        (*after)++;
+    return count;
 }
 
-/* A record of any kind, before a drawn line or after the last `line` record. */
+/* One more `line` record after the last: where there are 256, it is one too many, rising or not and in a good form or a bad one. */
+static void add_line_record(struct dice *dice, struct text *text)
+{
+    struct text record = {.length = 0};
+    size_t after, a = between(dice, 1, 64), b = between(dice, 1, 64);
+    count_line_records(text, &after);
+    add_line(&record, percent(dice, 90) ? "line\t%zu\t%zu\n" : "line\t%zu\t0%zu\n", a, b);
+    replace(text, after, after, record.bytes, record.length);
+}
+
+/* A record of any kind before a drawn line. */
 static void insert_record(struct dice *dice, struct text *text)
 {
-    static const char *const forms[] = {
-        "line\t%zu\t%zu\n",   "line\t%zu\t0%zu\n", "pmu\t%zu\n", "bus\t%zu\tI\tY\n", "grid\t%zu\n", "end\n", "step\t%zu\tO\n", "\n",
-        "step\t%zu\tN\t%zu\n"};
+    static const char *const forms[] = {"line\t%zu\t%zu\n", "pmu\t%zu\n", "bus\t%zu\tI\tY\n",   "grid\t%zu\n", "end\n",
+                                        "step\t%zu\tO\n",   "\n",         "step\t%zu\tN\t%zu\n"};
     struct text record = {.length = 0};
-    size_t from, to, kind = percent(dice, 50) ? 0 : below(dice, sizeof forms / sizeof *forms);
+    size_t from, to, kind = below(dice, sizeof forms / sizeof *forms), a = between(dice, 0, 65), b = between(dice, 0, 65);
     draw_line(dice, text, &from, &to);
-    if (percent(dice, 50))
-        from = after_line_records(text);
-    size_t a = between(dice, 0, 65), b = between(dice, 0, 65);
     add_line(&record, forms[kind], a, b);
     replace(text, from, from, record.bytes, record.length);
 }
@@ -195,10 +206,14 @@ void damage_text(struct dice *dice, struct text *text, size_t byte_limit)
 {
     /* What stands here several times is drawn so much more often. */
     static void (*const damages[])(struct dice *, struct text *) = {
-        remove_byte,   double_byte,   change_byte,   insert_byte,   cut_text,      double_record,
-        drop_record,   move_record,   change_field,  change_field,  change_number, change_number,
-        change_number, insert_record, insert_record, add_after_end, change_number, add_or_drop_field};
-    size_t times = percent(dice, 70) ? 1 : between(dice, 2, 3);
+        remove_byte,   double_byte,   change_byte,     insert_byte,   cut_text,      double_record,
+        drop_record,   move_record,   change_field,    change_field,  change_number, change_number,
+        change_number, insert_record, add_line_record, add_after_end, change_number, add_or_drop_field};
+    size_t times = percent(dice, 70) ? 1 : between(dice, 2, 3), after;
+    if (count_line_records(text, &after) == MOST_LINES && percent(dice, 40)) {
+        add_line_record(dice, text);
+        return;
+    }
     for (; times > 0 && text->length > 0; times--) {
         if (percent(dice, 5))
             pad(dice, text, byte_limit);
