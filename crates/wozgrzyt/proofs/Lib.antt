@@ -3,5 +3,3 @@ pub mod ListUniqueness
 pub mod SitingUniqueness
 pub mod TextUniqueness
 pub mod Demands
-pub mod SitingRows
-pub mod Rows

@@ -3,4 +3,3 @@ pub mod ListReplies
 pub mod SitingReplies
 pub mod TextReplies
 pub mod Demands
-pub mod Table

@@ -21,9 +21,9 @@ use Rattle.grid.specs.declared.Case.{Case}
 use Rattle.grid.proofs.Orders.{itself}
 use Rattle.grid.specs.Cases.{neighbours, gridOf, Valid}
 use Rattle.grid.proofs.Drawn.{withinTest, rowTest, validTest, valid-passes}
 use Rattle.wozgrzyt.specs.Replies.{stated}
-use Rattle.wozgrzyt.proofs.SitingRows.{grid, free, verdict-right, greedy-right, fewest-right, uncovered-right}
-use Rattle.wozgrzyt.specs.Table.{Drawing, wordOf, caseOf, Row, observes, figures, fails, unconfirmed, adds, fewestIs, uncovered, Right, AllRight, seven, path, table}
+use Rattle.starred.proofs.SitingRows.{grid, free, verdict-right, greedy-right, fewest-right, uncovered-right}
+use Rattle.starred.specs.Table.{Drawing, wordOf, caseOf, Row, observes, figures, fails, unconfirmed, adds, fewestIs, uncovered, Right, AllRight, seven, path, table}
 
 -- how far two integers are apart
 abbrev gapZ : ℤ → ℤ → ℕ

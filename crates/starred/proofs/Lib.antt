@@ -1,0 +1,2 @@
+pub mod SitingRows
+pub mod Rows
