@@ -2,7 +2,8 @@
 use mathlib.Core.Path.{_≡_, refl, sym, ap₂, _∙_}
 use mathlib.Core.List.{List, [], _∷_}
 use mathlib.Core.Logic.{inl, inr}
-use Prim.Native.Nat.{ℕ}
+use Prim.Native.Nat.{ℕ, _≤_}
+use native.Mathlib.Omega.{arith}
 use lib.ListN.{getD}
 use Rattle.grid.specs.declared.refusal.Refusal.{Refusal}
 use Rattle.grid.specs.declared.refusal.Refusal.the-variants.{TextTooLong, WrongForm, OutOfRange, OutOfOrder, InvalidCase, NoRoom, NoSuchBus, AlreadyObserved, ReasonFails, OverBudget, NoCover, TooManySteps, NotJoined}
@@ -50,3 +51,15 @@ failed-unique (x ∷ qs) r q (inr a) (inr b) = failed-unique qs r q (a .1) (b .1
 pub failed-or-passed : (qs : List Check) (r : Refusal) → Failed qs r → Passed qs → ⊥
 failed-or-passed (x ∷ qs) r (inl a) p = a .0 (p .0)
 failed-or-passed (x ∷ qs) r (inr a) p = failed-or-passed qs r (a .1) (p .1)
+
+-- ---- places
+
+-- each check's place is at most m
+abbrev pub PlacesBy : ℕ → List Check → Type 0
+PlacesBy m [] = Unit {0}
+PlacesBy m (x ∷ qs) = (x .place ≤ m) × PlacesBy m qs
+
+-- and so the place of the refusal that they give
+pub failed-place : (m : ℕ) (qs : List Check) (r : Refusal) → PlacesBy m qs → Failed qs r → placeOf r ≤ m
+failed-place m (x ∷ qs) r p (inl a) = omega (arith, p .0, a .1 .placed)
+failed-place m (x ∷ qs) r p (inr a) = failed-place m qs r (p .1) (a .1)
