@@ -32,6 +32,22 @@ there-and-back NoCover = refl
 there-and-back (TooManySteps p) = refl
 there-and-back NotJoined = refl
 
+-- the table has thirteen rows
+pub number-most : (r : Refusal) → numberOf r ≤ 13
+number-most TextTooLong = omega arith
+number-most (WrongForm p) = omega arith
+number-most (OutOfRange p) = omega arith
+number-most (OutOfOrder p) = omega arith
+number-most InvalidCase = omega arith
+number-most NoRoom = omega arith
+number-most (NoSuchBus p) = omega arith
+number-most (AlreadyObserved p) = omega arith
+number-most (ReasonFails p) = omega arith
+number-most (OverBudget p) = omega arith
+number-most NoCover = omega arith
+number-most (TooManySteps p) = omega arith
+number-most NotJoined = omega arith
+
 pub itself : (r : Refusal) → Is (numberOf r) (placeOf r) r
 itself r = record { numbered = refl; placed = refl }
 
