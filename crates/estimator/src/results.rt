@@ -15,7 +15,9 @@ fn code(q: Refusal) -> u32
     requires { ⌜ placeOf q ≤ farthest ⌝ }
     ensures { λ r. ⌜ r ≡ codeOf q ⌝ }
 {
-    100 * (grid::refusal::place(q) as u32) + grid::refusal::number(q)
+    let place = grid::refusal::place(q) as u32;
+    let number = grid::refusal::number(q);
+    100 * place + number
 }
 
 // The set goes into the first eight bytes lent.

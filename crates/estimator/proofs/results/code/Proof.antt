@@ -7,14 +7,14 @@ use Rattle.estimator.proofs.results.code.Tie as tie
 place-requires : tie.Need-place-requires
 place-requires c κs = search needs
 
-cast-result : tie.Need-cast-result
-cast-result c = search needs
-
-mul-result : tie.Need-mul-result
-mul-result c = search needs
+cast-place : tie.Need-cast-place
+cast-place c = search needs
 
 number-requires : tie.Need-number-requires
 number-requires c κs = search needs
+
+mul-result : tie.Need-mul-result
+mul-result c = omega (arith, code-small (c .before .before .args .q) (c .before .before .pre))
 
 add-result : tie.Need-add-result
 add-result c = omega (arith, code-small (c .before .before .args .q) (c .before .before .pre))
@@ -24,4 +24,4 @@ returns c = search needs
 
 pub code-spec : {M : Type 1} → statement M
 code-spec =
-    tie.close (tie.spec place-requires cast-result mul-result number-requires add-result returns)
+    tie.close (tie.spec place-requires cast-place number-requires mul-result add-result returns)
