@@ -5,3 +5,4 @@ pub mod Sizes
 pub mod Members
 pub mod Words
 pub mod Holding
+pub mod Packing

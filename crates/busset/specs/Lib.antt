@@ -1,3 +1,4 @@
 pub mod Deciding
 pub mod Sets
 pub mod Held
+pub mod Bytes

@@ -1,6 +1,7 @@
 // Sets of buses, held in a word: bus 1 in the lowest bit. The only shifts and masks stand here.
 ghost use mathlib.Core.Path.{_≡_};
-ghost use Prim.Native.Nat.{_≤_};
+ghost use Prim.Native.Nat.{_≤_, _<_};
+ghost use Rattle.busset.specs.Bytes.{byteOf};
 ghost use Rattle.busset.specs.Deciding.{Decides};
 ghost use Rattle.busset.specs.Sets.{Bus, In, Sub, Within, Union, Both, Minus, With, Without, Lowest, Counted, All, empty, upTo, width, setOf};
 
@@ -117,4 +118,12 @@ pub fn is_within(s: BusSet, n: usize) -> bool
     ensures { λ r. ⌜ Decides (Within n (setOf s)) r ⌝ }
 {
     is_subset(s, all(n))
+}
+
+// Byte i of the word, counted from 0 at the lowest.
+pub fn byte_of(s: BusSet, i: usize) -> u8
+    requires { ⌜ i < 8 ⌝ }
+    ensures { λ r. ⌜ r ≡ byteOf s i ⌝ }
+{
+    ((s >> (8 * i)) & 255) as u8
 }

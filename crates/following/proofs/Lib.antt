@@ -3,3 +3,4 @@ pub mod Extending
 pub mod Going
 pub mod Starts
 pub mod Outcomes
+pub mod Refusing

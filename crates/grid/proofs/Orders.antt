@@ -32,6 +32,22 @@ there-and-back NoCover = refl
 there-and-back (TooManySteps p) = refl
 there-and-back NotJoined = refl
 
+-- the table has thirteen rows
+pub number-most : (r : Refusal) → numberOf r ≤ 13
+number-most TextTooLong = omega arith
+number-most (WrongForm p) = omega arith
+number-most (OutOfRange p) = omega arith
+number-most (OutOfOrder p) = omega arith
+number-most InvalidCase = omega arith
+number-most NoRoom = omega arith
+number-most (NoSuchBus p) = omega arith
+number-most (AlreadyObserved p) = omega arith
+number-most (ReasonFails p) = omega arith
+number-most (OverBudget p) = omega arith
+number-most NoCover = omega arith
+number-most (TooManySteps p) = omega arith
+number-most NotJoined = omega arith
+
 pub itself : (r : Refusal) → Is (numberOf r) (placeOf r) r
 itself r = record { numbered = refl; placed = refl }
 
@@ -52,18 +68,14 @@ pub failed-or-passed : (qs : List Check) (r : Refusal) → Failed qs r → Passe
 failed-or-passed (x ∷ qs) r (inl a) p = a .0 (p .0)
 failed-or-passed (x ∷ qs) r (inr a) p = failed-or-passed qs r (a .1) (p .1)
 
--- the table has 13 rows
-pub number-most : (r : Refusal) → numberOf r ≤ 13
-number-most TextTooLong = omega arith
-number-most (WrongForm p) = omega arith
-number-most (OutOfRange p) = omega arith
-number-most (OutOfOrder p) = omega arith
-number-most InvalidCase = omega arith
-number-most NoRoom = omega arith
-number-most (NoSuchBus p) = omega arith
-number-most (AlreadyObserved p) = omega arith
-number-most (ReasonFails p) = omega arith
-number-most (OverBudget p) = omega arith
-number-most NoCover = omega arith
-number-most (TooManySteps p) = omega arith
-number-most NotJoined = omega arith
+-- ---- places
+
+-- each check's place is at most m
+abbrev pub PlacesBy : ℕ → List Check → Type 0
+PlacesBy m [] = Unit {0}
+PlacesBy m (x ∷ qs) = (x .place ≤ m) × PlacesBy m qs
+
+-- and so the place of the refusal that they give
+pub failed-place : (m : ℕ) (qs : List Check) (r : Refusal) → PlacesBy m qs → Failed qs r → placeOf r ≤ m
+failed-place m (x ∷ qs) r p (inl a) = omega (arith, p .0, a .1 .placed)
+failed-place m (x ∷ qs) r p (inr a) = failed-place m qs r (p .1) (a .1)

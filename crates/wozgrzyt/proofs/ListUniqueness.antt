@@ -20,6 +20,13 @@ use Rattle.following.specs.declared.Replayed.{Replayed}
 use Rattle.following.specs.declared.Replayed.the-variants as replayed
 use Rattle.following.specs.declared.Wove.{Wove}
 use Rattle.following.specs.declared.Wove.the-variants as wove
+use Rattle.steptext.specs.Steps.{readSteps, stepsOf}
+use Rattle.steptext.specs.declared.StepsRead.{StepsRead}
+use Rattle.steptext.specs.declared.StepsRead.the-variants as read
+use Rattle.textreplay.specs.Replying.{TextReplayAt, TextReplayReply}
+use Rattle.textreplay.specs.declared.TextReplayed.{TextReplayed}
+use Rattle.textreplay.specs.declared.TextReplayed.the-variants as told
+use Rattle.textreplay.proofs.Onward.{answerOf}
 use Rattle.wozgrzyt.specs.declared.steps.DerivationAnswer.{DerivationAnswer}
 use Rattle.wozgrzyt.specs.declared.steps.DerivationAnswer.the-variants.{Found, Refused}
 use Rattle.wozgrzyt.specs.declared.steps.Derived.{Derived}
@@ -44,6 +51,27 @@ replay-unique c xs (replayed.Reached s f) (replayed.Reached t h) p q =
 replay-unique c xs (replayed.Reached s f) (replayed.Refused r) p q = absurd (failed-or-passed (replayChecks c xs) r q (p .0))
 replay-unique c xs (replayed.Refused r) (replayed.Reached s f) p q = absurd (failed-or-passed (replayChecks c xs) r p (q .0))
 replay-unique c xs (replayed.Refused r) (replayed.Refused k) p q = ap replayed.Refused (failed-unique (replayChecks c xs) r k p q)
+
+pub text-replay-unique : (c : Case) (text : List ℕ) (a b : TextReplayed) → TextReplayReply c text a → TextReplayReply c text b → a ≡ b
+text-replay-unique c text a b p q = go (readSteps text) a b p q
+  where
+    -- as the list of its steps
+    listed : (x y : Replayed) → ReplayReply c (stepsOf text) x → ReplayReply c (stepsOf text) y → answerOf x ≡ answerOf y
+    listed x y p q = ap answerOf (replay-unique c (stepsOf text) x y p q)
+
+    go : (r : StepsRead) (a b : TextReplayed) → TextReplayAt c text r a → TextReplayAt c text r b → a ≡ b
+    go (read.Steps n) (told.Reached s f) (told.Reached t h) p q = listed (replayed.Reached s f) (replayed.Reached t h) p q
+    go (read.Steps n) (told.Reached s f) (told.Refused k) p q = listed (replayed.Reached s f) (replayed.Refused k) p q
+    go (read.Steps n) (told.Reached s f) (told.Unread k) p q = absurd q
+    go (read.Steps n) (told.Refused r) (told.Reached t h) p q = listed (replayed.Refused r) (replayed.Reached t h) p q
+    go (read.Steps n) (told.Refused r) (told.Refused k) p q = listed (replayed.Refused r) (replayed.Refused k) p q
+    go (read.Steps n) (told.Refused r) (told.Unread k) p q = absurd q
+    go (read.Steps n) (told.Unread r) b p q = absurd p
+    go (read.Refused r) (told.Reached s f) b p q = absurd p
+    go (read.Refused r) (told.Refused k) b p q = absurd p
+    go (read.Refused r) (told.Unread j) (told.Reached t h) p q = absurd q
+    go (read.Refused r) (told.Unread j) (told.Refused k) p q = absurd q
+    go (read.Refused r) (told.Unread j) (told.Unread k) p q = ap told.Unread (p ∙ sym q)
 
 pub weave-unique : (c : Case) (xs before x y : List Step) (a b : Wove) → WeaveReply c xs before x a → WeaveReply c xs before y b → (a ≡ b) × (x ≡ y)
 weave-unique c xs before x y (wove.Written m s) (wove.Written n t) p q =

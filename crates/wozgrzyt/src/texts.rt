@@ -1,4 +1,4 @@
-// The texts: a case text read and written, a step text checked and read.
+// The texts: a case text read and written, a step text checked, read and replayed.
 ghost use Rattle.wozgrzyt.specs.TextReplies.{CaseReadReply, CaseWrittenReply, StepsCheckedReply, StepsListedReply};
 use grid::Case;
 use grid::Refusal;
@@ -6,6 +6,8 @@ pub use reader::CaseRead;
 pub use reader::ReadAnswer;
 pub use steptext::StepList;
 pub use steptext::StepsRead;
+pub use textreplay::TextReplayed;
+pub use textreplay::replay_text;
 pub use writer::Written;
 
 // The case that a text says.

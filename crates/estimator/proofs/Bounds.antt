@@ -1,0 +1,85 @@
+-- The place of every refusal is small enough for the result.
+use mathlib.Core.Path.{_≡_, refl, subst⁻¹}
+use mathlib.Core.List.{List}
+use Prim.Native.Nat.{ℕ, _+_, _*_, _≤_}
+use native.Mathlib.Omega.{arith}
+use Rattle.grid.specs.declared.Case.{Case}
+use Rattle.grid.specs.declared.refusal.Refusal.{Refusal}
+use Rattle.grid.specs.Refusals.{placeOf}
+use Rattle.grid.proofs.Orders.{number-most, failed-place}
+use Rattle.following.proofs.Refusing.{replay-place}
+use Rattle.reader.specs.Reading.{readCase}
+use Rattle.reader.specs.declared.ReadAnswer.{ReadAnswer}
+use Rattle.reader.specs.declared.ReadAnswer.the-variants as read
+use Rattle.reader.proofs.Refusing.{read-place}
+use Rattle.steptext.specs.Steps.{readSteps, stepsOf}
+use Rattle.steptext.specs.declared.StepsRead.{StepsRead}
+use Rattle.steptext.specs.declared.StepsRead.the-variants as steps
+use Rattle.steptext.proofs.Refusing.{steps-place}
+use Rattle.textreplay.specs.Replying.{TextReplayAt, TextReplayReply}
+use Rattle.textreplay.specs.declared.TextReplayed.{TextReplayed}
+use Rattle.textreplay.specs.declared.TextReplayed.the-variants as replayed
+use Rattle.wozgrzyt.specs.Replies.{observedChecks, ObservedReply}
+use Rattle.wozgrzyt.specs.SitingReplies.{verdictChecks, VerdictReply, fewestChecks, FewestReply}
+use Rattle.wozgrzyt.specs.declared.Observed.{Observed}
+use Rattle.wozgrzyt.specs.declared.Observed.the-variants as observed
+use Rattle.wozgrzyt.specs.declared.siting.Verdict.{Verdict}
+use Rattle.wozgrzyt.specs.declared.siting.Verdict.the-variants as verdict
+use Rattle.wozgrzyt.specs.declared.siting.Fewest.{Fewest}
+use Rattle.wozgrzyt.specs.declared.siting.Fewest.the-variants as fewest
+use Rattle.estimator.specs.Answers.{ofObserved, ofVerdict, ofFewest, ofReplay, Said, ObservedFor, UnconfirmedFor, FewestFor, ReplayFor, OfRead, OfText}
+use Rattle.estimator.specs.Results.{farthest, Placed, codeOf}
+use Rattle.estimator.specs.declared.answers.Answer.{Answer}
+
+-- so a refusal's code is small
+pub code-small : (q : Refusal) → placeOf q ≤ farthest → codeOf q ≤ 100 * farthest + 13
+code-small q h = omega (arith, number-most q)
+
+-- ---- of a case
+
+said-placed : {R : Type 0} (promise : R → Type 0) (of : R → Answer) → ((x : R) → promise x → Placed (of x)) → (a : Answer) → Said promise of a → Placed a
+said-placed promise of u a p = subst⁻¹ Placed (p .is) (u (p .reply) (p .meets))
+
+observed-small : (c : Case) (x : Observed) → ObservedReply c x → Placed (ofObserved x)
+observed-small c (observed.Set s) p = tt
+observed-small c (observed.Refused q) p = failed-place farthest (observedChecks c) q (omega arith, tt) p
+
+verdict-small : (c : Case) (x : Verdict) → VerdictReply c x → Placed (ofVerdict x)
+verdict-small c (verdict.Unconfirmed s) p = tt
+verdict-small c (verdict.Refused q) p = failed-place farthest (verdictChecks c) q (omega arith, tt) p
+
+fewest-small : (c : Case) (budget : ℕ) (x : Fewest) → FewestReply c budget x → Placed (ofFewest x)
+fewest-small c budget (fewest.Sites s) p = tt
+fewest-small c budget (fewest.Refused q) p = failed-place farthest (fewestChecks c budget) q (omega arith, (omega arith, (omega arith, tt))) p
+
+replay-small : (c : Case) (text : List ℕ) (x : TextReplayed) → TextReplayReply c text x → Placed (ofReplay x)
+replay-small c text x p = go (readSteps text) refl x p
+  where
+    go : (r : StepsRead) → readSteps text ≡ r → (x : TextReplayed) → TextReplayAt c text r x → Placed (ofReplay x)
+    go (steps.Steps n) e (replayed.Reached s f) p = tt
+    go (steps.Steps n) e (replayed.Refused q) p = omega (arith, replay-place c (stepsOf text) q p)
+    go (steps.Steps n) e (replayed.Unread q) p = absurd p
+    go (steps.Refused r) e (replayed.Reached s f) p = absurd p
+    go (steps.Refused r) e (replayed.Refused q) p = absurd p
+    go (steps.Refused r) e (replayed.Unread q) p = subst⁻¹ (λ k. placeOf k ≤ farthest) p (steps-place text r e)
+
+-- ---- of a text
+
+text-placed : (text : List ℕ) (P : Case → Answer → Type 0) → ((c : Case) (a : Answer) → P c a → Placed a) → (a : Answer) → OfText text P a → Placed a
+text-placed text P u a p = go (readCase text .answer) refl p
+  where
+    go : (r : ReadAnswer) → readCase text .answer ≡ r → OfRead r (readCase text .case) P a → Placed a
+    go read.Read e p = u (readCase text .case) a p
+    go (read.Refused q) e p = subst⁻¹ Placed p (omega (arith, read-place text q e))
+
+pub observed-placed : (text : List ℕ) (a : Answer) → OfText text ObservedFor a → Placed a
+observed-placed text = text-placed text ObservedFor (λ c. said-placed (ObservedReply c) ofObserved (observed-small c))
+
+pub unconfirmed-placed : (text : List ℕ) (a : Answer) → OfText text UnconfirmedFor a → Placed a
+unconfirmed-placed text = text-placed text UnconfirmedFor (λ c. said-placed (VerdictReply c) ofVerdict (verdict-small c))
+
+pub fewest-placed : (text : List ℕ) (budget : ℕ) (a : Answer) → OfText text (FewestFor budget) a → Placed a
+fewest-placed text budget = text-placed text (FewestFor budget) (λ c. said-placed (FewestReply c budget) ofFewest (fewest-small c budget))
+
+pub replay-placed : (text steps : List ℕ) (a : Answer) → OfText text (ReplayFor steps) a → Placed a
+replay-placed text steps = text-placed text (ReplayFor steps) (λ c. said-placed (TextReplayReply c steps) ofReplay (replay-small c steps))

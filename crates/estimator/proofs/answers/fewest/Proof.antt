@@ -1,0 +1,46 @@
+use borrow.Author.Needs.{needs}
+use Rattle.estimator.specs.Answers.{FewestFor}
+use Rattle.estimator.proofs.Replying.{of-read, of-refused}
+use Rattle.estimator.proofs.answers.fewest.Statement.{statement}
+use Rattle.estimator.proofs.answers.fewest.Tie as tie
+
+read-case-requires : tie.Need-read-case-requires
+read-case-requires c κs = search needs
+
+enum-told : tie.Need-enum-told
+enum-told c = search needs
+
+place-fewest-requires : tie.Need-place-fewest-requires
+place-fewest-requires c κs = search needs
+
+of-fewest-requires : tie.Need-of-fewest-requires
+of-fewest-requires c κs = search needs
+
+enum-known-answer : tie.Need-enum-known-answer
+enum-known-answer c = search needs
+
+returns : tie.Need-returns
+returns c =
+    let at-call = c .before in
+    let at-told = at-call .before in
+    let at-read-case = at-told .before .before .before in
+    of-read _ (FewestFor _) (at-read-case .read-case .ensures) (at-told .enum-told .given .1)
+    (record { reply = at-call .place-fewest .result; meets = at-call .place-fewest .ensures; is = c .of-fewest .ensures })
+
+returns-2 : tie.Need-returns-2
+returns-2 c =
+    let at-answer = c .before in
+    let at-read-case = at-answer .before .before .before in
+    of-refused _ (FewestFor _) (at-read-case .read-case .ensures) (at-answer .answer .given .1)
+
+pub fewest-spec : {M : Type 1} → statement M
+fewest-spec =
+    tie.close
+    (tie.spec
+    read-case-requires
+    enum-told
+    place-fewest-requires
+    of-fewest-requires
+    enum-known-answer
+    returns
+    returns-2)

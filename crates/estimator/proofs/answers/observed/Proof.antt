@@ -1,0 +1,46 @@
+use borrow.Author.Needs.{needs}
+use Rattle.estimator.specs.Answers.{ObservedFor}
+use Rattle.estimator.proofs.Replying.{of-read, of-refused}
+use Rattle.estimator.proofs.answers.observed.Statement.{statement}
+use Rattle.estimator.proofs.answers.observed.Tie as tie
+
+read-case-requires : tie.Need-read-case-requires
+read-case-requires c κs = search needs
+
+enum-told : tie.Need-enum-told
+enum-told c = search needs
+
+observed-set-requires : tie.Need-observed-set-requires
+observed-set-requires c κs = search needs
+
+of-observed-requires : tie.Need-of-observed-requires
+of-observed-requires c κs = search needs
+
+enum-known-answer : tie.Need-enum-known-answer
+enum-known-answer c = search needs
+
+returns : tie.Need-returns
+returns c =
+    let at-call = c .before in
+    let at-told = at-call .before in
+    let at-read-case = at-told .before .before .before in
+    of-read _ ObservedFor (at-read-case .read-case .ensures) (at-told .enum-told .given .1)
+    (record { reply = at-call .observed-set .result; meets = at-call .observed-set .ensures; is = c .of-observed .ensures })
+
+returns-2 : tie.Need-returns-2
+returns-2 c =
+    let at-answer = c .before in
+    let at-read-case = at-answer .before .before .before in
+    of-refused _ ObservedFor (at-read-case .read-case .ensures) (at-answer .answer .given .1)
+
+pub observed-spec : {M : Type 1} → statement M
+observed-spec =
+    tie.close
+    (tie.spec
+    read-case-requires
+    enum-told
+    observed-set-requires
+    of-observed-requires
+    enum-known-answer
+    returns
+    returns-2)

@@ -1,0 +1,61 @@
+// A step text replayed straight from the text: no list is stored.
+ghost use mathlib.Core.Path.{_≡_};
+ghost use lib.ListN.{length};
+ghost use Rattle.steptext.specs.Steps.{stepsOf};
+ghost use Rattle.textreplay.specs.Replying.{Followed, TextReplayReply};
+use busset::BusSet;
+use following::Following;
+use following::Replayed;
+use following::Task;
+use following::apply;
+use following::begin;
+use following::ended;
+use grid::Case;
+use grid::Refusal;
+use steptext::NextStep;
+use steptext::StepsRead;
+use steptext::check_steps;
+use steptext::step_at;
+
+// The set reached and whether the list is finished; a refusal of the list; a refusal in reading its text.
+pub enum TextReplayed {
+    Reached(BusSet, bool),
+    Refused(Refusal),
+    Unread(Refusal),
+}
+
+// The n steps of a text, followed one after another.
+fn follow_text(case: Case, text: &[u8], n: usize) -> Following
+    requires { ⌜ length (stepsOf (now text)) ≡ n ⌝ }
+    ensures { λ r. ⌜ Followed case (stepsOf (now (text .entry))) r ⌝ }
+{
+    let mut st = begin(case, Task::Replay, n);
+    let mut at: usize = 0;
+    loop {
+        match step_at(text, at) {
+            NextStep::At(x, e) => {
+                st = apply(case, st, x);
+                at = e;
+            }
+            NextStep::Nothing => {
+                return st;
+            }
+        }
+    }
+}
+
+// The whole text is read before its first step is tried.
+pub fn replay_text(case: Case, text: &[u8]) -> TextReplayed
+    ensures { λ r. ⌜ TextReplayReply case (now (text .entry)) r ⌝ }
+{
+    match check_steps(text) {
+        StepsRead::Steps(n) => {
+            let st = follow_text(case, text, n);
+            match ended(case, st) {
+                Replayed::Reached(s, finished) => TextReplayed::Reached(s, finished),
+                Replayed::Refused(q) => TextReplayed::Refused(q),
+            }
+        }
+        StepsRead::Refused(q) => TextReplayed::Unread(q),
+    }
+}
