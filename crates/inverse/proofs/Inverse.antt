@@ -10,14 +10,14 @@ use Rattle.record.specs.declared.Record.the-variants.{Pmu}
 use Rattle.grid.specs.Cases.{neighbours, gridOf, Valid}
 use Rattle.grid.specs.declared.Case.{Case}
 use Rattle.rules.specs.Grids.{Proper as ProperGrid}
-use Rattle.reader.specs.Reading.{mostBytes, start, got, readCase}
+use Rattle.reader.specs.Reading.{mostBytes, start, got, readText, readCase}
 use Rattle.inverse.specs.Grammar.{Reads}
 use Rattle.reader.specs.Writing.{records, caseText, lineRecords}
 use Rattle.reader.proofs.Lengths.{lines-length, buses-length, members-length}
 use Rattle.inverse.proofs.Counts.{line-records}
 use Rattle.inverse.proofs.Places.{Ask, answer}
 use Rattle.inverse.proofs.Places.Ask.{zeroAt, siteAt, unitAt, lineAt}
-use Rattle.inverse.proofs.Texts.{begun, first-stand, reads-of, of-reads, same-text}
+use Rattle.inverse.proofs.Texts.{begun, first-stand, text-reads, reads-of, of-reads, same-text}
 use Rattle.inverse.proofs.Written.{Above, Writable, readable}
 use Rattle.inverse.proofs.Few.{read-few}
 use Rattle.inverse.proofs.Soundness.{read-sound, known}
@@ -63,9 +63,8 @@ pub record ReadValid (c : Case) : Type 0 where
   pub rows : length (c .nbr) ≡ 64
   pub valid : Valid c
 
-pub read-valid : (x : List ℕ) (c : Case) → readCase x ≡ got c → ReadValid c
-read-valid x c e =
-    let d = reads-of x c e in
+reads-valid : (x : List ℕ) (c : Case) → Reads start x c → ReadValid c
+reads-valid x c d =
     let s = read-sound x c d in
     let t = first-stand (c .n) (begun d .told) in
     record {
@@ -76,6 +75,13 @@ read-valid x c e =
         few = omega (arith, read-few x c d, line-records (c .n) (neighbours (c .nbr)) (s .proper .lines) (c .n));
       };
     }
+
+pub read-valid : (x : List ℕ) (c : Case) → readCase x ≡ got c → ReadValid c
+read-valid x c e = reads-valid x c (reads-of x c e)
+
+-- the same where the first line is line k
+pub text-valid : (k : ℕ) (x : List ℕ) (c : Case) → readText k x ≡ got c → ReadValid c
+text-valid k x c e = reads-valid x c (text-reads k x c e)
 
 -- ---- one form for each case
 
