@@ -6,18 +6,20 @@ use native.Mathlib.Omega.{arith}
 use lib.ListN.{length, length-append}
 use Rattle.busset.specs.Sets.{Out, Within, setOf}
 use Rattle.busset.proofs.Members.{out-of}
+use Rattle.field.specs.Split.{join}
 use Rattle.record.specs.declared.Record.the-variants.{Pmu}
 use Rattle.grid.specs.Cases.{neighbours, gridOf, Valid}
 use Rattle.grid.specs.declared.Case.{Case}
 use Rattle.rules.specs.Grids.{Proper as ProperGrid}
-use Rattle.reader.specs.Reading.{mostBytes, start, got, readText, readCase}
+use Rattle.reader.specs.Reading.{mostBytes, start, got, readLines, readCase}
 use Rattle.inverse.specs.Grammar.{Reads}
 use Rattle.reader.specs.Writing.{records, caseText, lineRecords}
 use Rattle.reader.proofs.Lengths.{lines-length, buses-length, members-length}
+use Rattle.inverse.proofs.Grammars.{read-reads}
 use Rattle.inverse.proofs.Counts.{line-records}
 use Rattle.inverse.proofs.Places.{Ask, answer}
 use Rattle.inverse.proofs.Places.Ask.{zeroAt, siteAt, unitAt, lineAt}
-use Rattle.inverse.proofs.Texts.{begun, first-stand, text-reads, reads-of, of-reads, same-text}
+use Rattle.inverse.proofs.Texts.{begun, first-stand, reads-of, of-reads, same-text}
 use Rattle.inverse.proofs.Written.{Above, Writable, readable}
 use Rattle.inverse.proofs.Few.{read-few}
 use Rattle.inverse.proofs.Soundness.{read-sound, known}
@@ -79,9 +81,9 @@ reads-valid x c d =
 pub read-valid : (x : List ℕ) (c : Case) → readCase x ≡ got c → ReadValid c
 read-valid x c e = reads-valid x c (reads-of x c e)
 
--- the same where the first line is line k
-pub text-valid : (k : ℕ) (x : List ℕ) (c : Case) → readText k x ≡ got c → ReadValid c
-text-valid k x c e = reads-valid x c (text-reads k x c e)
+-- the same of lines whose first is line k
+pub lines-valid : (k : ℕ) (l : List ℕ) (ps : List (List ℕ)) (c : Case) → readLines start k l ps ≡ got c → ReadValid c
+lines-valid k l ps c e = reads-valid (join 10 l ps) c (read-reads ps start k l c e)
 
 -- ---- one form for each case
 

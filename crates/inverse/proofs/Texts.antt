@@ -33,19 +33,14 @@ use Rattle.inverse.proofs.Unique.{Stand, stepped, unique}
 
 -- ---- the whole text
 
--- what is read as c, whatever number its first line has, is in the grammar
-pub text-reads : (k : ℕ) (x : List ℕ) (c : Case) → readText k x ≡ got c → Reads start x c
-unfolding readText
-text-reads k x c e = subst (λ (y : List ℕ). Reads start y c) (join-split 10 x) (read-reads (split 10 x .rest) start k (split 10 x .first) c e)
-
 -- a text is read as c exactly when the grammar has it
 pub reads-of : (x : List ℕ) (c : Case) → readCase x ≡ got c → Reads start x c
-unfolding readCase
+unfolding readCase readText
 reads-of x c e = go (ltb 8192 (length x)) e
   where
-    go : (b : Bool) → cond b (refused TextTooLong) (readText 1 x) ≡ got c → Reads start x c
+    go : (b : Bool) → cond b (refused TextTooLong) (readLines start 1 (split 10 x .first) (split 10 x .rest)) ≡ got c → Reads start x c
     go true e = absurd (not-got c e)
-    go false e = text-reads 1 x c e
+    go false e = subst (λ (y : List ℕ). Reads start y c) (join-split 10 x) (read-reads (split 10 x .rest) start 1 (split 10 x .first) c e)
 
 pub of-reads : (x : List ℕ) (c : Case) → length x ≤ 8192 → Reads start x c → readCase x ≡ got c
 unfolding readCase readText
