@@ -1,6 +1,6 @@
 use mathlib.Core.Path.{refl}
 use native.Mathlib.Omega.{arith}
-use Rattle.writer.proofs.Printed.{printed-as}
+use Rattle.writer.proofs.Printed.{printed-by}
 use Rattle.planreport.proofs.Inputs.{asked-valid, asked-placed, plan-by}
 use borrow.Author.Needs.{needs}
 use Rattle.planreport.proofs.plan_report.Statement.{statement}
@@ -32,7 +32,7 @@ returns : tie.Need-returns
 returns c =
     let at-report = c .before .before in
     let at-enum-told = at-report .before .before .before in
-    printed-as (plan-by _ (at-enum-told .before .before .before .read-plan .ensures) (at-enum-told .enum-told .given .1)) _ _ (at-report .report .result) (at-report .report .ensures)
+    printed-by (plan-by _ (at-enum-told .before .before .before .read-plan .ensures) (at-enum-told .enum-told .given .1)) _ _ (at-report .report .result) (at-report .report .ensures)
 
 same-length-2 : tie.Need-same-length-2
 same-length-2 c = search needs
@@ -41,7 +41,7 @@ returns-2 : tie.Need-returns-2
 returns-2 c =
     let at-print-refused = c .before .before in
     let at-answer = at-print-refused .before .before .before in
-    printed-as (plan-by _ (at-answer .before .before .before .read-plan .ensures) (at-answer .answer .given .1)) _ _ (at-print-refused .print-refused .result) (at-print-refused .print-refused .ensures)
+    printed-by (plan-by _ (at-answer .before .before .before .read-plan .ensures) (at-answer .answer .given .1)) _ _ (at-print-refused .print-refused .result) (at-print-refused .print-refused .ensures)
 
 pub plan-report-spec : {M : Type 1} → statement M
 plan-report-spec =

@@ -2,7 +2,7 @@ use mathlib.Core.Path.{_≡_, subst}
 use Rattle.grid.specs.Cases.{gridOf}
 use Rattle.place.specs.declared.fewest.Found.{Found}
 use Rattle.place.specs.Answers.{FewestIs}
-use Rattle.writer.proofs.Printed.{printed-as}
+use Rattle.writer.proofs.Printed.{printed-by}
 use Rattle.planreport.proofs.Reports.{over-budget, no-cover, fewest-found}
 use borrow.Author.Needs.{needs}
 use Rattle.planreport.proofs.report.Statement.{statement}
@@ -21,7 +21,7 @@ same-length c = search needs
 returns : tie.Need-returns
 returns c =
     let at-print-refused = c .before .before in
-    printed-as (over-budget (at-print-refused .before .before .if1 .taken)) _ _ (at-print-refused .print-refused .result) (at-print-refused .print-refused .ensures)
+    printed-by (over-budget (at-print-refused .before .before .if1 .taken)) _ _ (at-print-refused .print-refused .result) (at-print-refused .print-refused .ensures)
 
 fewest-requires : tie.Need-fewest-requires
 fewest-requires c κs = search needs
@@ -46,7 +46,7 @@ returns-2 c =
     let at-print-plan = c .before .before in
     let at-found = at-print-plan .before .before .before in
     let at-fewest = at-found .before .before in
-    printed-as (fewest-found (at-fewest .before .before .before .if1 .left) (answer at-fewest _ (at-found .found .given .1))) _ _ (at-print-plan .print-plan .result) (at-print-plan .print-plan .ensures)
+    printed-by (fewest-found (at-fewest .before .before .before .if1 .left) (answer at-fewest _ (at-found .found .given .1))) _ _ (at-print-plan .print-plan .result) (at-print-plan .print-plan .ensures)
 
 same-length-3 : tie.Need-same-length-3
 same-length-3 c = search needs
@@ -56,7 +56,7 @@ returns-3 c =
     let at-print-refused2 = c .before .before in
     let at-enum-told = at-print-refused2 .before .before in
     let at-fewest = at-enum-told .before .before in
-    printed-as (no-cover (at-fewest .before .before .before .if1 .left) (answer at-fewest _ (at-enum-told .enum-told .given .1))) _ _ (at-print-refused2 .print-refused2 .result) (at-print-refused2 .print-refused2 .ensures)
+    printed-by (no-cover (at-fewest .before .before .before .if1 .left) (answer at-fewest _ (at-enum-told .enum-told .given .1))) _ _ (at-print-refused2 .print-refused2 .result) (at-print-refused2 .print-refused2 .ensures)
 
 pub report-spec : {M : Type 1} → statement M
 report-spec =
