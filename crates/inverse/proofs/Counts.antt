@@ -3,14 +3,15 @@ use mathlib.Core.Path.{_≡_, refl, sym, ap, _∙_}
 use mathlib.Core.Bool.{Bool, true, false, cond}
 use mathlib.Core.List.{List, [], _∷_}
 use mathlib.Core.Logic.{⊎-elim}
-use Prim.Native.Nat.{ℕ, suc, zero, _+_}
+use Prim.Native.Nat.{ℕ, suc, zero, _+_, _≤_}
 use native.Mathlib.Nat.{mod-lt}
 use native.Mathlib.Omega.{arith}
 use borrow.Author.Tests.{eqb-true, eqb-false}
 use lib.ListN.{length, length-append}
 use lib.Pow.{pow-pos}
 use Rattle.busset.specs.Sets.{bit, In, Out, size, upTo}
-use Rattle.busset.proofs.Members.{in-or, out-of, upTo-in}
+use Rattle.busset.proofs.Members.{in-or, out-of, upTo-in, upTo-sub}
+use Rattle.busset.proofs.Sizes.{size-le}
 use Rattle.busset.proofs.Sums.{sum, sum-ap, ones-sum}
 use Rattle.record.specs.declared.Record.{Record}
 use Rattle.record.specs.declared.Record.the-variants.{Line}
@@ -35,6 +36,21 @@ members-top f s k (suc m) =
     let e : k + 1 + m ≡ k + suc m = omega arith in
     omega
     (arith, counted s k (f k) (members f s (k + 1) (suc m)), counted s k (f k) (members f s (k + 1) m), members-top f s (k + 1) m, ap (bit s) e)
+
+-- the buses of s up to m
+upTo-sum : (m s : ℕ) → size (upTo m s) ≡ sum (suc m) (bit s)
+unfolding upTo
+upTo-sum m s =
+    ones-sum (suc m) (upTo m s) (mod-lt s (pow-pos (suc m))) ∙ sum-ap (suc m) {f = bit (upTo m s)} {g = bit s} (λ i l. upTo-in m s i (omega arith))
+
+members-sum : (f : ℕ → Record) (s m : ℕ) → length (members f s 1 m) + bit s 0 ≡ sum (suc m) (bit s)
+unfolding members sum
+members-sum f s zero = omega arith
+members-sum f s (suc m) = let e : 1 + m ≡ suc m = omega arith in omega (arith, members-top f s 1 m, members-sum f s m, ap (bit s) e)
+
+-- no more records than the set has buses
+pub members-few : (f : ℕ → Record) (s m : ℕ) → length (members f s 1 m) ≤ size s
+members-few f s m = omega (arith, members-sum f s m, upTo-sum m s, size-le (upTo m s) s (upTo-sub m s))
 
 -- how many of the m buses from a on are joined to t
 unfoldable column : (ℕ → ℕ) → ℕ → ℕ → ℕ → ℕ
@@ -88,17 +104,8 @@ module _ (n : ℕ) (nbr : ℕ → ℕ) (lines : Lines n nbr) where
       omega (arith, column-top nbr t 1 m, column-sum t m, both-ends (suc m) t, ap (λ (i : ℕ). bit (nbr i) t) e)
 
   higher : (m : ℕ) → column nbr (suc m) 1 m ≡ size (upTo (suc m) (nbr (suc m)))
-  unfolding sum upTo
-  higher m =
-      let t = suc m in
-      let s = nbr t in
-      omega (
-        arith,
-        column-sum t m,
-        not-self t,
-        ones-sum (suc t) (upTo t s) (mod-lt s (pow-pos (suc t))),
-        sum-ap (suc t) {f = bit (upTo t s)} {g = bit s} (λ i l. upTo-in t s i (omega arith)),
-      )
+  unfolding sum
+  higher m = let t = suc m in omega (arith, column-sum t m, not-self t, upTo-sum t (nbr t))
 
   -- one record for each line
   pub line-records : (m : ℕ) → length (lineRecords nbr 1 m) ≡ lineCount m nbr

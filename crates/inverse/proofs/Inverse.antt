@@ -6,14 +6,16 @@ use native.Mathlib.Omega.{arith}
 use lib.ListN.{length, length-append}
 use Rattle.busset.specs.Sets.{Out, Within, setOf}
 use Rattle.busset.proofs.Members.{out-of}
+use Rattle.field.specs.Split.{join}
 use Rattle.record.specs.declared.Record.the-variants.{Pmu}
 use Rattle.grid.specs.Cases.{neighbours, gridOf, Valid}
 use Rattle.grid.specs.declared.Case.{Case}
 use Rattle.rules.specs.Grids.{Proper as ProperGrid}
-use Rattle.reader.specs.Reading.{mostBytes, start, got, readCase}
+use Rattle.reader.specs.Reading.{mostBytes, start, got, readLines, readCase}
 use Rattle.inverse.specs.Grammar.{Reads}
 use Rattle.reader.specs.Writing.{records, caseText, lineRecords}
 use Rattle.reader.proofs.Lengths.{lines-length, buses-length, members-length}
+use Rattle.inverse.proofs.Grammars.{read-reads}
 use Rattle.inverse.proofs.Counts.{line-records}
 use Rattle.inverse.proofs.Places.{Ask, answer}
 use Rattle.inverse.proofs.Places.Ask.{zeroAt, siteAt, unitAt, lineAt}
@@ -63,9 +65,8 @@ pub record ReadValid (c : Case) : Type 0 where
   pub rows : length (c .nbr) ≡ 64
   pub valid : Valid c
 
-pub read-valid : (x : List ℕ) (c : Case) → readCase x ≡ got c → ReadValid c
-read-valid x c e =
-    let d = reads-of x c e in
+reads-valid : (x : List ℕ) (c : Case) → Reads start x c → ReadValid c
+reads-valid x c d =
     let s = read-sound x c d in
     let t = first-stand (c .n) (begun d .told) in
     record {
@@ -76,6 +77,13 @@ read-valid x c e =
         few = omega (arith, read-few x c d, line-records (c .n) (neighbours (c .nbr)) (s .proper .lines) (c .n));
       };
     }
+
+pub read-valid : (x : List ℕ) (c : Case) → readCase x ≡ got c → ReadValid c
+read-valid x c e = reads-valid x c (reads-of x c e)
+
+-- the same of lines whose first is line k
+pub lines-valid : (k : ℕ) (l : List ℕ) (ps : List (List ℕ)) (c : Case) → readLines start k l ps ≡ got c → ReadValid c
+lines-valid k l ps c e = reads-valid (join 10 l ps) c (read-reads ps start k l c e)
 
 -- ---- one form for each case
 

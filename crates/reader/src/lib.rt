@@ -51,7 +51,8 @@ pub struct CaseRead {
     pub case: Case,
 }
 
-fn refusal(r: Refusal) -> CaseRead
+// A refusal, and no case.
+pub fn refusal(r: Refusal) -> CaseRead
     ensures { λ x. ⌜ x ≡ refused r ⌝ }
 {
     CaseRead {

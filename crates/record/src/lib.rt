@@ -131,7 +131,7 @@ fn no_fields(line: &[u8], at: usize) -> Record
 }
 
 // The number in the one field that follows the one that ends at `at`.
-fn one_number(line: &[u8], at: usize) -> Numeral
+pub fn one_number(line: &[u8], at: usize) -> Numeral
     ensures { λ r. ⌜ r ≡ oneNumber (after 9 (now (line .entry)) at) ⌝ }
 {
     if line.len() <= at {

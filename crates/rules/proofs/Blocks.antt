@@ -67,7 +67,7 @@ cover-not-idle {c = c} v cl lacks idle = lacks (v .full c cl idle)
 size-add-most : (u x : ℕ) → size (add u x) ≤ suc (size u)
 size-add-most u x = ⊎-elim (λ (h : In u x). omega (arith, ap size (add-again u x h))) (λ (h : Out u x). omega (arith, size-add u x h)) (in-or u x)
 
-size-placed : (xs : List ℕ) (u : ℕ) → size (placed u xs) ≤ size u + length xs
+pub size-placed : (xs : List ℕ) (u : ℕ) → size (placed u xs) ≤ size u + length xs
 size-placed [] u = omega arith
 size-placed (x ∷ xs) u = omega (arith, size-placed xs (add u x), size-add-most u x)
 

@@ -3,14 +3,17 @@ use mathlib.Core.Path.{_≡_, refl, sym, ap, _∙_}
 use mathlib.Core.List.{List, _++_}
 use Prim.Native.Nat.{ℕ, _≤_, _<_}
 use native.Mathlib.Omega.{arith}
-use lib.ListN.{length, drop}
+use lib.ListN.{length, drop, length-append}
+use Rattle.field.specs.Split.{join}
+use Rattle.field.proofs.Digits.{text-length}
+use Rattle.grid.specs.Refusals.{numberOf, placeOf}
 use Rattle.grid.specs.declared.refusal.Refusal.{Refusal}
 use Rattle.grid.specs.declared.refusal.Refusal.the-variants.{NoRoom}
 use Rattle.grid.proofs.Orders.{itself, refusal-unique}
 use Rattle.writer.specs.declared.Written.{Written}
 use Rattle.writer.specs.declared.Written.the-variants.{Bytes, Refused}
 use Rattle.writer.specs.Put.{Put}
-use Rattle.writer.specs.Printing.{Printed, NotPrinted, PrintedReply}
+use Rattle.writer.specs.Printing.{refusedText, Printed, NotPrinted, PrintedReply}
 use Rattle.writer.proofs.Whole.{put-whole, put-count}
 
 -- a text that P asks for, counted and then put from the first byte on
@@ -22,6 +25,15 @@ put-printed {lent = lent} {t = t} asked counted fits p =
 -- a text that P asks for, counted, where there is no room for it
 pub not-printed : {P : List ℕ → Type 0} {lent other left t : List ℕ} {k : ℕ} → P t → Put other 0 t left k → length lent < k → NotPrinted P lent lent NoRoom
 not-printed {t = t} asked p more = record { text = t; asked = asked; more = omega (arith, put-count p); refusal = itself NoRoom; kept = refl }
+
+-- what is printed is within the bytes left
+pub printed-within : {P : List ℕ → Type 0} {lent left : List ℕ} {k : ℕ} → Printed P lent left k → k ≤ length left
+printed-within {lent = lent} p = omega (arith, p .count, ap length (p .written), length-append (p .text) (drop (length (p .text)) lent))
+
+-- where Q asks for every text that P asks for
+pub printed-by : {P Q : List ℕ → Type 0} → ((t : List ℕ) → P t → Q t) → (lent left : List ℕ) (r : Written) → PrintedReply P lent left r → PrintedReply Q lent left r
+printed-by f lent left (Bytes k) p = record { text = p .text; asked = f (p .text) (p .asked); room = p .room; count = p .count; written = p .written }
+printed-by f lent left (Refused r) p = record { text = p .text; asked = f (p .text) (p .asked); more = p .more; refusal = p .refusal; kept = p .kept }
 
 -- a reply, with the bytes that it leaves
 pub record PrintReply : Type 0 where
@@ -44,3 +56,8 @@ printed-unique one lent (Refused r) (Refused s) left right p q =
     let f : Refused r ≡ Refused s = ap Refused (refusal-unique (p .refusal) (q .refusal)) in
     let g : left ≡ right = p .kept ∙ sym (q .kept) in
     λ i. record { reply = f i; left = g i }
+
+-- how long a refusal's line is
+pub refused-length : (q : Refusal) → length (refusedText q) ≤ 18
+unfolding refusedText join
+refused-length q = simp length-append (omega (arith, text-length (numberOf q), text-length (placeOf q)))

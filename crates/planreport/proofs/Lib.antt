@@ -1,0 +1,4 @@
+pub mod Inputs
+pub mod Reports
+pub mod Unique
+pub mod Lengths

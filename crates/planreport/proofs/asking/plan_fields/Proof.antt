@@ -1,0 +1,17 @@
+use mathlib.Core.Path.{_∙_}
+use Rattle.planreport.proofs.Inputs.{fields-none, fields-some}
+use borrow.Author.Needs.{needs}
+use Rattle.planreport.proofs.asking.plan_fields.Statement.{statement}
+use Rattle.planreport.proofs.asking.plan_fields.Tie as tie
+
+returns : tie.Need-returns
+returns c = fields-none _ _ (c .if1 .taken)
+
+one-number-requires : tie.Need-one-number-requires
+one-number-requires c κs = search needs
+
+returns-2 : tie.Need-returns-2
+returns-2 c = c .one-number .ensures ∙ fields-some _ _ (c .before .if1 .left)
+
+pub plan-fields-spec : {M : Type 1} → statement M
+plan-fields-spec = tie.close (tie.spec returns one-number-requires returns-2)

@@ -1,0 +1,48 @@
+// The planning program's reply to an input.
+ghost use Rattle.grid.specs.Cases.{Valid};
+ghost use Rattle.writer.specs.Printing.{PrintedReply};
+ghost use Rattle.planreport.specs.Plan.{PlanReport, Plan};
+
+mod asking;
+mod printing;
+
+use grid::Case;
+use grid::Refusal;
+use place::fewest::Found;
+use place::fewest::fewest;
+use reader::ReadAnswer;
+use writer::Written;
+use writer::printing::print_refused;
+
+// The fewest of a case within the budget, or the line of the refusal.
+fn report(case: Case, budget: usize, out: &mut [u8]) -> Written
+    requires { ⌜ Valid case ⌝ }
+    ensures { λ r. ⌜ PrintedReply (PlanReport case budget) (now (out .entry)) (now (out .exit)) r ⌝ }
+{
+    if 8 < budget {
+        return print_refused(out, Refusal::OverBudget(1));
+    }
+    let n = case.n;
+    let nbr = case.nbr;
+    let found = fewest(n, &nbr, case.zero, case.site, case.units, budget);
+    match found {
+        Found::Sites(sites) => printing::print_plan(out, n, sites),
+        Found::Nothing => print_refused(out, Refusal::NoCover),
+    }
+}
+
+// The fewest of the case that the input says, or the line of its refusal, in the bytes lent.
+pub fn plan_report(input: &[u8], out: &mut [u8]) -> Written
+    ensures { λ r. ⌜ PrintedReply (Plan (now (input .entry))) (now (out .entry)) (now (out .exit)) r ⌝ }
+{
+    let asked = asking::read_plan(input);
+    let read = asked.read;
+    let answer = read.answer;
+    match answer {
+        ReadAnswer::Read => {
+            let case = read.case;
+            report(case, asked.budget, out)
+        }
+        ReadAnswer::Refused(q) => print_refused(out, q),
+    }
+}

@@ -1,0 +1,3 @@
+// What the programs print.
+pub use planreport::plan_report;
+pub use writer::Written;
