@@ -1,6 +1,5 @@
 -- The result and the bytes of each answer.
-use mathlib.Core.Path.{_≡_, refl, sym, ap, _∙_, subst, subst⁻¹}
-use mathlib.Core.Bool.{cond}
+use mathlib.Core.Path.{_≡_, refl, ap, _∙_, subst, subst⁻¹}
 use mathlib.Core.List.{List, _++_}
 use Prim.Native.Nat.{ℕ, _+_, _≤_, _<_}
 use borrow.Author.Tests.{lt-ltb, le-ltb}
@@ -9,13 +8,12 @@ use Rattle.busset.specs.Bytes.{setBytes}
 use Rattle.grid.specs.declared.Case.{Case}
 use Rattle.grid.specs.declared.refusal.Refusal.{Refusal}
 use Rattle.grid.specs.declared.refusal.Refusal.the-variants.{NoRoom}
-use Rattle.grid.specs.Refusals.{placeOf}
 use Rattle.reader.specs.Reading.{readCase}
 use Rattle.reader.specs.declared.CaseRead.{CaseRead}
 use Rattle.reader.specs.declared.ReadAnswer.{ReadAnswer}
 use Rattle.reader.specs.declared.ReadAnswer.the-variants as read
 use Rattle.estimator.specs.Answers.{OfRead, OfText}
-use Rattle.estimator.specs.Results.{farthest, Placed, codeOf, Replied}
+use Rattle.estimator.specs.Results.{codeOf, Replied}
 use Rattle.estimator.specs.declared.answers.Answer.{Answer}
 use Rattle.estimator.specs.declared.answers.Answer.the-variants.{Set, Refused, Unread}
 

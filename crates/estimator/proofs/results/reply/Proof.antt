@@ -15,9 +15,8 @@ code-requires c κs = search needs
 
 returns : tie.Need-returns
 returns c =
-    let at-if1 = c .before in
-    let at-answer = at-if1 .before .before in
-    no-room _ (at-answer .answer .given .1) (at-if1 .if1 .taken) (c .code .ensures)
+    let at-answer = c .before .before .before in
+    no-room _ (at-answer .answer .given .1) (omega arith) (c .code .ensures)
 
 fill-requires : tie.Need-fill-requires
 fill-requires c κs = search needs
