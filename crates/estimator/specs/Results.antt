@@ -40,7 +40,13 @@ pub record Answered (P : Answer → Type 0) (lent left : List ℕ) (r : ℕ) : T
   pub is : P answer
   pub replied : Replied answer lent left r
 
--- ---- so that the result fits
+-- ---- on the way
+
+-- the set that an answer has: none where it is a refusal
+abbrev pub setIn : Answer → ℕ
+setIn (Set s) = s
+setIn (Refused q) = 0
+setIn (Unread q) = 0
 
 -- no place is beyond the line after the last that a step text can have
 abbrev pub farthest : ℕ

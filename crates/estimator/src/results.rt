@@ -5,7 +5,7 @@ ghost use Prim.Native.Nat.{_≤_};
 ghost use lib.ListN.{length, drop};
 ghost use Rattle.busset.specs.Bytes.{setBytes};
 ghost use Rattle.grid.specs.Refusals.{placeOf};
-ghost use Rattle.estimator.specs.Results.{farthest, Placed, codeOf, Replied};
+ghost use Rattle.estimator.specs.Results.{farthest, Placed, codeOf, resultOf, setIn, Replied};
 use crate::answers::Answer;
 use wozgrzyt::BusSet;
 use wozgrzyt::Refusal;
@@ -30,19 +30,41 @@ fn fill(s: BusSet, set: &mut [u8])
     }
 }
 
-pub fn reply(answer: Answer, set: &mut [u8]) -> u32
-    requires { ⌜ Placed answer ⌝ }
-    ensures { λ r. ⌜ Replied answer (now (set .entry)) (now (set .exit)) r ⌝ }
+// The set that an answer has: none where it is a refusal.
+fn set_of(answer: Answer) -> BusSet
+    ensures { λ s. ⌜ s ≡ setIn answer ⌝ }
 {
     match answer {
-        Answer::Set(s) => {
-            if set.len() < 8 {
+        Answer::Set(s) => s,
+        Answer::Refused(_) => 0,
+        Answer::Unread(_) => 0,
+    }
+}
+
+// The number of an answer where so many bytes are lent.
+fn result(answer: Answer, room: usize) -> u32
+    requires { ⌜ Placed answer ⌝ }
+    ensures { λ r. ⌜ r ≡ resultOf answer room ⌝ }
+{
+    match answer {
+        Answer::Set(_) => {
+            if room < 8 {
                 return code(Refusal::NoRoom);
             }
-            fill(s, set);
             0
         }
         Answer::Refused(q) => code(q),
         Answer::Unread(q) => code(q) + 50,
     }
+}
+
+pub fn reply(answer: Answer, set: &mut [u8]) -> u32
+    requires { ⌜ Placed answer ⌝ }
+    ensures { λ r. ⌜ Replied answer (now (set .entry)) (now (set .exit)) r ⌝ }
+{
+    let r = result(answer, set.len());
+    if r == 0 {
+        fill(set_of(answer), set);
+    }
+    r
 }

@@ -32,21 +32,27 @@ there-and-back NoCover = refl
 there-and-back (TooManySteps p) = refl
 there-and-back NotJoined = refl
 
--- the table has thirteen rows
+-- the table has the rows 1 to 13
+row : (r : Refusal) → (1 ≤ numberOf r) × (numberOf r ≤ 13)
+row TextTooLong = (omega arith, omega arith)
+row (WrongForm p) = (omega arith, omega arith)
+row (OutOfRange p) = (omega arith, omega arith)
+row (OutOfOrder p) = (omega arith, omega arith)
+row InvalidCase = (omega arith, omega arith)
+row NoRoom = (omega arith, omega arith)
+row (NoSuchBus p) = (omega arith, omega arith)
+row (AlreadyObserved p) = (omega arith, omega arith)
+row (ReasonFails p) = (omega arith, omega arith)
+row (OverBudget p) = (omega arith, omega arith)
+row NoCover = (omega arith, omega arith)
+row (TooManySteps p) = (omega arith, omega arith)
+row NotJoined = (omega arith, omega arith)
+
+pub number-some : (r : Refusal) → 1 ≤ numberOf r
+number-some r = row r .0
+
 pub number-most : (r : Refusal) → numberOf r ≤ 13
-number-most TextTooLong = omega arith
-number-most (WrongForm p) = omega arith
-number-most (OutOfRange p) = omega arith
-number-most (OutOfOrder p) = omega arith
-number-most InvalidCase = omega arith
-number-most NoRoom = omega arith
-number-most (NoSuchBus p) = omega arith
-number-most (AlreadyObserved p) = omega arith
-number-most (ReasonFails p) = omega arith
-number-most (OverBudget p) = omega arith
-number-most NoCover = omega arith
-number-most (TooManySteps p) = omega arith
-number-most NotJoined = omega arith
+number-most r = row r .1
 
 pub itself : (r : Refusal) → Is (numberOf r) (placeOf r) r
 itself r = record { numbered = refl; placed = refl }

@@ -1,77 +1,52 @@
 use borrow.Author.Needs.{needs}
-use mathlib.Core.Path.{subst}
-use native.Mathlib.Omega.{arith}
-use Rattle.estimator.specs.Results.{Placed}
-use Rattle.estimator.proofs.Bounds.{code-small}
-use Rattle.estimator.proofs.Replying.{no-room, has-set, has-refusal, has-unread}
+use mathlib.Core.Path.{sym, ap, _∙_}
+use mathlib.Core.List.{List, _++_}
+use Prim.Native.Nat.{ℕ}
+use lib.ListN.{drop}
+use Rattle.busset.specs.Bytes.{setBytes}
+use Rattle.estimator.proofs.Replying.{room-for, bytes-filled, bytes-kept}
 use Rattle.estimator.proofs.results.reply.Statement.{statement}
 use Rattle.estimator.proofs.results.reply.Tie as tie
 
-enum-known-answer : tie.Need-enum-known-answer
-enum-known-answer c = search needs
+result-requires : tie.Need-result-requires
+result-requires c κs = search needs
 
-code-requires : tie.Need-code-requires
-code-requires c κs = search needs
-
-returns : tie.Need-returns
-returns c =
-    let at-answer = c .before .before .before in
-    no-room _ (at-answer .answer .given .1) (omega arith) (c .code .ensures)
+set-of-requires : tie.Need-set-of-requires
+set-of-requires c κs = search needs
 
 fill-requires : tie.Need-fill-requires
-fill-requires c κs = search needs
-
-enum-known-answer-2 : tie.Need-enum-known-answer-2
-enum-known-answer-2 c = search needs
-
-code-requires-2 : tie.Need-code-requires-2
-code-requires-2 c κs =
-    let at-answer2 = c .before in
-    subst Placed (at-answer2 .answer2 .given .1) (at-answer2 .before .before .before .pre)
-
-enum-known-answer-3 : tie.Need-enum-known-answer-3
-enum-known-answer-3 c = search needs
-
-code-requires-3 : tie.Need-code-requires-3
-code-requires-3 c κs =
-    let at-answer3 = c .before in
-    subst Placed (at-answer3 .answer3 .given .1) (at-answer3 .before .before .before .pre)
-
-add-result : tie.Need-add-result
-add-result c =
-    let at-answer3 = c .before .before in
-    omega (arith, c .code3 .ensures, code-small (at-answer3 .answer3 .given .0 .0) (subst Placed (at-answer3 .answer3 .given .1) (at-answer3 .before .before .before .pre)))
+fill-requires c κs =
+    let at-if1 = c .before .before in
+    let at-args = at-if1 .before .before .before in
+    room-for (at-args .args .answer) _ (sym (at-if1 .before .result .ensures) ∙ at-if1 .if1 .taken)
 
 same-length : tie.Need-same-length
 same-length c = search needs
 
+returns : tie.Need-returns
+returns c =
+    let at-fill = c .before .before in
+    let at-set-of = at-fill .before .before in
+    let at-if1 = at-set-of .before in
+    let at-result = at-if1 .before in
+    let at-args = at-result .before .before in
+    record {
+      result = at-result .result .ensures;
+      bytes =
+          at-fill .fill .ensures ∙ ap (λ (s : ℕ). setBytes s ++ drop 8 (at-args .args .set .now)) (at-set-of .set-of .ensures)
+          ∙ bytes-filled (at-args .args .answer) (at-args .args .set .now) (sym (at-result .result .ensures) ∙ at-if1 .if1 .taken);
+    }
+
 returns-2 : tie.Need-returns-2
 returns-2 c =
-    let at-fill = c .before .before in
-    let at-if1 = at-fill .before .before in
-    let at-answer = at-if1 .before .before in
-    has-set _ (at-answer .answer .given .1) (at-if1 .if1 .left) (at-fill .fill .ensures)
-
-returns-3 : tie.Need-returns-3
-returns-3 c = has-refusal _ (c .before .before .answer2 .given .1) (c .code2 .ensures)
-
-returns-4 : tie.Need-returns-4
-returns-4 c = has-unread _ (c .before .before .answer3 .given .1) (c .code3 .ensures)
+    let at-result = c .before in
+    let at-args = at-result .before .before in
+    record {
+      result = at-result .result .ensures;
+      bytes = bytes-kept (at-args .args .answer) (at-args .args .set .now) (λ e. c .if1 .left (at-result .result .ensures ∙ e));
+    }
 
 pub reply-spec : {M : Type 1} → statement M
 reply-spec =
     tie.close
-    (tie.spec
-    enum-known-answer
-    code-requires
-    returns
-    fill-requires
-    enum-known-answer-2
-    code-requires-2
-    enum-known-answer-3
-    code-requires-3
-    add-result
-    same-length
-    returns-2
-    returns-3
-    returns-4)
+    (tie.spec result-requires set-of-requires fill-requires same-length returns returns-2)
