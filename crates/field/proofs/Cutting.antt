@@ -1,6 +1,6 @@
 -- A text cut at a byte.
 use mathlib.Core.Path.{_≡_, refl, sym, ap, ap₂, _∙_}
-use mathlib.Core.Bool.{Bool, true, false}
+use mathlib.Core.Bool.{Bool, true, false, cond}
 use mathlib.Core.List.{List, [], _∷_, _++_}
 use Prim.Native.Nat.{ℕ, suc, _+_, _-_, _≤_, _<_}
 use native.Mathlib.Numerals.{add-one}
@@ -85,6 +85,19 @@ passed-all {c} {s} {a} {e} p l =
           ∙ split-last c (part s a e) (p .free)
           ∙ rw (le-ltb e (length s) l);
     }
+
+-- ---- how many pieces
+
+-- at most as many after the first as there are bytes
+pub rest-few : (c : ℕ) (s : List ℕ) → length (split c s .rest) ≤ length s
+unfolding split
+rest-few c [] = omega arith
+rest-few c (x ∷ s) = go (eqb x c) (split c s) (rest-few c s)
+  where
+    go : (b : Bool) (p : Pieces) → length (p .rest) ≤ length s →
+        length (cond {A = Pieces} b (record { first = []; rest = pieces p }) (record { first = x ∷ p .first; rest = p .rest }) .rest) ≤ suc (length s)
+    go true p h = omega arith
+    go false p h = omega arith
 
 -- ---- the pieces after index e
 
