@@ -9,6 +9,7 @@ ghost use Rattle.writer.specs.Put.{Put, lineText};
 
 pub mod cases;
 pub mod printing;
+pub mod steps;
 
 use grid::Refusal;
 use record::Record;
