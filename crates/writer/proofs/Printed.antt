@@ -23,6 +23,11 @@ put-printed {lent = lent} {t = t} asked counted fits p =
 pub not-printed : {P : List ℕ → Type 0} {lent other left t : List ℕ} {k : ℕ} → P t → Put other 0 t left k → length lent < k → NotPrinted P lent lent NoRoom
 not-printed {t = t} asked p more = record { text = t; asked = asked; more = omega (arith, put-count p); refusal = itself NoRoom; kept = refl }
 
+-- where Q asks for every text that P asks for
+pub printed-by : {P Q : List ℕ → Type 0} → ((t : List ℕ) → P t → Q t) → (lent left : List ℕ) (r : Written) → PrintedReply P lent left r → PrintedReply Q lent left r
+printed-by f lent left (Bytes k) p = record { text = p .text; asked = f (p .text) (p .asked); room = p .room; count = p .count; written = p .written }
+printed-by f lent left (Refused r) p = record { text = p .text; asked = f (p .text) (p .asked); more = p .more; refusal = p .refusal; kept = p .kept }
+
 -- a reply, with the bytes that it leaves
 pub record PrintReply : Type 0 where
   pub reply : Written
