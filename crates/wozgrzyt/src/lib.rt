@@ -1,6 +1,7 @@
 // The face: every public call. None has a requirement; each checks for itself.
 ghost use Rattle.wozgrzyt.specs.Replies.{ObservedReply, FigureReply, StepReply};
 
+pub mod reports;
 pub mod siting;
 pub mod steps;
 pub mod texts;

@@ -3,7 +3,7 @@ use mathlib.Core.Path.{_≡_, refl, sym, ap, _∙_}
 use mathlib.Core.List.{List, _++_}
 use Prim.Native.Nat.{ℕ, _≤_, _<_}
 use native.Mathlib.Omega.{arith}
-use lib.ListN.{length, drop}
+use lib.ListN.{length, drop, length-append}
 use Rattle.grid.specs.declared.refusal.Refusal.{Refusal}
 use Rattle.grid.specs.declared.refusal.Refusal.the-variants.{NoRoom}
 use Rattle.grid.proofs.Orders.{itself, refusal-unique}
@@ -22,6 +22,10 @@ put-printed {lent = lent} {t = t} asked counted fits p =
 -- a text that P asks for, counted, where there is no room for it
 pub not-printed : {P : List ℕ → Type 0} {lent other left t : List ℕ} {k : ℕ} → P t → Put other 0 t left k → length lent < k → NotPrinted P lent lent NoRoom
 not-printed {t = t} asked p more = record { text = t; asked = asked; more = omega (arith, put-count p); refusal = itself NoRoom; kept = refl }
+
+-- what is printed is within the bytes left
+pub printed-within : {P : List ℕ → Type 0} {lent left : List ℕ} {k : ℕ} → Printed P lent left k → k ≤ length left
+printed-within {lent = lent} p = omega (arith, p .count, ap length (p .written), length-append (p .text) (drop (length (p .text)) lent))
 
 -- where Q asks for every text that P asks for
 pub printed-by : {P Q : List ℕ → Type 0} → ((t : List ℕ) → P t → Q t) → (lent left : List ℕ) (r : Written) → PrintedReply P lent left r → PrintedReply Q lent left r

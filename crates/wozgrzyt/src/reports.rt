@@ -1,0 +1,3 @@
+// What the programs print.
+pub use dayreport::day_report;
+pub use writer::Written;
