@@ -16,9 +16,8 @@ fn put_observed(out: &mut [u8], count: usize, n: usize) -> usize
     requires { ⌜ (count ≤ width) × (n ≤ width) ⌝ }
     ensures { λ k. ⌜ Put (now (out .entry)) 0 (printed (bytes "observed") (numberText count ∷ numberText n ∷ [])) (now (out .exit)) k ⌝ }
 {
-    let a = writer::put_tagged(out, 0, b"observed\t", count);
-    let b = writer::put_tagged(out, a, b"\t", n);
-    writer::put_byte(out, b, 10)
+    let a = writer::put_pair(out, 0, b"observed\t", count, b"\t", n);
+    writer::put_byte(out, a, 10)
 }
 
 // A line for each step.

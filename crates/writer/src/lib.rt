@@ -73,6 +73,15 @@ pub fn put_tagged(out: &mut [u8], at: usize, w: &[u8], n: usize) -> usize
     put_number(out, a, n)
 }
 
+// Two words, each with its tab and a number.
+pub fn put_pair(out: &mut [u8], at: usize, v: &[u8], m: usize, w: &[u8], n: usize) -> usize
+    requires { ⌜ (at < 2 ^ 29) × (length (now v) < 2 ^ 28) × (m < 10000) × (length (now w) < 2 ^ 30) × (n < 10000) ⌝ }
+    ensures { λ r. ⌜ Put (now (out .entry)) at ((now (v .entry) ++ numberText m) ++ (now (w .entry) ++ numberText n)) (now (out .exit)) r ⌝ }
+{
+    let a = put_tagged(out, at, v, m);
+    put_tagged(out, a, w, n)
+}
+
 // A tab, and one of two letters.
 fn put_mark(out: &mut [u8], at: usize, t: bool, p: u8, q: u8) -> usize
     requires { ⌜ at < 2 ^ 31 ⌝ }
@@ -102,9 +111,8 @@ pub fn put_line(out: &mut [u8], at: usize, r: Record) -> usize
             put_byte(out, d, 10)
         }
         Record::Line(x, y) => {
-            let a = put_tagged(out, at, b"line\t", x);
-            let b = put_tagged(out, a, b"\t", y);
-            put_byte(out, b, 10)
+            let a = put_pair(out, at, b"line\t", x, b"\t", y);
+            put_byte(out, a, 10)
         }
         Record::Pmu(p) => {
             let a = put_tagged(out, at, b"pmu\t", p);

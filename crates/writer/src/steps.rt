@@ -2,22 +2,27 @@
 ghost use mathlib.Core.List.{[], _∷_, _++_};
 ghost use Prim.Native.Nat.{_<_, _^_};
 ghost use Rattle.busset.specs.Sets.{width};
-ghost use Rattle.rules.specs.Steps.{ReasonNames, Names};
-ghost use Rattle.field.specs.Split.{join, tab, lineFeed};
-ghost use Rattle.record.specs.StepLine.{reasonTexts, stepText};
+ghost use Rattle.rules.specs.Steps.{Names};
+ghost use Rattle.field.specs.Split.{lineFeed};
+ghost use Rattle.record.specs.StepLine.{stepText};
 ghost use Rattle.writer.specs.Put.{Put};
 use step::Reason;
 use step::Step;
 
-// The fields of a reason, each after its tab.
-fn put_reason(out: &mut [u8], at: usize, r: Reason) -> usize
-    requires { ⌜ (at < 2 ^ 30) × ReasonNames width r ⌝ }
-    ensures { λ k. ⌜ Put (now (out .entry)) at (join tab [] (reasonTexts r)) (now (out .exit)) k ⌝ }
+// Its fields, with no line feed after them.
+fn put_fields(out: &mut [u8], at: usize, x: Step) -> usize
+    requires { ⌜ (at < 2 ^ 29) × Names width x ⌝ }
+    ensures { λ k. ⌜ Put (now (out .entry)) at (stepText x) (now (out .exit)) k ⌝ }
 {
-    match r {
-        Reason::OwnUnit => crate::put_all(out, at, b"\tO"),
-        Reason::NeighbourOf(p) => crate::put_tagged(out, at, b"\tN\t", p),
-        Reason::ZeroInjection(w) => crate::put_tagged(out, at, b"\tZ\t", w),
+    let b = x.bus;
+    let reason = x.reason;
+    match reason {
+        Reason::OwnUnit => {
+            let a = crate::put_tagged(out, at, b"step\t", b);
+            crate::put_all(out, a, b"\tO")
+        }
+        Reason::NeighbourOf(p) => crate::put_pair(out, at, b"step\t", b, b"\tN\t", p),
+        Reason::ZeroInjection(w) => crate::put_pair(out, at, b"step\t", b, b"\tZ\t", w),
     }
 }
 
@@ -26,8 +31,6 @@ pub fn put_step(out: &mut [u8], at: usize, x: Step) -> usize
     requires { ⌜ (at < 2 ^ 29) × Names width x ⌝ }
     ensures { λ k. ⌜ Put (now (out .entry)) at (stepText x ++ lineFeed ∷ []) (now (out .exit)) k ⌝ }
 {
-    let reason = x.reason;
-    let a = crate::put_tagged(out, at, b"step\t", x.bus);
-    let b = put_reason(out, a, reason);
-    crate::put_byte(out, b, 10)
+    let a = put_fields(out, at, x);
+    crate::put_byte(out, a, 10)
 }
