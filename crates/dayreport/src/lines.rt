@@ -16,8 +16,7 @@ fn put_observed(out: &mut [u8], count: usize, n: usize) -> usize
     requires { ⌜ (count ≤ width) × (n ≤ width) ⌝ }
     ensures { λ k. ⌜ Put (now (out .entry)) 0 (printed (bytes "observed") (numberText count ∷ numberText n ∷ [])) (now (out .exit)) k ⌝ }
 {
-    let a = writer::put_pair(out, 0, b"observed\t", count, b"\t", n);
-    writer::put_byte(out, a, 10)
+    writer::put_pair(out, 0, b"observed\t", count, b"\t", n)
 }
 
 // A line for each step.

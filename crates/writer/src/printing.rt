@@ -13,8 +13,7 @@ pub fn put_refused(out: &mut [u8], at: usize, q: Refusal) -> usize
 {
     let number = grid::refusal::number(q) as usize;
     let place = grid::refusal::place(q);
-    let a = crate::put_pair(out, at, b"refused\t", number, b"\t", place);
-    crate::put_byte(out, a, 10)
+    crate::put_pair(out, at, b"refused\t", number, b"\t", place)
 }
 
 // The same, in the bytes lent.

@@ -9,28 +9,19 @@ ghost use Rattle.writer.specs.Put.{Put};
 use step::Reason;
 use step::Step;
 
-// Its fields, with no line feed after them.
-fn put_fields(out: &mut [u8], at: usize, x: Step) -> usize
+// A step and its line feed.
+pub fn put_step(out: &mut [u8], at: usize, x: Step) -> usize
     requires { ⌜ (at < 2 ^ 29) × Names width x ⌝ }
-    ensures { λ k. ⌜ Put (now (out .entry)) at (stepText x) (now (out .exit)) k ⌝ }
+    ensures { λ k. ⌜ Put (now (out .entry)) at (stepText x ++ lineFeed ∷ []) (now (out .exit)) k ⌝ }
 {
     let b = x.bus;
     let reason = x.reason;
     match reason {
         Reason::OwnUnit => {
             let a = crate::put_tagged(out, at, b"step\t", b);
-            crate::put_all(out, a, b"\tO")
+            crate::put_all(out, a, b"\tO\n")
         }
         Reason::NeighbourOf(p) => crate::put_pair(out, at, b"step\t", b, b"\tN\t", p),
         Reason::ZeroInjection(w) => crate::put_pair(out, at, b"step\t", b, b"\tZ\t", w),
     }
-}
-
-// A step and its line feed.
-pub fn put_step(out: &mut [u8], at: usize, x: Step) -> usize
-    requires { ⌜ (at < 2 ^ 29) × Names width x ⌝ }
-    ensures { λ k. ⌜ Put (now (out .entry)) at (stepText x ++ lineFeed ∷ []) (now (out .exit)) k ⌝ }
-{
-    let a = put_fields(out, at, x);
-    crate::put_byte(out, a, 10)
 }
