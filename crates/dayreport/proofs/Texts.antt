@@ -12,11 +12,12 @@ use Rattle.rules.specs.Steps.{Names}
 use Rattle.rules.specs.Weaving.{Each}
 use Rattle.field.specs.Split.{join, bytes, lineFeed}
 use Rattle.field.specs.Number.{numberText}
-use Rattle.field.proofs.Digits.{text-two}
+use Rattle.field.proofs.Digits.{text-length, text-two}
 use Rattle.record.specs.StepLine.{stepText}
 use Rattle.following.specs.Lists.{noStep, nthOf, listed}
 use Rattle.following.specs.declared.lists.StepList.{StepList}
 use Rattle.following.proofs.Listing.{nth-in}
+use Rattle.writer.specs.Put.{Put}
 use Rattle.writer.specs.Printing.{printed}
 use Rattle.writer.proofs.StepLines.{step-length}
 use Rattle.dayreport.specs.Day.{stepsText, verdictFields}
@@ -85,3 +86,8 @@ verdict-length (suc k) h = simp length-append (omega (arith, text-two (suc k) (o
 pub observed-length : (k n : ℕ) → k ≤ width → n ≤ width → length (printed (bytes "observed") (numberText k ∷ numberText n ∷ [])) ≤ 15
 unfolding join
 observed-length k n h l = simp length-append (omega (arith, text-two k (omega arith), text-two n (omega arith)))
+
+-- put, whatever its numbers are
+pub observed-put : {l m : List ℕ} {r : ℕ} (k n : ℕ) → Put l 0 (printed (bytes "observed") (numberText k ∷ numberText n ∷ [])) m r → r ≤ 19
+unfolding join
+observed-put k n p = omega (arith, simp length-append at (p .next), text-length k, text-length n)

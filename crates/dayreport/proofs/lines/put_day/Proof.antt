@@ -1,7 +1,7 @@
 use Rattle.field.specs.Split.{join}
 use native.Mathlib.Omega.{arith}
 use Rattle.writer.proofs.Putting.{put-then}
-use Rattle.dayreport.proofs.Texts.{observed-length, list-length, verdict-length}
+use Rattle.dayreport.proofs.Texts.{observed-put, list-length, verdict-length}
 use borrow.Author.Needs.{needs}
 use Rattle.dayreport.proofs.lines.put_day.Statement.{statement}
 use Rattle.dayreport.proofs.lines.put_day.Tie as tie
@@ -13,7 +13,7 @@ put-steps-requires : tie.Need-put-steps-requires
 put-steps-requires c κs =
     let at-put-observed = c .before .before .before in
     let at-args = at-put-observed .before .before .before in
-    (omega (arith, at-put-observed .put-observed .ensures .next, observed-length (at-args .args .list .n) (at-args .args .n) (at-args .pre .1 .few) (at-args .pre .0)), at-args .pre .1)
+    (omega (arith, observed-put _ _ (at-put-observed .put-observed .ensures)), at-args .pre .1)
 
 put-verdict-requires : tie.Need-put-verdict-requires
 put-verdict-requires c κs =
@@ -22,8 +22,7 @@ put-verdict-requires c κs =
     let at-args = at-put-observed .before .before .before in (
       omega (
         arith,
-        at-put-observed .put-observed .ensures .next,
-        observed-length (at-args .args .list .n) (at-args .args .n) (at-args .pre .1 .few) (at-args .pre .0),
+        observed-put _ _ (at-put-observed .put-observed .ensures),
         at-put-steps .put-steps .ensures .next,
         list-length (at-args .args .list) (at-args .pre .1),
       ),
@@ -41,8 +40,7 @@ put-all-requires c κs =
     let at-args = at-put-observed .before .before .before in
     omega (
       arith,
-      at-put-observed .put-observed .ensures .next,
-      observed-length (at-args .args .list .n) (at-args .args .n) (at-args .pre .1 .few) (at-args .pre .0),
+      observed-put _ _ (at-put-observed .put-observed .ensures),
       at-put-steps .put-steps .ensures .next,
       list-length (at-args .args .list) (at-args .pre .1),
       at-put-verdict .put-verdict .ensures .next,
