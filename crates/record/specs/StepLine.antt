@@ -2,11 +2,13 @@
 use mathlib.Core.Bool.{cond}
 use mathlib.Core.List.{List, [], _∷_}
 use Prim.Native.Nat.{ℕ}
-use Rattle.field.specs.Split.{split, same, bytes, tab}
-use Rattle.field.specs.Number.{numberOf}
+use Rattle.field.specs.Split.{split, join, same, bytes, tab}
+use Rattle.field.specs.Number.{numberOf, numberText}
 use Rattle.field.specs.declared.Numeral.{Numeral}
 use Rattle.field.specs.declared.Numeral.the-variants.{Is as Number, Wrong as NoNumber}
+use Rattle.step.specs.declared.Reason.{Reason}
 use Rattle.step.specs.declared.Reason.the-variants.{OwnUnit, NeighbourOf, ZeroInjection}
+use Rattle.step.specs.declared.Step as step
 use Rattle.record.specs.Fields.{none, oneNumber}
 use Rattle.record.specs.declared.steps.Given.{Given}
 use Rattle.record.specs.declared.steps.Given.the-variants.{Is as By, Wrong as NoReason}
@@ -83,3 +85,15 @@ byStepWord OtherWord fs = Wrong
 -- the step that a line is
 unfoldable pub stepLineOf : List ℕ → StepLine
 stepLineOf l = byStepWord (stepWordOf (split tab l .first)) (split tab l .rest)
+
+-- ---- a step's text
+
+-- the fields of a reason
+abbrev pub reasonTexts : Reason → List (List ℕ)
+reasonTexts OwnUnit = bytes "O" ∷ []
+reasonTexts (NeighbourOf p) = bytes "N" ∷ numberText p ∷ []
+reasonTexts (ZeroInjection w) = bytes "Z" ∷ numberText w ∷ []
+
+-- the line that a step is
+unfoldable pub stepText : step.Step → List ℕ
+stepText x = join tab (bytes "step") (numberText (x .bus) ∷ reasonTexts (x .reason))

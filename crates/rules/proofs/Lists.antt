@@ -10,10 +10,11 @@ use Rattle.busset.proofs.Members.{in-or, empty-sub, add-sub, add-grows}
 use Rattle.busset.proofs.Sizes.{size-add, size-empty}
 use Rattle.step.specs.declared.Reason.{Reason}
 use Rattle.step.specs.declared.Step.{Step}
-use Rattle.rules.specs.Grids.{Grid}
+use Rattle.rules.specs.Grids.{Grid, Proper}
 use Rattle.rules.specs.Observation.{Closed, Least}
-use Rattle.rules.specs.Steps.{Holds, HasReasoned, Allowed, reachedFrom, AcceptedFrom, reached, Accepted, Finished}
-use Rattle.rules.proofs.Reasons.{holds-more, closed-reasoned, reasoned-closed}
+use Rattle.rules.specs.Steps.{Holds, HasReasoned, Allowed, Names, reachedFrom, AcceptedFrom, reached, Accepted, Finished}
+use Rattle.rules.specs.Weaving.{Each}
+use Rattle.rules.proofs.Reasons.{holds-more, closed-reasoned, reasoned-closed, allowed-names}
 use Rattle.rules.proofs.Leasts.{least-unique}
 
 -- a list grows the set that it starts from
@@ -30,6 +31,11 @@ stays-inside g s t (x ∷ xs) cl sub p =
 
 pub accepted-inside : (g : Grid) (t : ℕ) (xs : List Step) → Closed g t → Accepted g xs → Sub (reached xs) t
 accepted-inside g t xs cl p = stays-inside g empty t xs cl (empty-sub t) p
+
+-- and names buses of the grid
+pub accepted-names : {g : Grid} → Proper g → (s : ℕ) (xs : List Step) → AcceptedFrom g s xs → Each (Names (g .n)) xs
+accepted-names v s [] a = tt
+accepted-names v s (x ∷ xs) a = (allowed-names v (a .0), accepted-names v (add s (x .bus)) xs (a .1))
 
 -- where no step is allowed, the set is closed; and no step is allowed in a closed set
 pub finished-closed : (g : Grid) (s : ℕ) → Finished g s → Closed g s

@@ -15,6 +15,7 @@ use Rattle.rules.specs.Steps.{Holds, Allowed, Names, AcceptedFrom, reached, Acc
 use Rattle.rules.specs.Weaving.{WeavableFrom, Weavable, woven, Each, Some, Shuffle, Woven}
 use Rattle.rules.specs.Figures.{Runs}
 use Rattle.rules.proofs.Figures.{figure-runs, figure-one, one-figure}
+use Rattle.rules.proofs.Lists.{accepted-names}
 use Rattle.rules.proofs.Reasons.{allowed-names}
 use Rattle.rules.proofs.Shuffles.{shuffle-each, weaving-shuffles}
 use Rattle.grid.specs.declared.Case.{Case}
@@ -59,13 +60,9 @@ weavable-checks : (c : Case) (k s : ℕ) (xs : List Step) (rest : List Check) �
 weavable-checks c k s [] rest n w p = p
 weavable-checks c k s (x ∷ xs) rest n w p = (n .0, (w .0, weavable-checks c (suc k) (add s (x .bus)) xs rest (n .1) (w .1) p))
 
-accepted-names : (c : Case) → Proper (gridOf c) → (s : ℕ) (xs : List Step) → AcceptedFrom (gridOf c) s xs → Each (Names (c .n)) xs
-accepted-names c v s [] a = tt
-accepted-names c v s (x ∷ xs) a = (allowed-names v (a .0), accepted-names c v (add s (x .bus)) xs (a .1))
-
 each-names : (c : Case) → Proper (gridOf c) → (desks : List (List Step)) → Each (Accepted (gridOf c)) desks → Each (Each (Names (c .n))) desks
 each-names c v [] a = tt
-each-names c v (xs ∷ desks) a = (accepted-names c v empty xs (a .0), each-names c v desks (a .1))
+each-names c v (xs ∷ desks) a = (accepted-names v empty xs (a .0), each-names c v desks (a .1))
 
 pub demand-3 : (c : Case) (desks : List (List Step)) (received before after : List Step) (r : Wove) → Valid c → Each (Accepted (gridOf c)) desks → Shuffle desks received
     → length received ≤ mostSteps → length (woven received) ≤ length before → WeaveReply c received before after r → Demand3 c desks received before after r

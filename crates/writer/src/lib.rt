@@ -9,6 +9,7 @@ ghost use Rattle.writer.specs.Put.{Put, lineText};
 
 pub mod cases;
 pub mod printing;
+pub mod steps;
 
 use grid::Refusal;
 use record::Record;
@@ -72,6 +73,16 @@ pub fn put_tagged(out: &mut [u8], at: usize, w: &[u8], n: usize) -> usize
     put_number(out, a, n)
 }
 
+// A line of two words, each with its tab and a number.
+pub fn put_pair(out: &mut [u8], at: usize, v: &[u8], m: usize, w: &[u8], n: usize) -> usize
+    requires { ⌜ (at < 2 ^ 29) × (length (now v) < 2 ^ 28) × (m < 10000) × (length (now w) < 2 ^ 28) × (n < 10000) ⌝ }
+    ensures { λ r. ⌜ Put (now (out .entry)) at (((now (v .entry) ++ numberText m) ++ (now (w .entry) ++ numberText n)) ++ 10 ∷ []) (now (out .exit)) r ⌝ }
+{
+    let a = put_tagged(out, at, v, m);
+    let b = put_tagged(out, a, w, n);
+    put_byte(out, b, 10)
+}
+
 // A tab, and one of two letters.
 fn put_mark(out: &mut [u8], at: usize, t: bool, p: u8, q: u8) -> usize
     requires { ⌜ at < 2 ^ 31 ⌝ }
@@ -100,11 +111,7 @@ pub fn put_line(out: &mut [u8], at: usize, r: Record) -> usize
             let d = put_mark(out, b, site, b'Y', b'N');
             put_byte(out, d, 10)
         }
-        Record::Line(x, y) => {
-            let a = put_tagged(out, at, b"line\t", x);
-            let b = put_tagged(out, a, b"\t", y);
-            put_byte(out, b, 10)
-        }
+        Record::Line(x, y) => put_pair(out, at, b"line\t", x, b"\t", y),
         Record::Pmu(p) => {
             let a = put_tagged(out, at, b"pmu\t", p);
             put_byte(out, a, 10)

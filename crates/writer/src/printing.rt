@@ -11,9 +11,9 @@ pub fn put_refused(out: &mut [u8], at: usize, q: Refusal) -> usize
     requires { ⌜ (at < 2 ^ 29) × (placeOf q < 10000) ⌝ }
     ensures { λ k. ⌜ Put (now (out .entry)) at (refusedText q) (now (out .exit)) k ⌝ }
 {
-    let a = crate::put_tagged(out, at, b"refused\t", grid::refusal::number(q) as usize);
-    let b = crate::put_tagged(out, a, b"\t", grid::refusal::place(q));
-    crate::put_byte(out, b, 10)
+    let number = grid::refusal::number(q) as usize;
+    let place = grid::refusal::place(q);
+    crate::put_pair(out, at, b"refused\t", number, b"\t", place)
 }
 
 // The same, in the bytes lent.

@@ -1,0 +1,38 @@
+use mathlib.Core.Path.{refl}
+use Rattle.writer.proofs.Printed.{put-printed, not-printed}
+use borrow.Author.Needs.{needs}
+use Rattle.dayreport.proofs.print_day.Statement.{statement}
+use Rattle.dayreport.proofs.print_day.Tie as tie
+
+slice-aggregate-put-day : tie.Need-slice-aggregate-put-day
+slice-aggregate-put-day c = search needs
+
+put-day-requires : tie.Need-put-day-requires
+put-day-requires c κs = search needs
+
+returns : tie.Need-returns
+returns c = not-printed refl (c .before .before .put-day .ensures) (c .if1 .taken)
+
+put-day-requires-2 : tie.Need-put-day-requires-2
+put-day-requires-2 c κs = search needs
+
+same-length : tie.Need-same-length
+same-length c = search needs
+
+returns-2 : tie.Need-returns-2
+returns-2 c =
+    let at-put-day2 = c .before .before in
+    let at-if1 = at-put-day2 .before .before in
+    let at-put-day = at-if1 .before .before in
+    put-printed refl (at-put-day .put-day .ensures) (at-if1 .if1 .left) (at-put-day2 .put-day2 .ensures)
+
+pub print-day-spec : {M : Type 1} → statement M
+print-day-spec =
+    tie.close
+    (tie.spec
+    slice-aggregate-put-day
+    put-day-requires
+    returns
+    put-day-requires-2
+    same-length
+    returns-2)
