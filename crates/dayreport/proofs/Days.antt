@@ -15,15 +15,13 @@ use Rattle.rules.proofs.Derivations.{derived-unique, derived-accepted}
 use Rattle.rules.proofs.Choices.{unconfirmed-unique}
 use Rattle.field.specs.Split.{join, bytes}
 use Rattle.field.specs.Number.{numberText}
-use Rattle.field.proofs.Digits.{text-length}
 use Rattle.grid.specs.Cases.{gridOf, Valid}
-use Rattle.grid.specs.Refusals.{numberOf, placeOf}
 use Rattle.grid.specs.declared.Case.{Case}
-use Rattle.grid.specs.declared.refusal.Refusal.{Refusal}
 use Rattle.reader.specs.Reading.{readCase}
 use Rattle.reader.specs.declared.ReadAnswer.{ReadAnswer}
 use Rattle.reader.specs.declared.ReadAnswer.the-variants.{Read, Refused}
-use Rattle.writer.specs.Printing.{printed, refusedText}
+use Rattle.writer.specs.Printing.{printed}
+use Rattle.writer.proofs.Printed.{refused-length}
 use Rattle.dayreport.specs.Day.{stepsText, verdictFields, dayText, DayReport, DayFor, Day}
 use Rattle.dayreport.proofs.Texts.{steps-length, verdict-length, observed-length}
 use Rattle.dayreport.proofs.Reports.{observed-few, derivation-named, read-good}
@@ -79,13 +77,9 @@ report-fits c t v p =
       text-fits (size (p .observed)) (c .n) (size (p .unconfirmed)) (p .steps) (omega arith) most (omega arith) (omega arith) (derivation-named (v .proper) most (p .derived)),
     )
 
-refused-fits : (q : Refusal) → length (refusedText q) ≤ 18
-unfolding refusedText join
-refused-fits q = simp length-append (omega (arith, text-length (numberOf q), text-length (placeOf q)))
-
 pub day-fits : (text t : List ℕ) → Day text t → length t ≤ 860
 day-fits text t = go (readCase text .answer) refl
   where
     go : (a : ReadAnswer) → readCase text .answer ≡ a → DayFor a (readCase text .case) t → length t ≤ 860
     go Read e p = report-fits (readCase text .case) t (read-good text (readCase text) refl e) p
-    go (Refused q) e p = omega (arith, ap length p, refused-fits q)
+    go (Refused q) e p = omega (arith, ap length p, refused-length q)
