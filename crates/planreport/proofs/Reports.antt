@@ -1,17 +1,29 @@
--- What is printed for a case, by what is found.
+-- What is printed for a case: the lines of the fewest, and the reply by what is found.
 use mathlib.Core.Logic.{inl, inr}
-use mathlib.Core.List.{List}
+use mathlib.Core.List.{List, [], _∷_}
 use Prim.Native.Nat.{ℕ, _≤_, _<_}
 use native.Mathlib.Omega.{arith}
+use Rattle.busset.specs.Sets.{Counted, width}
 use Rattle.rules.specs.Placing.{SomePlan, Fewest}
 use Rattle.rules.proofs.Ordering.{fewest-some}
+use Rattle.field.specs.Split.{join, bytes, tab, lineFeed}
+use Rattle.field.specs.Number.{numberText}
+use Rattle.record.specs.declared.Record.the-variants.{Pmu}
 use Rattle.grid.specs.Cases.{gridOf}
 use Rattle.grid.specs.declared.Case.{Case}
 use Rattle.grid.specs.declared.refusal.Refusal.the-variants.{OverBudget, NoCover}
 use Rattle.grid.proofs.Orders.{itself}
-use Rattle.writer.specs.Printing.{RefusedText}
-use Rattle.planreport.specs.Plan.{PlanText, PlanReport}
+use Rattle.reader.specs.Writing.{members, linesText}
+use Rattle.writer.specs.Put.{Put}
+use Rattle.writer.specs.Printing.{printed, RefusedText}
+use Rattle.writer.proofs.Putting.{put-then}
+use Rattle.planreport.specs.Plan.{planText, PlanText, PlanReport}
 use Rattle.planreport.specs.Plan.PlanReport.{found, none}
+
+-- the lines of the fewest, put one after another
+pub plan-put : {l m₁ m₂ m₃ m₄ : List ℕ} {k₁ k₂ k₃ k₄ count sites : ℕ} (n : ℕ) → Counted width sites count → Put l 0 (join tab (bytes "fewest") (numberText count ∷ [])) m₁ k₁ → Put m₁ k₁ (lineFeed ∷ []) m₂ k₂ →
+    Put m₂ k₂ (linesText (members Pmu sites 1 n)) m₃ k₃ → Put m₃ k₃ (printed (bytes "end") []) m₄ k₄ → Put l 0 (planText n sites) m₄ k₄
+plan-put n c p q u e = rw (← c .is) (put-then (put-then p q) (put-then u e))
 
 pub over-budget : {c : Case} {budget : ℕ} → 8 < budget → (t : List ℕ) → RefusedText (OverBudget 1) t → PlanReport c budget t
 over-budget h t e = none (OverBudget 1) (inl ((λ l. omega arith), itself (OverBudget 1))) e

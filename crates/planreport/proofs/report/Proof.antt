@@ -1,4 +1,5 @@
 use mathlib.Core.Path.{_≡_, subst}
+use native.Mathlib.Omega.{arith}
 use Rattle.grid.specs.Cases.{gridOf}
 use Rattle.place.specs.declared.fewest.Found.{Found}
 use Rattle.place.specs.Answers.{FewestIs}
@@ -21,7 +22,8 @@ same-length c = search needs
 returns : tie.Need-returns
 returns c =
     let at-print-refused = c .before .before in
-    printed-by (over-budget (at-print-refused .before .before .if1 .taken)) _ _ (at-print-refused .print-refused .result) (at-print-refused .print-refused .ensures)
+    let over = at-print-refused .before .before .if1 .taken in
+    printed-by (over-budget (omega arith)) _ _ (at-print-refused .print-refused .result) (at-print-refused .print-refused .ensures)
 
 fewest-requires : tie.Need-fewest-requires
 fewest-requires c κs = search needs

@@ -1,3 +1,4 @@
+use native.Mathlib.Omega.{arith}
 use mathlib.Core.Path.{_∙_}
 use Rattle.planreport.proofs.Inputs.{too-long, no-feed, asked-by}
 use borrow.Author.Needs.{needs}
@@ -8,7 +9,7 @@ not-asked-requires : tie.Need-not-asked-requires
 not-asked-requires c κs = search needs
 
 returns : tie.Need-returns
-returns c = c .not-asked .ensures ∙ too-long _ (c .before .if1 .taken)
+returns c = let over = c .before .if1 .taken in c .not-asked .ensures ∙ too-long _ (omega arith)
 
 piece-end-requires : tie.Need-piece-end-requires
 piece-end-requires c κs = search needs

@@ -4,7 +4,7 @@ use Rattle.field.specs.Split.{join}
 use Rattle.field.proofs.Digits.{text-length}
 use Rattle.record.specs.declared.Record.the-variants.{Pmu}
 use Rattle.reader.proofs.Lengths.{members-most}
-use Rattle.writer.proofs.Putting.{put-then}
+use Rattle.planreport.proofs.Reports.{plan-put}
 use borrow.Author.Needs.{needs}
 use Rattle.planreport.proofs.printing.put_plan.Statement.{statement}
 use Rattle.planreport.proofs.printing.put_plan.Tie as tie
@@ -60,8 +60,8 @@ returns c =
     let at-put-units = at-put-all .before .before .before .before .before in
     let at-put-byte = at-put-units .before .before .before .before in
     let at-put-tagged = at-put-byte .before .before .before .before in
-    rw (← at-put-tagged .before .count .ensures .is) (put-then (put-then (at-put-tagged .put-tagged .ensures) (at-put-byte .put-byte .ensures))
-    (put-then (at-put-units .put-units .ensures) (at-put-all .put-all .ensures)))
+    plan-put _ (at-put-tagged .before .count .ensures) (at-put-tagged .put-tagged .ensures) (at-put-byte .put-byte .ensures) (at-put-units .put-units .ensures)
+    (at-put-all .put-all .ensures)
 
 pub put-plan-spec : {M : Type 1} → statement M
 put-plan-spec =
