@@ -1,3 +1,3 @@
 pub mod Stepping
 pub mod Found
-pub mod Listing
+pub mod Taking
