@@ -8,6 +8,7 @@ import random
 import sys
 
 CASE_LIMIT, STEP_LIMIT, MOST_LINES, MOST_STEPS = 8192, 16384, 256, 1024
+CASE, STEPS, BEFORE = "case", "steps", [(99, b"N", 77)] * 1032
 
 
 class No(Exception):
@@ -108,17 +109,18 @@ def write_case(case):
     return b"".join(b"\t".join(f if isinstance(f, bytes) else b"%d" % f for f in r) + b"\n" for r in rows)
 
 
-def check_steps(text):
-    """How many steps, or No(number, place)."""
+def read_steps(text):
+    """The steps, each its bus, its reason and the bus that this names, or No(number, place)."""
     if len(text) > STEP_LIMIT:
         raise No(1, 0)
     lines, tail = split_lines(text)
+    steps = []
     for k, line in enumerate(lines, 1):
         fields = line.split(b"\t")
         if fields == [b"end"]:
             if k < len(lines) or tail:
                 raise No(2, k + 1)
-            return k - 1
+            return steps
         if fields[0] != b"step" or len(fields) < 3:
             raise No(2, k)
         wants = {b"O": 3, b"N": 4, b"Z": 4}.get(fields[2])
@@ -131,25 +133,53 @@ def check_steps(text):
             raise No(3, k)
         if k > MOST_STEPS:
             raise No(12, k)
+        steps.append((named[0], fields[2], named[1] if len(named) > 1 else 0))
     raise No(2, len(lines) + 1)
 
 
+def filled(text, room):
+    """The records after a step text was read into so many of them, or No(number, place)."""
+    steps = read_steps(text)
+    if len(steps) > room:
+        raise No(6, 0)
+    return steps + BEFORE[len(steps):]
+
+
+def summed(sum, code):
+    return (sum * 31 + code) % 1000003
+
+
+def records_sum(records):
+    sum = 0
+    for bus, reason, named in records:
+        sum = summed(sum, bus * 10000 + {b"O": 0, b"N": 1000, b"Z": 2000}[reason] + named)
+    return sum
+
+
 class Tally:
-    def __init__(self, steps):
-        self.steps, self.count, self.good, self.same, self.sum = steps, 0, 0, 0, 0
+    """A kind is a case, steps, or how many records are lent to read steps into."""
+
+    def __init__(self, kind):
+        self.kind, self.count, self.good, self.same, self.sum = kind, 0, 0, 0, 0
 
     def judge(self, text):
         self.count += 1
+        records = BEFORE
         try:
-            if self.steps:
-                code = check_steps(text) * 100
-            else:
+            if self.kind == CASE:
                 code = 0
                 self.same += write_case(read_case(text)) == text
+            else:
+                code = len(read_steps(text)) * 100
+                if self.kind != STEPS:
+                    records = filled(text, self.kind)
             self.good += 1
         except No as no:
             code = no.args[1] * 100 + no.args[0]
-        self.sum = (self.sum * 31 + code) % 1000003
+        self.sum = summed(self.sum, code)
+        if self.kind not in (CASE, STEPS):
+            self.same += 1
+            self.sum = summed(self.sum, records_sum(records))
 
     def say(self, name):
         print(name, self.count, self.good, self.same, self.sum)
@@ -159,31 +189,31 @@ def one(x):
     return bytes([x])
 
 
-def spliced(name, text, steps, drop, mid):
-    t = Tally(steps)
+def spliced(name, text, kind, drop, mid):
+    t = Tally(kind)
     for i in range(len(text) + 1):
         t.judge(text[:i] + mid + text[i + drop:])
     t.say(name)
 
 
-def by_byte(text, steps):
-    spliced("removed", text, steps, 1, b"")
-    t = Tally(steps)
+def by_byte(text, kind):
+    spliced("removed", text, kind, 1, b"")
+    t = Tally(kind)
     for i in range(len(text)):
         t.judge(text[:i] + text[i:i + 1] + text[i:])
     t.say("doubled")
     for x in (0, 10, 48, 57, 255):
-        spliced("changed", text, steps, 1, one(x))
+        spliced("changed", text, kind, 1, one(x))
     for x in (9, 10, 13, 49, 200):
-        spliced("inserted", text, steps, 0, one(x))
-    t = Tally(steps)
+        spliced("inserted", text, kind, 0, one(x))
+    t = Tally(kind)
     for i in range(len(text) + 1):
         t.judge(text[:i])
     t.say("cut")
 
 
-def by_line(text, steps):
-    t = Tally(steps)
+def by_line(text, kind):
+    t = Tally(kind)
     a = 0
     while a < len(text):
         e = text.index(b"\n", a) + 1
@@ -198,9 +228,9 @@ def by_line(text, steps):
 WORDS = [b"", b"0", b"00", b"07", b"1", b"8", b"64", b"65", b"256", b"9999", b"10000", b"+1", b"Z", b"N", b"end", b"line"]
 
 
-def by_field(text, steps):
+def by_field(text, kind):
     for word in WORDS:
-        t = Tally(steps)
+        t = Tally(kind)
         a = 0
         while a < len(text):
             e = a
@@ -211,23 +241,23 @@ def by_field(text, steps):
         t.say("field")
 
 
-def by_end(text, steps):
-    t = Tally(steps)
+def by_end(text, kind):
+    t = Tally(kind)
     for x in range(256):
         t.judge(text + one(x))
     t.say("tail")
-    limit = STEP_LIMIT if steps else CASE_LIMIT
-    t = Tally(steps)
+    limit = CASE_LIMIT if kind == CASE else STEP_LIMIT
+    t = Tally(kind)
     t.judge(text + b"x" * (limit - len(text)))
     t.judge(text + b"x" * (limit + 1 - len(text)))
     t.say("limit")
 
 
-def all_kinds(text, steps):
-    by_byte(text, steps)
-    by_line(text, steps)
-    by_field(text, steps)
-    by_end(text, steps)
+def all_kinds(text, kind):
+    by_byte(text, kind)
+    by_line(text, kind)
+    by_field(text, kind)
+    by_end(text, kind)
 
 
 def tabbed(words):
@@ -244,8 +274,8 @@ def texts():
     lines = ["line %d %d" % w for w in wires]
     units = ["pmu %d" % i for i in range(1, 65)] + ["end"]
     steps = ["step 2 N 3", "step 3 O", "step 1 Z 2", "step 4 N 3", "step 7 N 3", "end"]
-    many = ["step %d Z %d" % (i % 64 + 1, i % 63 + 1) for i in range(1025)] + ["end"]
-    return {"seven": seven, "full": full + lines[:256] + units, "more": full + lines + units, "steps": steps, "many": many}
+    many = ["step %d Z %d" % (i % 64 + 1, i % 63 + 1) for i in range(1025)]
+    return {"seven": seven, "full": full + lines[:256] + units, "more": full + lines + units, "steps": steps, "most": many[:1024] + ["end"], "many": many + ["end"]}
 
 
 def main():
@@ -259,11 +289,17 @@ def main():
     for name in texts():
         with open("%s/%s.txt" % (where, name), "rb") as f:
             text[name] = f.read()
-    all_kinds(text["seven"], False)
-    all_kinds(text["full"], False)
-    by_line(text["more"], False)
-    all_kinds(text["steps"], True)
-    by_line(text["many"], True)
+    all_kinds(text["seven"], CASE)
+    all_kinds(text["full"], CASE)
+    by_line(text["more"], CASE)
+    all_kinds(text["steps"], STEPS)
+    by_line(text["many"], STEPS)
+    for room in (4, 5, 6):
+        all_kinds(text["steps"], room)
+    for name, room in (("most", 1023), ("most", 1024), ("most", 1025), ("many", 1032)):
+        t = Tally(room)
+        t.judge(text[name])
+        t.say("whole")
 
 
 if __name__ == "__main__":

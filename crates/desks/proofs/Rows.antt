@@ -17,6 +17,8 @@ use Rattle.following.specs.declared.Task.{Task}
 use Rattle.following.specs.declared.Task.the-variants.{Replay, Weave}
 use Rattle.following.specs.declared.Wove.{Wove}
 use Rattle.following.specs.declared.Replayed.{Replayed}
+use Rattle.steptext.specs.declared.StepsRead.{StepsRead}
+use Rattle.steptext.specs.declared.Taken.{Taken}
 use Rattle.grid.proofs.Case as case
 use Rattle.grid.proofs.Case.Laws as case′
 use Rattle.following.proofs.Following as following
@@ -31,6 +33,10 @@ use Rattle.following.proofs.Wove as wove
 use Rattle.following.proofs.Wove.Laws as wove′
 use Rattle.following.proofs.Replayed as replayed
 use Rattle.following.proofs.Replayed.Laws as replayed′
+use Rattle.steptext.proofs.StepsRead as steps-read
+use Rattle.steptext.proofs.StepsRead.Laws as steps-read′
+use Rattle.steptext.proofs.Taken as taken
+use Rattle.steptext.proofs.Taken.Laws as taken′
 
 -- a task's fact
 pub task-is : (k : Task) → Is task.the-row k (EL.vals task.the-type task′.the-laws k)
@@ -59,6 +65,9 @@ module _ {M : Type 1} (𝓤 : URA M) (H : Heap 𝓤) (A : Atoms 𝓤) where
   pub replayed-made : Makes 𝓤 H A replayed.the-row (Is replayed.the-row)
   replayed-made = EL.makes replayed.the-type replayed′.the-plain 𝓤 H A
 
+  pub steps-read-made : Makes 𝓤 H A steps-read.the-row (Is steps-read.the-row)
+  steps-read-made = EL.makes steps-read.the-type steps-read′.the-plain 𝓤 H A
+
   module _ (W : Given 𝓤 H A) where
     pub case-typed : (x : Case) (v : Val) → Is case.the-row x (v ∷ []) → T (hasTy case′.mir v) × WT v
     case-typed x v is = LL.lawful case.the-type case′.the-laws 𝓤 H A W .typed x (v ∷ []) is .0
@@ -80,3 +89,9 @@ module _ {M : Type 1} (𝓤 : URA M) (H : Heap 𝓤) (A : Atoms 𝓤) where
 
     pub replayed-typed : (x : Replayed) (v : Val) → Is replayed.the-row x (v ∷ []) → T (hasTy replayed′.mir v) × WT v
     replayed-typed x v is = EL.lawful replayed.the-type replayed′.the-laws 𝓤 H A W tt .typed x (v ∷ []) is .0
+
+    pub steps-read-typed : (x : StepsRead) (v : Val) → Is steps-read.the-row x (v ∷ []) → T (hasTy steps-read′.mir v) × WT v
+    steps-read-typed x v is = EL.lawful steps-read.the-type steps-read′.the-laws 𝓤 H A W tt .typed x (v ∷ []) is .0
+
+    pub taken-typed : (x : Taken) (v : Val) → Is taken.the-row x (v ∷ []) → T (hasTy taken′.mir v) × WT v
+    taken-typed x v is = LL.lawful taken.the-type taken′.the-laws 𝓤 H A W .typed x (v ∷ []) is .0

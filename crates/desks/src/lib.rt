@@ -1,6 +1,9 @@
 // Replay and weaving over lent records.
 ghost use Rattle.following.specs.Following.{Follows};
 ghost use Rattle.following.specs.Replies.{ReplayReply, WeaveReply, Put};
+
+pub mod texts;
+
 use following::Following;
 use following::Replayed;
 use following::Task;

@@ -9,8 +9,9 @@ use borrow.Author.Tests.{le-ltb, lt-ltb}
 use lib.Dec.{ltb}
 use lib.ListN.{length, take, set, getD, replicate, length-set, length-append}
 use lib.Seq.{take-suc-set, set-append-seam, append-snoc}
+use Rattle.step.specs.Records.{noStep}
 use Rattle.step.specs.declared.Step.{Step}
-use Rattle.following.specs.Lists.{noStep, nthOf, listOf, Pushed}
+use Rattle.following.specs.Lists.{nthOf, listOf, Pushed}
 use Rattle.following.specs.declared.lists.StepList.{StepList}
 
 pub push-law : (l : StepList) (x : Step) → Pushed l x (record { n = l .n + 1; steps = set (l .steps) (l .n) x })

@@ -4,22 +4,23 @@ use mathlib.Core.List.{List, [], _∷_, _++_, append-nil, append-assoc}
 use mathlib.Core.Logic.{inl, inr, ⊎-elim}
 use Prim.Native.Nat.{ℕ, zero, suc, _+_, _≤_, _<_}
 use native.Mathlib.Omega.{arith}
-use lib.ListN.{length, take, drop, getD, set, length-take}
-use lib.Seq.{drop-cons, append-snoc, set-at, take-suc}
+use lib.ListN.{length, take, drop, length-take}
 use Rattle.busset.specs.Deciding.{Decides}
 use Rattle.busset.specs.Sets.{Bus, bit, Within, empty, add, size, setOf}
 use Rattle.busset.proofs.Digits.{bit-zero}
 use Rattle.busset.proofs.Members.{add-of}
 use Rattle.busset.proofs.Sizes.{size-empty, size-most}
+use Rattle.step.specs.Records.{putFirst}
 use Rattle.step.specs.declared.Step.{Step}
+use Rattle.step.proofs.Records.{put-first}
 use Rattle.rules.specs.Steps.{Names, Finished, reachedFrom, reached}
 use Rattle.rules.specs.Weaving.{unlessSeen, wovenFrom, woven}
 use Rattle.grid.specs.declared.Case.{Case}
 use Rattle.grid.specs.declared.refusal.Refusal.{Refusal}
-use Rattle.grid.specs.Cases.{gridOf, Valid}
+use Rattle.grid.specs.Cases.{mostSteps, gridOf, Valid}
 use Rattle.grid.specs.Refusals.{Check, check, Passed, Failed}
-use Rattle.following.specs.Lists.{noStep, nthOf, Listed, listed}
-use Rattle.following.specs.Following.{checksAt, checksFrom, mostSteps, Ready, Taken, TakenOr, Further, AppliedTo, Applied, Follows, none, next, beginChecks, BegunAt, Begun}
+use Rattle.following.specs.Lists.{nthOf, Listed, listed}
+use Rattle.following.specs.Following.{checksAt, checksFrom, Ready, Taken, TakenOr, Further, AppliedTo, Applied, Follows, none, next, beginChecks, BegunAt, Begun}
 use Rattle.following.proofs.Listing.{nth-in}
 use Rattle.following.specs.declared.Task.{Task}
 use Rattle.following.specs.declared.Task.the-variants.{Replay, Weave}
@@ -31,7 +32,7 @@ use Rattle.following.specs.declared.Replayed.{Replayed}
 use Rattle.following.specs.declared.Replayed.the-variants as replayed
 use Rattle.following.specs.declared.Wove.{Wove}
 use Rattle.following.specs.declared.Wove.the-variants as wove
-use Rattle.following.specs.Replies.{replayChecks, ReplayReply, weaveChecks, written, WeaveReply, EndedAt, SettledAt, countOf, putFirst, Put}
+use Rattle.following.specs.Replies.{replayChecks, ReplayReply, weaveChecks, WeaveReply, EndedAt, SettledAt, countOf, Put}
 
 -- ---- the checks of one step, and those after it
 
@@ -203,18 +204,6 @@ replay-law {c} {b} {st} xs r begun f e = go r (st .standing) (whole xs [] begun 
 
 -- ---- weaving
 
--- the first k places hold the list's first k steps, and the others what they held
-pub put-first : (l : StepList) (before : List Step) (k : ℕ) → length (l .steps) ≡ 64 → k ≤ 64 → k ≤ length before → putFirst k l before ≡ take k (l .steps) ++ drop k before
-put-first l before zero long few fits = refl
-put-first l before (suc k) long few fits =
-    let s = l .steps in
-    let first : length (take k s) ≡ k = length-take k s ∙ omega (arith, long) in
-    ap (λ (m : List Step). set m k (nthOf l k)) (put-first l before k long (omega arith) (omega arith) ∙ ap (λ (m : List Step). take k s ++ m) (drop-cons before k noStep fits))
-    ∙ set-at (take k s) (getD before k noStep) (drop (suc k) before) (nthOf l k) k first
-    ∙ sym (append-snoc (take k s) (nthOf l k) (drop (suc k) before))
-    ∙ ap (λ (m : List Step). m ++ drop (suc k) before)
-    (ap (λ (x : Step). take k s ++ (x ∷ [])) (sym (nth-in l k few)) ∙ sym (take-suc s k noStep (omega (arith, long))))
-
 pub weave-law : {c : Case} {b st : Following} (xs before after : List Step) (r : Wove) → Begun c Weave (length xs) b → Follows c b xs st → Put st before after r → WeaveReply c xs before after r
 weave-law {c} {b} {st} xs before after r begun f p = go r (st .standing) (whole xs (check (length (woven xs) ≤ length before) 6 0 ∷ []) begun f) (p .settled) (p .records)
   where
@@ -222,7 +211,7 @@ weave-law {c} {b} {st} xs before after r begun f p = go r (st .standing) (whole 
     long : Whole c Weave xs st (check (length (woven xs) ≤ length before) 6 0 ∷ []) → length (woven xs) ≡ st .list .n
     long w = ap length (sym (w .written)) ∙ length-take (st .list .n) (st .list .steps) ∙ omega (arith, w .few, w .room)
 
-    go : (r : Wove) (w : Standing) → WholeAt c Weave xs st (check (length (woven xs) ≤ length before) 6 0 ∷ []) w → SettledAt st (length before) r w → after ≡ putFirst (countOf r) (st .list) before
+    go : (r : Wove) (w : Standing) → WholeAt c Weave xs st (check (length (woven xs) ≤ length before) 6 0 ∷ []) w → SettledAt st (length before) r w → after ≡ putFirst (countOf r) (nthOf (st .list)) before
         → WeaveReply c xs before after r
     go (wove.Written count s) Good w h e =
         let n = st .list .n in
@@ -230,7 +219,8 @@ weave-law {c} {b} {st} xs before after r begun f p = go r (st .standing) (whole 
           w .passed (omega (arith, long w), tt),
           h .1 ∙ sym (long w),
           ap setOf (h .2) ∙ w .set,
-          e ∙ ap (λ (k : ℕ). putFirst k (st .list) before) (h .1) ∙ put-first (st .list) before n (w .room) (w .few) room
+          e ∙ ap (λ (k : ℕ). putFirst k (nthOf (st .list)) before) (h .1)
+              ∙ put-first (st .list .steps) before (nthOf (st .list)) n (λ i l. sym (nth-in (st .list) i (omega (arith, w .few)))) (omega (arith, w .few, w .room)) room
               ∙ ap₂ (λ (l : List Step) (k : ℕ). l ++ drop k before) (w .written) (sym (long w)),
         )
     go (wove.Written count s) (Bad q) w h e = absurd h

@@ -17,11 +17,11 @@ use Rattle.rules.proofs.Lists.{finished-closed, closed-finished}
 use Rattle.grid.specs.declared.Case.{Case}
 use Rattle.grid.specs.declared.refusal.Refusal.{Refusal}
 use Rattle.grid.specs.declared.refusal.Refusal.the-variants.{NoRoom}
-use Rattle.grid.specs.Cases.{gridOf, Valid}
+use Rattle.grid.specs.Cases.{mostSteps, gridOf, Valid}
 use Rattle.grid.specs.Refusals.{Failed}
 use Rattle.grid.proofs.Orders.{itself}
 use Rattle.observe.specs.Passes.{Started, Swept}
-use Rattle.following.specs.Following.{mostSteps, Starting, beginChecks, BegunAt, Begun, AppliedTo, Applied}
+use Rattle.following.specs.Following.{Starting, beginChecks, BegunAt, Begun, AppliedTo, Applied}
 use Rattle.following.specs.Replies.{EndedAt, SettledAt}
 use Rattle.following.specs.declared.Task.{Task}
 use Rattle.following.specs.declared.Standing.the-variants.{Good, Bad}

@@ -8,7 +8,7 @@ use Rattle.rules.specs.Steps.{Holds, Names}
 use Rattle.rules.specs.Weaving.{unlessSeen}
 use Rattle.grid.specs.declared.Case.{Case}
 use Rattle.grid.specs.declared.refusal.Refusal.the-variants.{AlreadyObserved}
-use Rattle.grid.specs.Cases.{gridOf, Valid}
+use Rattle.grid.specs.Cases.{mostSteps, gridOf, Valid}
 use Rattle.grid.specs.Refusals.{Check, check, Passed, Failed}
 use Rattle.following.specs.Lists.{Listed, listed, Pushed}
 use Rattle.following.specs.declared.Task.{Task}
@@ -29,10 +29,6 @@ checksAt Weave c k s x rest = check (Names (c .n) x) 7 k ∷ check (Out s (x .bu
 abbrev pub checksFrom : Task → Case → ℕ → ℕ → List Step → List Check → List Check
 checksFrom task c k s [] rest = rest
 checksFrom task c k s (x ∷ xs) rest = checksAt task c k s x (checksFrom task c (suc k) (add s (x .bus)) xs rest)
-
--- the most steps that a list may have
-abbrev pub mostSteps : ℕ
-mostSteps = 1024
 
 -- ---- one step
 

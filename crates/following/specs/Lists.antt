@@ -5,13 +5,9 @@ use mathlib.Core.Bool.{cond}
 use Prim.Native.Nat.{ℕ, suc, _-_, _<_}
 use lib.Dec.{ltb}
 use lib.ListN.{length, take, getD, set, replicate}
-use Rattle.step.specs.declared.Reason.the-variants.{OwnUnit}
+use Rattle.step.specs.Records.{noStep}
 use Rattle.step.specs.declared.Step.{Step}
 use Rattle.following.specs.declared.lists.StepList.{StepList}
-
--- what stands past the end of a list
-abbrev pub noStep : Step
-noStep = record { bus = 0; reason = OwnUnit }
 
 -- the steps of a list by value
 abbrev pub listed : StepList → List Step

@@ -1,11 +1,12 @@
 -- What replay and weaving promise.
 use mathlib.Core.Path.{_≡_}
-use mathlib.Core.List.{List, [], _∷_, _++_}
+use mathlib.Core.List.{List, [], _∷_}
 use mathlib.Core.Bool.{Bool}
-use Prim.Native.Nat.{ℕ, zero, suc, _≤_}
-use lib.ListN.{length, drop, set}
+use Prim.Native.Nat.{ℕ, _≤_}
+use lib.ListN.{length}
 use Rattle.busset.specs.Deciding.{Decides}
 use Rattle.busset.specs.Sets.{empty, setOf}
+use Rattle.step.specs.Records.{written, putFirst}
 use Rattle.step.specs.declared.Step.{Step}
 use Rattle.rules.specs.Steps.{reached, Finished}
 use Rattle.rules.specs.Weaving.{woven}
@@ -14,7 +15,6 @@ use Rattle.grid.specs.declared.refusal.Refusal.{Refusal}
 use Rattle.grid.specs.Cases.{gridOf}
 use Rattle.grid.specs.Refusals.{Check, check, Passed, Failed}
 use Rattle.following.specs.Lists.{nthOf}
-use Rattle.following.specs.declared.lists.StepList.{StepList}
 use Rattle.following.specs.Following.{checksFrom, beginChecks}
 use Rattle.following.specs.declared.Task.the-variants.{Replay, Weave}
 use Rattle.following.specs.declared.Standing.{Standing}
@@ -40,10 +40,6 @@ ReplayReply c xs (replayed.Refused r) = Failed (replayChecks c xs) r
 
 abbrev pub weaveChecks : Case → List Step → ℕ → List Check
 weaveChecks c xs room = beginChecks c (length xs) (checksFrom Weave c 1 empty xs (check (length (woven xs) ≤ room) 6 0 ∷ []))
-
--- the first records hold the woven list, and the others what they held
-abbrev pub written : List Step → List Step → List Step
-written xs before = xs ++ drop (length xs) before
 
 -- the count written and the set reached; a refusal leaves every record as it was
 abbrev pub WeaveReply : Case → List Step → List Step → List Step → Wove → Type 0
@@ -72,12 +68,7 @@ abbrev pub countOf : Wove → ℕ
 countOf (wove.Written count s) = count
 countOf (wove.Refused r) = 0
 
--- the records with the first k steps of l in their places
-abbrev pub putFirst : ℕ → StepList → List Step → List Step
-putFirst zero l before = before
-putFirst (suc k) l before = set (putFirst k l before) k (nthOf l k)
-
 -- what is put into the records: as many steps as the answer says
 pub record Put (st : Following) (before after : List Step) (r : Wove) : Type 0 where
   pub settled : SettledAt st (length before) r (st .standing)
-  pub records : after ≡ putFirst (countOf r) (st .list) before
+  pub records : after ≡ putFirst (countOf r) (nthOf (st .list)) before

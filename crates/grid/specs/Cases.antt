@@ -15,6 +15,9 @@ mostBuses = 64
 abbrev pub mostLines : ℕ
 mostLines = 256
 
+abbrev pub mostSteps : ℕ
+mostSteps = 1024
+
 -- ---- the view
 
 -- the neighbours of bus b: the rows stand in bus order, that of bus 1 first, and any other number has no neighbour

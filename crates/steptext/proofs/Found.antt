@@ -16,12 +16,12 @@ use Rattle.rules.specs.Steps.{Names, ReasonNames}
 use Rattle.record.specs.StepLine.{stepLineOf}
 use Rattle.record.specs.declared.steps.StepLine.{StepLine}
 use Rattle.record.specs.declared.steps.StepLine.the-variants.{Step as StepOf, End, Wrong}
-use Rattle.grid.specs.Cases.{mostBuses}
+use Rattle.grid.specs.Cases.{mostBuses, mostSteps}
 use Rattle.grid.specs.declared.refusal.Refusal.{Refusal}
 use Rattle.grid.specs.declared.refusal.Refusal.the-variants.{TextTooLong, OutOfRange, TooManySteps}
 use Rattle.reader.specs.Reading.{isBus}
 use Rattle.reader.proofs.Judged.{inside, apart}
-use Rattle.steptext.specs.Steps.{mostStepBytes, mostSteps, reasonInRange, stepInRange, ended, lineSaid, stepLines, readSteps, andSteps, stepsIn, stepsFrom, stepsOf, AllNamed}
+use Rattle.steptext.specs.Steps.{mostStepBytes, reasonInRange, stepInRange, ended, lineSaid, stepLines, readSteps, andSteps, stepsIn, stepsFrom, stepsOf, AllNamed}
 use Rattle.steptext.specs.declared.StepsRead.{StepsRead}
 use Rattle.steptext.specs.declared.StepsRead.the-variants.{Steps, Refused}
 
@@ -42,7 +42,7 @@ pub record Found (k n : ℕ) (xs : List Step) : Type 0 where
   pub few : n ≤ mostSteps
   pub named : AllNamed xs
 
-not-steps : {n : ℕ} (r : Refusal) → Refused r ≡ Steps n → ⊥
+pub not-steps : {n : ℕ} (r : Refusal) → Refused r ≡ Steps n → ⊥
 not-steps r e = apart (cc)
 
 found-end : (k n : ℕ) (m : List ℕ) (ms : List (List ℕ)) → 1 ≤ k → k ≤ mostSteps + 1 → ended k m ms ≡ Steps n → Found k n []

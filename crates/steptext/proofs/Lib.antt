@@ -1,4 +1,4 @@
 pub mod Stepping
 pub mod Found
-pub mod Listing
+pub mod Taking
 pub mod Refusing

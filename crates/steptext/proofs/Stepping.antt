@@ -15,8 +15,9 @@ use Rattle.step.specs.declared.Step.{Step}
 use Rattle.record.specs.StepLine.{stepLineOf}
 use Rattle.record.specs.declared.steps.StepLine.{StepLine}
 use Rattle.record.specs.declared.steps.StepLine.the-variants.{Step as StepOf}
+use Rattle.grid.specs.Cases.{mostSteps}
 use Rattle.grid.specs.declared.refusal.Refusal.the-variants.{TextTooLong, WrongForm, OutOfRange, TooManySteps}
-use Rattle.steptext.specs.Steps.{mostStepBytes, mostSteps, stepInRange, ended, lineSaid, stepLines, readSteps, andSteps, stepsIn, stepsFrom, StepHere}
+use Rattle.steptext.specs.Steps.{mostStepBytes, stepInRange, ended, lineSaid, stepLines, readSteps, andSteps, stepsIn, stepsFrom, StepHere}
 use Rattle.steptext.specs.declared.StepsRead.{StepsRead}
 use Rattle.steptext.specs.declared.StepsRead.the-variants.{Steps, Refused}
 

@@ -4,31 +4,28 @@ use mathlib.Core.List.{List, [], _∷_}
 use Prim.Native.Nat.{ℕ, _+_, _-_, _≤_, _<_}
 use mathlib.Core.Path.{_≡_}
 use lib.Dec.{ltb}
-use lib.ListN.{length, drop, replicate}
-use lib.Seq.{sets}
+use lib.ListN.{length, drop, getD}
 use Rattle.field.specs.Split.{split, lineFeed}
+use Rattle.step.specs.Records.{noStep, written}
 use Rattle.step.specs.declared.Reason.{Reason}
 use Rattle.step.specs.declared.Reason.the-variants.{OwnUnit, NeighbourOf, ZeroInjection}
 use Rattle.step.specs.declared.Step.{Step}
 use Rattle.record.specs.StepLine.{stepLineOf}
 use Rattle.record.specs.declared.steps.StepLine.{StepLine}
 use Rattle.record.specs.declared.steps.StepLine.the-variants.{Step as StepOf, End, Wrong}
-use Rattle.grid.specs.Cases.{mostBuses}
-use Rattle.grid.specs.declared.refusal.Refusal.the-variants.{TextTooLong, WrongForm, OutOfRange, TooManySteps}
+use Rattle.grid.specs.Cases.{mostBuses, mostSteps}
+use Rattle.grid.specs.declared.refusal.Refusal.the-variants.{TextTooLong, WrongForm, OutOfRange, NoRoom, TooManySteps}
 use Rattle.rules.specs.Steps.{Names}
 use Rattle.reader.specs.Reading.{isBus}
 use Rattle.steptext.specs.declared.StepsRead.{StepsRead}
 use Rattle.steptext.specs.declared.StepsRead.the-variants.{Steps, Refused}
-use Rattle.steptext.specs.declared.StepList.{StepList}
 use Rattle.steptext.specs.declared.NextStep.{NextStep}
 use Rattle.steptext.specs.declared.NextStep.the-variants.{At, Nothing}
+use Rattle.steptext.specs.declared.Taken.{Taken}
 
--- a step text has at most so many bytes, and so many steps
+-- a step text has at most so many bytes
 abbrev pub mostStepBytes : ℕ
 mostStepBytes = 16384
-
-abbrev pub mostSteps : ℕ
-mostSteps = 1024
 
 -- ---- one line
 
@@ -103,20 +100,27 @@ abbrev pub AllNamed : List Step → Type 0
 AllNamed [] = Unit {0}
 AllNamed (x ∷ xs) = Names mostBuses x × AllNamed xs
 
--- ---- the list
+-- ---- a step text read into lent records, which hold `before` and then `after`
 
--- the record that no step fills
-abbrev pub noStep : Step
-noStep = record { bus = 0; reason = OwnUnit }
+-- what is said where there is room for so many records: 6 comes last
+abbrev pub withRoom : ℕ → StepsRead → StepsRead
+withRoom room (Steps n) = cond (ltb room n) (Refused NoRoom) (Steps n)
+withRoom room (Refused q) = Refused q
 
--- a list of 1,024 records that begins with these steps
-unfoldable pub listed : List Step → List Step
-listed xs = sets (replicate mostSteps noStep) 0 xs
+-- what the records hold afterwards: the steps, and then what they held; a refusal leaves every record
+abbrev pub leaves : StepsRead → List Step → List Step → List Step
+leaves (Steps n) xs before = written xs before
+leaves (Refused q) xs before = before
 
--- what is said of a text, with its steps where it is good
-abbrev pub listFor : StepsRead → List Step → StepList
-listFor (Steps n) xs = record { answer = Steps n; steps = listed xs }
-listFor (Refused r) xs = record { answer = Refused r; steps = listed [] }
+abbrev pub StepsReadReply : List ℕ → List Step → List Step → StepsRead → Type 0
+StepsReadReply text before after r = (r ≡ withRoom (length before) (readSteps text)) × (after ≡ leaves r (stepsOf text) before)
 
-unfoldable pub listSteps : List ℕ → StepList
-listSteps text = listFor (readSteps text) (stepsOf text)
+-- how many records are written
+abbrev pub countOf : StepsRead → ℕ
+countOf (Steps n) = n
+countOf (Refused q) = 0
+
+-- the first step from index a on, and the next line's start: the other steps are those from there on
+pub record Takes (text : List ℕ) (a : ℕ) (r : Taken) : Type 0 where
+  pub step : r .step ≡ getD (stepsFrom text a) 0 noStep
+  pub rest : stepsFrom text (r .next) ≡ drop 1 (stepsFrom text a)

@@ -1,9 +1,9 @@
-// The step text, line after line: no list is stored.
+// The step text, line after line.
 ghost use mathlib.Core.Path.{_≡_};
 ghost use Prim.Native.Nat.{_+_, _≤_, _<_};
 ghost use lib.ListN.{length, drop};
 ghost use Rattle.field.specs.Split.{split};
-ghost use Rattle.steptext.specs.Steps.{reasonInRange, stepInRange, ended, readSteps, StepAt, stepsOf, listed, listSteps};
+ghost use Rattle.steptext.specs.Steps.{reasonInRange, stepInRange, ended, readSteps, StepAt, Takes, withRoom, countOf};
 use field::piece_end;
 use grid::Refusal;
 use reader::judging::is_bus;
@@ -21,6 +21,11 @@ pub enum StepsRead {
 pub enum NextStep {
     At(Step, usize),
     Nothing,
+}
+
+pub struct Taken {
+    pub step: Step,
+    pub next: usize,
 }
 
 fn reason_in_range(r: Reason) -> bool
@@ -105,49 +110,48 @@ pub fn step_at(text: &[u8], at: usize) -> NextStep
     }
 }
 
-// What reading a step text says, and its steps; the places after them, and all of them where the text is refused, hold bus 0.
-pub struct StepList {
-    pub answer: StepsRead,
-    pub steps: [Step; 1024],
-}
-
-// The n steps of a text, one after another.
-fn list_of(text: &[u8], n: usize) -> [Step; 1024]
-    requires { ⌜ (length (stepsOf (now text)) ≡ n) × (n ≤ 1024) ⌝ }
-    ensures { λ r. ⌜ r ≡ listed (stepsOf (now (text .entry))) ⌝ }
+// The first step from `at` on; where there is none, bus 0 and `at` itself.
+pub fn take(text: &[u8], at: usize) -> Taken
+    ensures { λ r. ⌜ Takes (now (text .entry)) at r ⌝ }
 {
-    let mut steps: [Step; 1024] = [Step {
-        bus: 0,
-        reason: Reason::OwnUnit,
-    }; 1024];
-    let mut at: usize = 0;
-    for i in 0..n {
-        match step_at(text, at) {
-            NextStep::At(x, e) => {
-                steps[i] = x;
-                at = e;
-            }
-            NextStep::Nothing => {
-                return steps;
-            }
-        }
+    let none = Taken {
+        step: Step {
+            bus: 0,
+            reason: Reason::OwnUnit,
+        },
+        next: at,
+    };
+    if text.len() < at {
+        return none;
     }
-    steps
+    match step_at(text, at) {
+        NextStep::At(step, next) => Taken { step, next },
+        NextStep::Nothing => none,
+    }
 }
 
-// The steps of a text, as a list.
-pub fn list_steps(text: &[u8]) -> StepList
-    ensures { λ r. ⌜ r ≡ listSteps (now (text .entry)) ⌝ }
+// How many steps a text has, where there is room for so many records.
+pub fn check_room(text: &[u8], room: usize) -> StepsRead
+    ensures { λ r. ⌜ r ≡ withRoom room (readSteps (now (text .entry))) ⌝ }
 {
     let answer = check_steps(text);
     match answer {
-        StepsRead::Steps(n) => StepList {
-            answer,
-            steps: list_of(text, n),
-        },
-        StepsRead::Refused(_) => StepList {
-            answer,
-            steps: list_of(b"", 0),
-        },
+        StepsRead::Steps(n) => {
+            if room < n {
+                return StepsRead::Refused(Refusal::NoRoom);
+            }
+            answer
+        }
+        StepsRead::Refused(_) => answer,
+    }
+}
+
+// How many records are written.
+pub fn count_of(r: StepsRead) -> usize
+    ensures { λ n. ⌜ n ≡ countOf r ⌝ }
+{
+    match r {
+        StepsRead::Steps(n) => n,
+        StepsRead::Refused(_) => 0,
     }
 }

@@ -1,14 +1,19 @@
 // Damages the texts in data/ in every way and prints, for each kind of damage, how many texts were tried, how many were good, how
-// many of those were written again byte for byte, and a sum over the answers.
+// many of those were written again byte for byte, and a sum over the answers. For step texts that are read into lent records it prints
+// in how many every record but the list's was as before, and the sum is over the records too.
 ghost use lib.ListN.{length};
 ghost use mathlib.Core.Path.{_≡_};
 ghost use Prim.Native.Nat.{_≤_};
 
+mod lending;
+mod records;
 mod splice;
 
 use grid::Refusal;
 use grid::refusal::number;
 use grid::refusal::place;
+use lending::Filled;
+use lending::read_first;
 use splice::Room;
 use splice::pad;
 use splice::spliced;
@@ -20,18 +25,25 @@ use wozgrzyt::texts::check_steps;
 use wozgrzyt::texts::read_case;
 use wozgrzyt::texts::write_case;
 
-// How many texts of a kind were tried, were good, were written again, and the sum; `steps` says which kind of text they are.
+// What is done with a text: a case is read and written again, steps are checked, or read into so many records.
+enum Kind {
+    Case,
+    Steps,
+    Records(usize),
+}
+
+// How many texts of a kind were tried, were good, were written again or left the other records, and the sum.
 struct Tally {
-    steps: bool,
+    kind: Kind,
     count: u64,
     good: u64,
     same: u64,
     sum: u64,
 }
 
-fn fresh(steps: bool) -> Tally {
+fn fresh(kind: Kind) -> Tally {
     Tally {
-        steps,
+        kind,
         count: 0,
         good: 0,
         same: 0,
@@ -68,12 +80,13 @@ fn is_written(case: Case, text: &[u8]) -> bool {
 }
 
 fn with_good(t: Tally, same: bool, code: u64) -> Tally {
+    let kind = t.kind;
     let mut again = t.same;
     if same {
         again = more(again);
     }
     Tally {
-        steps: t.steps,
+        kind,
         count: more(t.count),
         good: more(t.good),
         same: again,
@@ -82,8 +95,9 @@ fn with_good(t: Tally, same: bool, code: u64) -> Tally {
 }
 
 fn with_bad(t: Tally, r: Refusal) -> Tally {
+    let kind = t.kind;
     Tally {
-        steps: t.steps,
+        kind,
         count: more(t.count),
         good: t.good,
         same: t.same,
@@ -108,15 +122,45 @@ fn judge_steps(t: Tally, text: &[u8]) -> Tally {
     }
 }
 
+// With the records that were left, whose list ends at `from`.
+fn with_left(t: Tally, f: Filled, from: usize) -> Tally {
+    let kind = t.kind;
+    let mut same = t.same;
+    if records::kept(f, from) {
+        same = more(same);
+    }
+    Tally {
+        kind,
+        count: t.count,
+        good: t.good,
+        same,
+        sum: summed(t.sum, records::sum(f)),
+    }
+}
+
+fn judge_records(t: Tally, text: &[u8], room: usize) -> Tally {
+    if 1032 < room {
+        return t;
+    }
+    let f = read_first(text, records::filled(), room);
+    let answer = f.answer;
+    match answer {
+        StepsRead::Steps(n) => with_left(with_good(t, false, wide(n % 100000) * 100), f, n),
+        StepsRead::Refused(q) => with_left(with_bad(t, q), f, 0),
+    }
+}
+
 // The first n bytes of the room, judged.
 fn judge(t: Tally, room: &[u8], n: usize) -> Tally {
+    let kind = t.kind;
     if room.len() < n {
         return t;
     }
-    if t.steps {
-        return judge_steps(t, &room[0..n]);
+    match kind {
+        Kind::Case => judge_case(t, &room[0..n]),
+        Kind::Steps => judge_steps(t, &room[0..n]),
+        Kind::Records(k) => judge_records(t, &room[0..n], k),
     }
-    judge_case(t, &room[0..n])
 }
 
 fn say(name: &[u8], t: Tally) {
@@ -150,64 +194,64 @@ fn after(i: usize, drop: bool) -> usize
 }
 
 // At each byte: the byte dropped or not, and s put there.
-fn each_byte(name: &[u8], text: &[u8], steps: bool, drop: bool, s: &[u8])
+fn each_byte(name: &[u8], text: &[u8], kind: Kind, drop: bool, s: &[u8])
     requires { ⌜ length (now text) ≤ 16400 ⌝ }
 {
-    let mut t = fresh(steps);
+    let mut t = fresh(kind);
     for i in 0..text.len() + 1 {
         t = tried(t, text, i, after(i, drop), s, b"");
     }
     say(name, t);
 }
 
-fn each_doubled(text: &[u8], steps: bool)
+fn each_doubled(text: &[u8], kind: Kind)
     requires { ⌜ length (now text) ≤ 16400 ⌝ }
 {
-    let mut t = fresh(steps);
+    let mut t = fresh(kind);
     for i in 0..text.len() {
         t = tried(t, text, i, i, &text[i..i + 1], b"");
     }
     say(b"doubled", t);
 }
 
-fn each_cut(text: &[u8], steps: bool)
+fn each_cut(text: &[u8], kind: Kind)
     requires { ⌜ length (now text) ≤ 16400 ⌝ }
 {
-    let mut t = fresh(steps);
+    let mut t = fresh(kind);
     for i in 0..text.len() + 1 {
         t = tried(t, text, i, text.len(), b"", b"");
     }
     say(b"cut", t);
 }
 
-fn by_byte(text: &[u8], steps: bool)
+fn by_byte(text: &[u8], kind: Kind)
     requires { ⌜ length (now text) ≤ 16400 ⌝ }
 {
-    each_byte(b"removed", text, steps, true, b"");
-    each_doubled(text, steps);
-    by_change(text, steps);
-    by_insert(text, steps);
-    each_cut(text, steps);
+    each_byte(b"removed", text, kind, true, b"");
+    each_doubled(text, kind);
+    by_change(text, kind);
+    by_insert(text, kind);
+    each_cut(text, kind);
 }
 
-fn by_change(text: &[u8], steps: bool)
+fn by_change(text: &[u8], kind: Kind)
     requires { ⌜ length (now text) ≤ 16400 ⌝ }
 {
-    each_byte(b"changed", text, steps, true, b"\0");
-    each_byte(b"changed", text, steps, true, b"\n");
-    each_byte(b"changed", text, steps, true, b"0");
-    each_byte(b"changed", text, steps, true, b"9");
-    each_byte(b"changed", text, steps, true, b"\xff");
+    each_byte(b"changed", text, kind, true, b"\0");
+    each_byte(b"changed", text, kind, true, b"\n");
+    each_byte(b"changed", text, kind, true, b"0");
+    each_byte(b"changed", text, kind, true, b"9");
+    each_byte(b"changed", text, kind, true, b"\xff");
 }
 
-fn by_insert(text: &[u8], steps: bool)
+fn by_insert(text: &[u8], kind: Kind)
     requires { ⌜ length (now text) ≤ 16400 ⌝ }
 {
-    each_byte(b"inserted", text, steps, false, b"\t");
-    each_byte(b"inserted", text, steps, false, b"\n");
-    each_byte(b"inserted", text, steps, false, b"\r");
-    each_byte(b"inserted", text, steps, false, b"1");
-    each_byte(b"inserted", text, steps, false, b"\xc8");
+    each_byte(b"inserted", text, kind, false, b"\t");
+    each_byte(b"inserted", text, kind, false, b"\n");
+    each_byte(b"inserted", text, kind, false, b"\r");
+    each_byte(b"inserted", text, kind, false, b"1");
+    each_byte(b"inserted", text, kind, false, b"\xc8");
 }
 
 // The line at a, which ends at e, doubled, dropped, and swapped with the next, which ends at f.
@@ -219,10 +263,10 @@ fn one_line(t: Tally, text: &[u8], a: usize, e: usize, f: usize) -> Tally
     tried(dropped, text, a, f, &text[e..f], &text[a..e])
 }
 
-fn by_line(text: &[u8], steps: bool)
+fn by_line(text: &[u8], kind: Kind)
     requires { ⌜ length (now text) ≤ 16400 ⌝ }
 {
-    let mut t = fresh(steps);
+    let mut t = fresh(kind);
     let mut a: usize = 0;
     while a < text.len() {
         let e = splice::line_end(text, a);
@@ -233,10 +277,10 @@ fn by_line(text: &[u8], steps: bool)
     say(b"lines", t);
 }
 
-fn each_field(text: &[u8], steps: bool, word: &[u8])
+fn each_field(text: &[u8], kind: Kind, word: &[u8])
     requires { ⌜ length (now text) ≤ 16400 ⌝ }
 {
-    let mut t = fresh(steps);
+    let mut t = fresh(kind);
     let mut a: usize = 0;
     while a < text.len() {
         let e = splice::field_end(text, a);
@@ -246,43 +290,43 @@ fn each_field(text: &[u8], steps: bool, word: &[u8])
     say(b"field", t);
 }
 
-fn by_field(text: &[u8], steps: bool)
+fn by_field(text: &[u8], kind: Kind)
     requires { ⌜ length (now text) ≤ 16400 ⌝ }
 {
-    each_field(text, steps, b"");
-    each_field(text, steps, b"0");
-    each_field(text, steps, b"00");
-    each_field(text, steps, b"07");
-    each_field(text, steps, b"1");
-    each_field(text, steps, b"8");
-    each_field(text, steps, b"64");
-    by_number(text, steps);
-    by_word(text, steps);
+    each_field(text, kind, b"");
+    each_field(text, kind, b"0");
+    each_field(text, kind, b"00");
+    each_field(text, kind, b"07");
+    each_field(text, kind, b"1");
+    each_field(text, kind, b"8");
+    each_field(text, kind, b"64");
+    by_number(text, kind);
+    by_word(text, kind);
 }
 
-fn by_number(text: &[u8], steps: bool)
+fn by_number(text: &[u8], kind: Kind)
     requires { ⌜ length (now text) ≤ 16400 ⌝ }
 {
-    each_field(text, steps, b"65");
-    each_field(text, steps, b"256");
-    each_field(text, steps, b"9999");
-    each_field(text, steps, b"10000");
+    each_field(text, kind, b"65");
+    each_field(text, kind, b"256");
+    each_field(text, kind, b"9999");
+    each_field(text, kind, b"10000");
 }
 
-fn by_word(text: &[u8], steps: bool)
+fn by_word(text: &[u8], kind: Kind)
     requires { ⌜ length (now text) ≤ 16400 ⌝ }
 {
-    each_field(text, steps, b"+1");
-    each_field(text, steps, b"Z");
-    each_field(text, steps, b"N");
-    each_field(text, steps, b"end");
-    each_field(text, steps, b"line");
+    each_field(text, kind, b"+1");
+    each_field(text, kind, b"Z");
+    each_field(text, kind, b"N");
+    each_field(text, kind, b"end");
+    each_field(text, kind, b"line");
 }
 
-fn each_tail(text: &[u8], steps: bool)
+fn each_tail(text: &[u8], kind: Kind)
     requires { ⌜ length (now text) ≤ 16400 ⌝ }
 {
-    let mut t = fresh(steps);
+    let mut t = fresh(kind);
     for x in 0..=255u8 {
         t = tried(t, text, text.len(), text.len(), &[x], b"");
     }
@@ -296,30 +340,35 @@ fn padded(t: Tally, text: &[u8], limit: usize) -> Tally {
     judge(t, &room, m)
 }
 
-fn by_end(text: &[u8], steps: bool)
+// The most bytes that a text may have.
+fn limit_of(kind: Kind) -> usize
+    ensures { λ r. ⌜ r ≤ 16384 ⌝ }
+{
+    match kind {
+        Kind::Case => 8192,
+        Kind::Steps => 16384,
+        Kind::Records(_) => 16384,
+    }
+}
+
+fn by_end(text: &[u8], kind: Kind)
     requires { ⌜ length (now text) ≤ 16400 ⌝ }
 {
-    each_tail(text, steps);
-    if steps {
-        say(
-            b"limit",
-            padded(padded(fresh(steps), text, 16384), text, 16385),
-        );
-        return;
-    }
+    each_tail(text, kind);
+    let limit = limit_of(kind);
     say(
         b"limit",
-        padded(padded(fresh(steps), text, 8192), text, 8193),
+        padded(padded(fresh(kind), text, limit), text, limit + 1),
     );
 }
 
-fn all_kinds(text: &[u8], steps: bool)
+fn all_kinds(text: &[u8], kind: Kind)
     requires { ⌜ length (now text) ≤ 16400 ⌝ }
 {
-    by_byte(text, steps);
-    by_line(text, steps);
-    by_field(text, steps);
-    by_end(text, steps);
+    by_byte(text, kind);
+    by_line(text, kind);
+    by_field(text, kind);
+    by_end(text, kind);
 }
 
 // A file of data/, read into the room.
@@ -333,13 +382,13 @@ fn loaded(path: &[u8], room: &mut [u8]) -> usize {
     n
 }
 
-fn on_file(path: &[u8], steps: bool, whole: bool) {
+fn on_file(path: &[u8], kind: Kind, whole: bool) {
     let mut room: Room = [0; 16400];
     let n = loaded(path, &mut room);
-    on_text(&room, n, steps, whole);
+    on_text(&room, n, kind, whole);
 }
 
-fn on_text(room: &[u8], n: usize, steps: bool, whole: bool) {
+fn on_text(room: &[u8], n: usize, kind: Kind, whole: bool) {
     if room.len() < n {
         return;
     }
@@ -347,16 +396,35 @@ fn on_text(room: &[u8], n: usize, steps: bool, whole: bool) {
         return;
     }
     if whole {
-        all_kinds(&room[0..n], steps);
+        all_kinds(&room[0..n], kind);
         return;
     }
-    by_line(&room[0..n], steps);
+    by_line(&room[0..n], kind);
+}
+
+// The whole text, read into so many records.
+fn into_records(path: &[u8], count: usize) {
+    let mut room: Room = [0; 16400];
+    let n = loaded(path, &mut room);
+    say(b"whole", judge(fresh(Kind::Records(count)), &room, n));
 }
 
 fn main() {
-    on_file(b"seven.txt", false, true);
-    on_file(b"full.txt", false, true);
-    on_file(b"more.txt", false, false);
-    on_file(b"steps.txt", true, true);
-    on_file(b"many.txt", true, false);
+    on_file(b"seven.txt", Kind::Case, true);
+    on_file(b"full.txt", Kind::Case, true);
+    on_file(b"more.txt", Kind::Case, false);
+    on_file(b"steps.txt", Kind::Steps, true);
+    on_file(b"many.txt", Kind::Steps, false);
+    into_lent();
+}
+
+// A list of 5 steps and one of 1,024, each into room that is one short, exact and larger, and 1,025 steps.
+fn into_lent() {
+    on_file(b"steps.txt", Kind::Records(4), true);
+    on_file(b"steps.txt", Kind::Records(5), true);
+    on_file(b"steps.txt", Kind::Records(6), true);
+    into_records(b"most.txt", 1023);
+    into_records(b"most.txt", 1024);
+    into_records(b"most.txt", 1025);
+    into_records(b"many.txt", 1032);
 }

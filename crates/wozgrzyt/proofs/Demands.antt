@@ -19,10 +19,10 @@ use Rattle.rules.proofs.Lists.{accepted-names}
 use Rattle.rules.proofs.Reasons.{allowed-names}
 use Rattle.rules.proofs.Shuffles.{shuffle-each, weaving-shuffles}
 use Rattle.grid.specs.declared.Case.{Case}
-use Rattle.grid.specs.Cases.{gridOf, Valid}
+use Rattle.grid.specs.Cases.{mostSteps, gridOf, Valid}
 use Rattle.grid.specs.Refusals.{Check, check, Passed, Failed}
 use Rattle.grid.proofs.Orders.{failed-or-passed}
-use Rattle.following.specs.Following.{mostSteps, checksFrom}
+use Rattle.following.specs.Following.{checksFrom}
 use Rattle.following.specs.Replies.{replayChecks, ReplayReply, weaveChecks, WeaveReply}
 use Rattle.following.specs.declared.Task.the-variants.{Replay, Weave}
 use Rattle.following.specs.declared.Replayed.{Replayed}

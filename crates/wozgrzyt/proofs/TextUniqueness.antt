@@ -1,23 +1,23 @@
--- For each call on texts: two replies that meet its promise on one input, with the bytes they leave, are equal; and what a case read means.
+-- For each call on texts: two replies that meet its promise on one input, with the bytes or records they leave, are equal; and what a case read means.
 use mathlib.Core.Path.{_≡_, refl, sym, ap, _∙_}
 use mathlib.Core.List.{List, _++_}
 use Prim.Native.Nat.{ℕ, _≤_}
 use lib.ListN.{length, drop}
+use Rattle.step.specs.declared.Step.{Step}
 use Rattle.grid.specs.declared.Case.{Case}
-use Rattle.grid.specs.Cases.{Valid}
+use Rattle.grid.specs.Cases.{mostSteps, Valid}
 use Rattle.grid.proofs.Orders.{failed-unique, failed-or-passed}
 use Rattle.reader.specs.Reading.{mostBytes, got}
 use Rattle.reader.specs.Writing.{caseText}
 use Rattle.reader.specs.declared.CaseRead.{CaseRead}
 use Rattle.inverse.proofs.Inverse as inverse
-use Rattle.steptext.specs.Steps.{mostSteps, stepsOf, AllNamed}
-use Rattle.steptext.specs.declared.StepList.{StepList}
+use Rattle.steptext.specs.Steps.{stepsOf, AllNamed, leaves, StepsReadReply}
 use Rattle.steptext.specs.declared.StepsRead.{StepsRead}
 use Rattle.steptext.specs.declared.StepsRead.the-variants.{Steps}
 use Rattle.steptext.proofs.Found as found
 use Rattle.writer.specs.declared.Written.{Written}
 use Rattle.writer.specs.declared.Written.the-variants as written
-use Rattle.wozgrzyt.specs.TextReplies.{CaseReadReply, writeChecks, CaseWrittenReply, StepsCheckedReply, StepsListedReply}
+use Rattle.wozgrzyt.specs.TextReplies.{CaseReadReply, writeChecks, CaseWrittenReply, StepsCheckedReply}
 
 -- ---- uniqueness
 
@@ -45,8 +45,17 @@ case-written-unique c lent (written.Refused r) (written.Refused s) left right p 
 pub steps-checked-unique : (text : List ℕ) (a b : StepsRead) → StepsCheckedReply text a → StepsCheckedReply text b → a ≡ b
 steps-checked-unique text a b p q = p ∙ sym q
 
-pub steps-listed-unique : (text : List ℕ) (a b : StepList) → StepsListedReply text a → StepsListedReply text b → a ≡ b
-steps-listed-unique text a b p q = p ∙ sym q
+-- a reply to reading a step text, with the records that it leaves
+pub record ReadReply : Type 0 where
+  pub reply : StepsRead
+  pub left : List Step
+
+pub steps-read-unique : (text : List ℕ) (before : List Step) (a b : StepsRead) (left right : List Step) → StepsReadReply text before left a → StepsReadReply text before right b →
+    _≡_ {A = ReadReply} (record { reply = a; left = left }) (record { reply = b; left = right })
+steps-read-unique text before a b left right p q =
+    let e : a ≡ b = p .0 ∙ sym (q .0) in
+    let f : left ≡ right = p .1 ∙ ap (λ (r : StepsRead). leaves r (stepsOf text) before) e ∙ sym (q .1) in
+    λ i. record { reply = e i; left = f i }
 
 -- a step text that is found good has as many steps as it says
 pub steps-counted : (text : List ℕ) (n : ℕ) → StepsCheckedReply text (Steps n) → length (stepsOf text) ≡ n

@@ -3,13 +3,13 @@ use mathlib.Core.Path.{_≡_}
 use mathlib.Core.List.{List}
 use Prim.Native.Nat.{ℕ}
 use Rattle.busset.specs.Sets.{In, size, setOf}
+use Rattle.step.specs.Records.{written}
 use Rattle.step.specs.declared.Step.{Step}
 use Rattle.rules.specs.Observation.{Least}
 use Rattle.rules.specs.Steps.{reached, Accepted, Finished}
 use Rattle.rules.specs.Weaving.{woven, Some}
 use Rattle.grid.specs.declared.Case.{Case}
 use Rattle.grid.specs.Cases.{gridOf}
-use Rattle.following.specs.Replies.{written}
 use Rattle.following.specs.declared.Wove.{Wove}
 use Rattle.following.specs.declared.Wove.the-variants as wove
 

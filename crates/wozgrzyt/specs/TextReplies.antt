@@ -9,8 +9,7 @@ use Rattle.grid.specs.Refusals.{Check, check, Passed, Failed}
 use Rattle.reader.specs.Reading.{readCase}
 use Rattle.reader.specs.Writing.{caseText}
 use Rattle.reader.specs.declared.CaseRead.{CaseRead}
-use Rattle.steptext.specs.Steps.{readSteps, listSteps}
-use Rattle.steptext.specs.declared.StepList.{StepList}
+use Rattle.steptext.specs.Steps.{readSteps}
 use Rattle.steptext.specs.declared.StepsRead.{StepsRead}
 use Rattle.writer.specs.declared.Written.{Written}
 use Rattle.writer.specs.declared.Written.the-variants as written
@@ -35,8 +34,3 @@ CaseWrittenReply c lent (written.Refused r) left = Failed (writeChecks c lent) r
 
 abbrev pub StepsCheckedReply : List ℕ → StepsRead → Type 0
 StepsCheckedReply text r = r ≡ readSteps text
-
--- ---- a step text read as a list: the same answer, and its steps where it is good
-
-abbrev pub StepsListedReply : List ℕ → StepList → Type 0
-StepsListedReply text r = r ≡ listSteps text

@@ -1,10 +1,10 @@
 // The texts: a case text read and written, a step text checked, read and replayed.
-ghost use Rattle.wozgrzyt.specs.TextReplies.{CaseReadReply, CaseWrittenReply, StepsCheckedReply, StepsListedReply};
+ghost use Rattle.wozgrzyt.specs.TextReplies.{CaseReadReply, CaseWrittenReply, StepsCheckedReply};
+pub use desks::texts::read_steps;
 use grid::Case;
 use grid::Refusal;
 pub use reader::CaseRead;
 pub use reader::ReadAnswer;
-pub use steptext::StepList;
 pub use steptext::StepsRead;
 pub use textreplay::TextReplayed;
 pub use textreplay::replay_text;
@@ -36,11 +36,4 @@ pub fn check_steps(text: &[u8]) -> StepsRead
     ensures { λ r. ⌜ StepsCheckedReply (now (text .entry)) r ⌝ }
 {
     steptext::check_steps(text)
-}
-
-// The steps of a step text, as a list.
-pub fn list_steps(text: &[u8]) -> StepList
-    ensures { λ r. ⌜ StepsListedReply (now (text .entry)) r ⌝ }
-{
-    steptext::list_steps(text)
 }

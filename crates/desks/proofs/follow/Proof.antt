@@ -40,8 +40,8 @@ use denote.Triple.Spec.{Meets, tripleOf}
 use denote.Triple.Table.{entered, cited}
 use denote.Triple.Walked.{says, Stays, stay-none, stay-dropped, walkOf, goes-none, goes-dropped, ends-at}
 use denote.Exit.{yes}
-use Rattle.following.specs.Lists.{noStep}
 use Rattle.following.specs.Following.{Applied, Follows, none, next}
+use Rattle.step.specs.Records.{noStep}
 use Rattle.step.specs.declared.Step.{Step}
 use Rattle.following.specs.declared.Following.{Following}
 use Rattle.step.proofs.Sizes.{bytes, offset-fits}

@@ -6,10 +6,10 @@ use Rattle.try_texts.proofs.by_line.Statement.{statement}
 use Rattle.try_texts.proofs.by_line.Tie as tie
 
 abbrev Inv-loop : tie.InvT-loop
-Inv-loop text steps t₀ a₀ t7 t a = a ≤ length text
+Inv-loop text t₀ a₀ t7 t a = a ≤ length text
 
 abbrev μ-loop : tie.MeasureT-loop
-μ-loop text steps t₀ a₀ t7 t a = length text - a
+μ-loop text t₀ a₀ t7 t a = length text - a
 
 fresh-requires : tie.Need-fresh-requires Inv-loop μ-loop
 fresh-requires c κs = search needs

@@ -6,10 +6,10 @@ use Rattle.try_texts.proofs.each_byte.Statement.{statement}
 use Rattle.try_texts.proofs.each_byte.Tie as tie
 
 abbrev Inv-loop : tie.InvT-loop
-Inv-loop name text steps drop s t₀ i₀ t8 i-end t i = (i ≤ i-end) × (i-end ≡ length text + 1)
+Inv-loop name text drop s t₀ i₀ t8 i-end t i = (i ≤ i-end) × (i-end ≡ length text + 1)
 
 abbrev μ-loop : tie.MeasureT-loop
-μ-loop name text steps drop s t₀ i₀ t8 i-end t i = i-end - i
+μ-loop name text drop s t₀ i₀ t8 i-end t i = i-end - i
 
 fresh-requires : tie.Need-fresh-requires Inv-loop μ-loop
 fresh-requires c κs = search needs

@@ -5,10 +5,10 @@ use Rattle.try_texts.proofs.each_field.Statement.{statement}
 use Rattle.try_texts.proofs.each_field.Tie as tie
 
 abbrev Inv-loop : tie.InvT-loop
-Inv-loop text steps word t₀ a₀ t7 t8 t a = a ≤ length text + 1
+Inv-loop text word t₀ a₀ t7 t8 t a = a ≤ length text + 1
 
 abbrev μ-loop : tie.MeasureT-loop
-μ-loop text steps word t₀ a₀ t7 t8 t a = length text + 1 - a
+μ-loop text word t₀ a₀ t7 t8 t a = length text + 1 - a
 
 fresh-requires : tie.Need-fresh-requires Inv-loop μ-loop
 fresh-requires c κs = search needs

@@ -4,10 +4,10 @@ use Rattle.try_texts.proofs.each_tail.Statement.{statement}
 use Rattle.try_texts.proofs.each_tail.Tie as tie
 
 abbrev Inv-loop : tie.InvT-loop
-Inv-loop text steps t₀ x₀ t5 t6 t x = x ≤ 255
+Inv-loop text t₀ x₀ t5 t6 t x = x ≤ 255
 
 abbrev μ-loop : tie.MeasureT-loop
-μ-loop text steps t₀ x₀ t5 t6 t x = 256 - x
+μ-loop text t₀ x₀ t5 t6 t x = 256 - x
 
 fresh-requires : tie.Need-fresh-requires Inv-loop μ-loop
 fresh-requires c κs = search needs

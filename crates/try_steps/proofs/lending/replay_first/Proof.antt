@@ -40,6 +40,7 @@ use denote.Triple.Walked.{says, needs, Stays, stay-none, walkOf, goes-none, Walk
 use denote.Exit.{yes}
 use borrow.Rule.Array.Share.{room-take}
 use Rattle.step.specs.declared.Step.{Step}
+use Rattle.step.proofs.Parted.{Steps, machs, mach, stepsTy, First, Others, Shared, first-long, both-long, parted, joined, to-share, of-share}
 use Rattle.step.proofs.Step as T
 use Rattle.step.proofs.Step.Laws as T′
 use Rattle.grid.specs.declared.Case.{Case}
@@ -54,7 +55,6 @@ use Rattle.desks.proofs.replay as replay
 use Rattle.desks.proofs.replay.Symbol as replay-def
 use Rattle.desks.proofs.replay.Symbol.{name as #desks·replay}
 use Rattle.desks.proofs.replay.Met as replay-thm
-use Rattle.try_steps.proofs.Parted.{Steps, machs, mach, stepsTy, First, Others, Shared, first-long, both-long, parted, joined, to-share, of-share}
 use Rattle.try_steps.proofs.lending.replay_first.Key.{name as #replay-first}
 use Rattle.try_steps.proofs.lending.replay_first as f
 use Rattle.try_steps.proofs.lending.replay_first.Statement as stated

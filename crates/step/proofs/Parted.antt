@@ -72,21 +72,6 @@ first-long n k xs e l = length-take-le k xs (subst (λ (m : ℕ). k ≤ m) (sym 
 
 pub new-long : (n k : ℕ) (xs ys : List Step) → length xs ≡ n → length ys ≡ length (take k xs) → length (ys ++ after k xs) ≡ n
 new-long n k xs ys e l = same-len k xs ys l ∙ e
-
--- the first steps, and the others, of two lists side by side
-take-app : (xs ys : List Step) → take (length xs) (xs ++ ys) ≡ xs
-take-app [] ys = refl
-take-app (x ∷ xs) ys = ap (λ (zs : List Step). x ∷ zs) (take-app xs ys)
-
-after-app : (xs ys : List Step) → after (length xs) (xs ++ ys) ≡ ys
-after-app [] ys = refl
-after-app (x ∷ xs) ys = after-app xs ys
-
-pub first-of : (k : ℕ) (xs ys : List Step) → length xs ≡ k → take k (xs ++ ys) ≡ xs
-first-of k xs ys e = subst (λ (m : ℕ). take m (xs ++ ys) ≡ xs) e (take-app xs ys)
-
-pub others-of : (k : ℕ) (xs ys : List Step) → length xs ≡ k → after k (xs ++ ys) ≡ ys
-others-of k xs ys e = subst (λ (m : ℕ). after m (xs ++ ys) ≡ ys) e (after-app xs ys)
 
 -- the fact of an array is the fact of a struct's field that holds it
 each-field : (xs : List Step) (us : List Val) → shadow (each Step (T.the-row .own) xs us) → shadow (each (T.the-field .row .Denot) (T.the-field .row .own) (map (T.the-field .into) xs) us)

@@ -1,0 +1,31 @@
+use Rattle.steptext.proofs.Taking.{room-short, room-enough, room-refused}
+use borrow.Author.Needs.{needs}
+use Rattle.steptext.proofs.check_room.Statement.{statement}
+use Rattle.steptext.proofs.check_room.Tie as tie
+
+check-steps-requires : tie.Need-check-steps-requires
+check-steps-requires c κs = search needs
+
+enum-known-answer : tie.Need-enum-known-answer
+enum-known-answer c = search needs
+
+returns : tie.Need-returns
+returns c =
+    let at-answer = c .before .before in
+    room-short _ (at-answer .before .before .check-steps .ensures) (at-answer .answer .given .1) (c .if1 .taken)
+
+enum-told : tie.Need-enum-told
+enum-told c = search needs
+
+returns-2 : tie.Need-returns-2
+returns-2 c =
+    let at-answer = c .before .before in
+    room-enough _ (at-answer .before .before .check-steps .ensures) (at-answer .answer .given .1) (c .if1 .left)
+
+returns-3 : tie.Need-returns-3
+returns-3 c = room-refused _ (c .before .before .check-steps .ensures) (c .enum-told .given .1)
+
+pub check-room-spec : {M : Type 1} → statement M
+check-room-spec =
+    tie.close
+    (tie.spec check-steps-requires enum-known-answer returns enum-told returns-2 returns-3)
