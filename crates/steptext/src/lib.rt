@@ -18,14 +18,15 @@ pub enum StepsRead {
 }
 
 // A step, and where the line after it starts.
-pub enum NextStep {
-    At(Step, usize),
-    Nothing,
-}
-
 pub struct Taken {
     pub step: Step,
     pub next: usize,
+}
+
+// The same, or that there is none.
+pub enum NextStep {
+    At(Step, usize),
+    Nothing,
 }
 
 fn reason_in_range(r: Reason) -> bool
