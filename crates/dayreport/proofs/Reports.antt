@@ -24,7 +24,8 @@ use Rattle.grid.specs.Refusals.{placeOf}
 use Rattle.grid.specs.declared.Case.{Case}
 use Rattle.grid.specs.declared.refusal.Refusal.{Refusal}
 use Rattle.following.specs.Deriving.{Derives}
-use Rattle.following.specs.Lists.{noStep, listed, listOf}
+use Rattle.step.specs.Records.{noStep}
+use Rattle.following.specs.Lists.{listed, listOf}
 use Rattle.following.specs.declared.lists.StepList.{StepList}
 use Rattle.reader.specs.Reading.{got, readCase}
 use Rattle.reader.specs.declared.CaseRead.{CaseRead}

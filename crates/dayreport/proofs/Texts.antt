@@ -14,7 +14,8 @@ use Rattle.field.specs.Split.{join, bytes, lineFeed}
 use Rattle.field.specs.Number.{numberText}
 use Rattle.field.proofs.Digits.{text-length, text-two}
 use Rattle.record.specs.StepLine.{stepText}
-use Rattle.following.specs.Lists.{noStep, nthOf, listed}
+use Rattle.step.specs.Records.{noStep}
+use Rattle.following.specs.Lists.{nthOf, listed}
 use Rattle.following.specs.declared.lists.StepList.{StepList}
 use Rattle.following.proofs.Listing.{nth-in}
 use Rattle.writer.specs.Put.{Put}

@@ -10,7 +10,8 @@ use Rattle.grid.specs.declared.Case.{Case}
 use Rattle.grid.specs.declared.refusal.Refusal.{Refusal}
 use Rattle.grid.specs.Refusals.{placeOf}
 use Rattle.grid.proofs.Orders.{PlacesBy, failed-place}
-use Rattle.following.specs.Following.{checksFrom, mostSteps}
+use Rattle.grid.specs.Cases.{mostSteps}
+use Rattle.following.specs.Following.{checksFrom}
 use Rattle.following.specs.Replies.{ReplayReply}
 use Rattle.following.specs.declared.Task.the-variants.{Replay}
 use Rattle.following.specs.declared.Replayed.the-variants as replayed

@@ -15,7 +15,8 @@ use Rattle.record.specs.declared.steps.StepLine.the-variants.{Step as StepOf, E
 use Rattle.grid.specs.declared.refusal.Refusal.{Refusal}
 use Rattle.grid.specs.declared.refusal.Refusal.the-variants.{TextTooLong, OutOfRange, TooManySteps}
 use Rattle.grid.specs.Refusals.{placeOf}
-use Rattle.steptext.specs.Steps.{mostStepBytes, mostSteps, stepInRange, ended, lineSaid, stepLines, readSteps}
+use Rattle.grid.specs.Cases.{mostSteps}
+use Rattle.steptext.specs.Steps.{mostStepBytes, stepInRange, ended, lineSaid, stepLines, readSteps}
 use Rattle.steptext.specs.declared.StepsRead.{StepsRead}
 use Rattle.steptext.specs.declared.StepsRead.the-variants.{Steps, Refused}
 
