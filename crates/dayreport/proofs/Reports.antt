@@ -1,5 +1,5 @@
 -- The report of a case that was read: its derivation as a list by value, the text that it asks for, and what is said where reading refuses.
-use mathlib.Core.Path.{_≡_, refl, sym, ap, _∙_, subst, subst⁻¹}
+use mathlib.Core.Path.{_≡_, sym, ap, _∙_, subst, subst⁻¹}
 use mathlib.Core.List.{List, [], _∷_, _++_}
 use Prim.Native.Nat.{ℕ, _+_, _-_, _≤_, _<_}
 use native.Mathlib.Omega.{arith}
@@ -27,7 +27,7 @@ use Rattle.following.specs.Deriving.{Derives}
 use Rattle.step.specs.Records.{noStep}
 use Rattle.following.specs.Lists.{listed, listOf}
 use Rattle.following.specs.declared.lists.StepList.{StepList}
-use Rattle.reader.specs.Reading.{got, readCase}
+use Rattle.reader.specs.Reading.{readCase}
 use Rattle.reader.specs.declared.CaseRead.{CaseRead}
 use Rattle.reader.specs.declared.ReadAnswer.{ReadAnswer}
 use Rattle.reader.specs.declared.ReadAnswer.the-variants.{Read, Refused}

@@ -1,5 +1,4 @@
 // The day report of a case text.
-ghost use mathlib.Core.Path.{_≡_};
 ghost use Prim.Native.Nat.{_≤_};
 ghost use Rattle.busset.specs.Sets.{width};
 ghost use Rattle.grid.specs.Cases.{Valid};

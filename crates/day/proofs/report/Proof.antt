@@ -1,6 +1,6 @@
 use mathlib.Core.Path.{subst}
 use native.Mathlib.Omega.{arith}
-use Rattle.writer.specs.Printing.{NotPrinted, PrintedReply}
+use Rattle.writer.specs.Printing.{PrintedReply}
 use Rattle.dayreport.specs.Day.{Day}
 use Rattle.dayreport.proofs.Days.{day-fits}
 use borrow.Author.Needs.{needs}
