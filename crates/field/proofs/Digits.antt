@@ -174,8 +174,9 @@ digits-length (suc k) n =
 pub text-length : (n : ℕ) → length (numberText n) ≤ 4
 text-length n = digits-length 3 n
 
-pub text-short : (n : ℕ) → n < 100 → length (numberText n) ≤ 2
-text-short n h =
+-- two of them below a hundred
+pub text-two : (n : ℕ) → n < 100 → length (numberText n) ≤ 2
+text-two n h =
     ⊎-elim
     (λ (s : n < 10). rw (text-few n s) (omega arith))
     (λ (l : 10 ≤ n). rw (text-many n l (omega arith), text-few (n / 10) (omega arith)) (omega arith))

@@ -11,7 +11,7 @@ use Rattle.rules.specs.Placing.{Fewest}
 use Rattle.rules.specs.Grids.{Grid}
 use Rattle.rules.proofs.Blocks.{size-placed}
 use Rattle.field.specs.Split.{join}
-use Rattle.field.proofs.Digits.{text-few, text-short}
+use Rattle.field.proofs.Digits.{text-few, text-two}
 use Rattle.record.specs.Record.{recordText}
 use Rattle.record.specs.declared.Record.{Record}
 use Rattle.record.specs.declared.Record.the-variants.{Pmu}
@@ -29,7 +29,7 @@ use Rattle.planreport.proofs.Inputs.{plan-valid}
 one-line : (t : Bool) (k : ℕ) (rs : List Record) → k < 100 → length (linesText rs) ≤ 7 * length rs →
     length (linesText (cond t (Pmu k ∷ rs) rs)) ≤ 7 * length (cond t (Pmu k ∷ rs) rs)
 unfolding linesText recordText join
-one-line true k rs h p = simp length-append (omega (arith, text-short k h))
+one-line true k rs h p = simp length-append (omega (arith, text-two k h))
 one-line false k rs h p = p
 
 unit-lines : (s k m : ℕ) → k + m ≤ 100 → length (linesText (members Pmu s k m)) ≤ 7 * length (members Pmu s k m)
