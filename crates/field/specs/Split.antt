@@ -8,9 +8,11 @@ use Prim.Native.String.{String}
 use lib.ListN.{length, take, drop}
 use lib.Dec.{eqb, ltb}
 
+-- what parts the fields of a line
 abbrev pub tab : ℕ
 tab = 9
 
+-- what ends a line
 abbrev pub lineFeed : ℕ
 lineFeed = 10
 

@@ -46,6 +46,7 @@ pub record Taken (c : Case) (st : Following) (x : Step) (r : Following) : Type 0
   pub written : listed (r .list) ≡ listed (st .list) ++ unlessSeen (bit (setOf (st .set)) (x .bus)) x []
   pub list : Listed (r .list) (size (setOf (r .set)))
 
+-- by where the list stands after the step x: it is taken, or refused for the first check that fails
 abbrev pub TakenOr : Case → Following → Step → Following → Standing → Type 0
 TakenOr c st x r Good = Taken c st x r
 TakenOr c st x r (Bad q) = Failed (checksAt (st .task) c (suc (st .read)) (setOf (st .set)) x []) q
@@ -61,6 +62,7 @@ abbrev pub AppliedTo : Case → Following → Step → Following → Standing �
 AppliedTo c st x r Good = Ready c st → Further c st x r
 AppliedTo c st x r (Bad q) = r .standing ≡ Bad q
 
+-- the next step x, by where the list stands before it
 abbrev pub Applied : Case → Following → Step → Following → Type 0
 Applied c st x r = AppliedTo c st x r (st .standing)
 
@@ -97,15 +99,18 @@ pub record Grown (st : Following) (k : ℕ) (x : Step) (r : Following) : Type 0 
 
 -- ---- a list, step by step
 
+-- the steps, one after another, lead from where a list stands to where it stands last
 pub data Follows (c : Case) : Following → List Step → Following → Type 0 where
   none : {st : Following} → Follows c st [] st
   next : {st r last : Following} {x : Step} {xs : List Step} → Applied c st x r → Follows c r xs last → Follows c st (x ∷ xs) last
 
 -- ---- where it begins
 
+-- 5, then 12, and then the rest
 abbrev pub beginChecks : Case → ℕ → List Check → List Check
 beginChecks c count rest = check (Valid c) 5 0 ∷ check (count ≤ mostSteps) 12 0 ∷ rest
 
+-- by where the list stands: nothing is read yet, or it is refused
 abbrev pub BegunAt : Case → ℕ → Following → Standing → Type 0
 BegunAt c count r Good = Passed (beginChecks c count []) × (setOf (r .set) ≡ empty) × (r .read ≡ 0) × Listed (r .list) 0
 BegunAt c count r (Bad q) = Failed (beginChecks c count []) q

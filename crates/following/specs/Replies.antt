@@ -27,6 +27,7 @@ use Rattle.following.specs.declared.Wove.the-variants as wove
 
 -- ---- replay
 
+-- 5, 12, then 7, 8, 9 at the first bad step
 abbrev pub replayChecks : Case → List Step → List Check
 replayChecks c xs = beginChecks c (length xs) (checksFrom Replay c 1 empty xs [])
 
@@ -38,6 +39,7 @@ ReplayReply c xs (replayed.Refused r) = Failed (replayChecks c xs) r
 
 -- ---- weaving, into records that hold `before` and then `after`
 
+-- 5, 12, then 7, 9 at the first bad step, then 6
 abbrev pub weaveChecks : Case → List Step → ℕ → List Check
 weaveChecks c xs room = beginChecks c (length xs) (checksFrom Weave c 1 empty xs (check (length (woven xs) ≤ room) 6 0 ∷ []))
 

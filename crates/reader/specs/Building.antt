@@ -34,10 +34,11 @@ nextMarks m (Pmu p) = record { zero = m .zero; site = m .site; units = hold (m .
 nextMarks m End = m
 nextMarks m Wrong = m
 
--- no line; no class Z, site Y or unit
+-- no line
 abbrev pub noRows : List ℕ
 noRows = replicate 64 0
 
+-- no class Z, site Y or unit
 abbrev pub noMarks : Marks
 noMarks = record { zero = 0; site = 0; units = 0 }
 

@@ -101,9 +101,11 @@ pub record Reader : Type 0 where
   pub rows : List ℕ
   pub marks : Marks
 
+-- nothing is read yet
 abbrev pub start : Reader
 start = record { place = record { n = 0; bus = 0; a = 0; b = 0; lines = 0; unit = 0 }; rows = noRows; marks = noMarks }
 
+-- what has been read after one record more
 abbrev pub next : Reader → Record → Reader
 next s r = record { place = nextPlace (s .place) r; rows = nextRows (s .rows) r; marks = nextMarks (s .marks) r }
 

@@ -26,34 +26,41 @@ wordOf f =
 
 -- ---- the fields of each record
 
+-- `grid n`
 abbrev pub gridOf : Numeral → Record
 gridOf (Is n) = Grid n
 gridOf NoNumber = Wrong
 
+-- `pmu number`
 abbrev pub pmuOf : Numeral → Record
 pmuOf (Is n) = Pmu n
 pmuOf NoNumber = Wrong
 
+-- `line a b`
 abbrev pub lineOf : Numeral → Numeral → Record
 lineOf (Is a) (Is b) = Line a b
 lineOf (Is a) NoNumber = Wrong
 lineOf NoNumber b = Wrong
 
+-- `bus number class site`
 abbrev pub busOf : Numeral → Mark → Mark → Record
 busOf (Is n) (Letter zero) (Letter site) = Bus n zero site
 busOf (Is n) (Letter zero) Neither = Wrong
 busOf (Is n) Neither site = Wrong
 busOf NoNumber class site = Wrong
 
+-- the two fields of `line`
 unfoldable pub lineFields : List (List ℕ) → Record
 lineFields [] = Wrong
 lineFields (a ∷ fs) = lineOf (numberOf a) (oneNumber fs)
 
+-- the three fields of `bus`
 unfoldable pub busFields : List (List ℕ) → Record
 busFields [] = Wrong
 busFields (n ∷ []) = Wrong
 busFields (n ∷ class ∷ fs) = busOf (numberOf n) (classOf class) (oneSite fs)
 
+-- `end`, which no field follows
 abbrev pub noFields : List (List ℕ) → Record
 noFields = none Wrong End
 

@@ -59,6 +59,7 @@ byLetter Neighbour fs = neighbourOf (oneNumber fs)
 byLetter Zero fs = zeroOf (oneNumber fs)
 byLetter Other fs = NoReason
 
+-- the fields after the bus
 unfoldable pub reasonFields : List (List ℕ) → Given
 reasonFields [] = NoReason
 reasonFields (f ∷ fs) = byLetter (letterOf f) fs
@@ -69,10 +70,12 @@ stepOf (Number b) (By reason) = Step (record { bus = b; reason = reason })
 stepOf (Number b) NoReason = Wrong
 stepOf NoNumber given = Wrong
 
+-- the fields after `step`
 unfoldable pub stepFields : List (List ℕ) → StepLine
 stepFields [] = Wrong
 stepFields (b ∷ fs) = stepOf (numberOf b) (reasonFields fs)
 
+-- `end`, which no field follows
 abbrev pub endFields : List (List ℕ) → StepLine
 endFields = none Wrong End
 

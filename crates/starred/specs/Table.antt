@@ -49,6 +49,7 @@ caseOf d = record { n = d .n; nbr = rowsFrom 1 64 (d .lines); zero = wordOf (d .
 
 -- ---- a row
 
+-- a question, and its answer
 pub data Row : Type 0 where
   -- the buses that are observed
   observes : Drawing → List ℕ → Row
@@ -98,6 +99,7 @@ path = record { n = 5; lines = (1, 2) ∷ (2, 3) ∷ (3, 4) ∷ (4, 5) ∷ []; z
 
 -- ---- the table
 
+-- every starred grid of document 01
 abbrev pub table : List Row
 table =
     observes (seven []) []

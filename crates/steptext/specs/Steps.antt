@@ -91,6 +91,7 @@ pub record StepHere (text : List ℕ) (a : ℕ) (x : Step) (e : ℕ) : Type 0 wh
   pub later : a < e
   pub high : e ≤ length text
 
+-- by whether there is one
 abbrev pub StepAt : List ℕ → ℕ → NextStep → Type 0
 StepAt text a (At x e) = StepHere text a x e
 StepAt text a Nothing = stepsFrom text a ≡ []
@@ -112,6 +113,7 @@ abbrev pub leaves : StepsRead → List Step → List Step → List Step
 leaves (Steps n) xs before = written xs before
 leaves (Refused q) xs before = before
 
+-- the reply, and what every record lent holds afterwards
 abbrev pub StepsReadReply : List ℕ → List Step → List Step → StepsRead → Type 0
 StepsReadReply text before after r = (r ≡ withRoom (length before) (readSteps text)) × (after ≡ leaves r (stepsOf text) before)
 

@@ -11,6 +11,7 @@ use Rattle.wozgrzyt.specs.declared.steps.DerivationAnswer.{DerivationAns
 use Rattle.wozgrzyt.specs.declared.steps.DerivationAnswer.the-variants.{Found, Refused}
 use Rattle.wozgrzyt.specs.declared.steps.Derived.{Derived}
 
+-- the case is valid, or 5
 abbrev pub derivationChecks : Case → List Check
 derivationChecks c = check (Valid c) 5 0 ∷ []
 
@@ -19,5 +20,6 @@ abbrev pub DerivationAt : Case → StepList → DerivationAnswer → Type 0
 DerivationAt c l Found = Passed (derivationChecks c) × Derives (gridOf c) l
 DerivationAt c l (Refused r) = Failed (derivationChecks c) r × (l ≡ listOf [])
 
+-- the answer, and the list beside it
 abbrev pub DerivationReply : Case → Derived → Type 0
 DerivationReply c r = DerivationAt c (r .list) (r .answer)

@@ -19,6 +19,7 @@ use Rattle.wozgrzyt.specs.declared.siting.Fewest.the-variants as fewest
 
 -- ---- cross-validation
 
+-- the case is valid, or 5
 abbrev pub verdictChecks : Case → List Check
 verdictChecks c = check (Valid c) 5 0 ∷ []
 
@@ -33,6 +34,7 @@ VerdictReply c (verdict.Refused r) = Failed (verdictChecks c) r
 abbrev pub HasRoom : Case → ℕ → List ℕ → Type 0
 HasRoom c budget room = (xs : List ℕ) → choosing.Greedy (gridOf c) budget xs → length xs ≤ length room
 
+-- 5; the budget is at most 64, or 10; the answer has room, or 6
 abbrev pub greedyChecks : Case → ℕ → List ℕ → List Check
 greedyChecks c budget room = check (Valid c) 5 0 ∷ check (budget ≤ 64) 10 0 ∷ check (HasRoom c budget room) 6 0 ∷ []
 
@@ -43,12 +45,14 @@ pub record GreedyWritten (c : Case) (budget : ℕ) (entry exit : List ℕ) (k : 
   pub count : k ≡ length list
   pub written : exit ≡ list ++ drop k entry
 
+-- the sites added; a refusal leaves all of the room as it was
 abbrev pub GreedyReply : Case → ℕ → List ℕ → List ℕ → Greedy → Type 0
 GreedyReply c budget entry exit (greedy.Added k) = Passed (greedyChecks c budget entry) × GreedyWritten c budget entry exit k
 GreedyReply c budget entry exit (greedy.Refused r) = Failed (greedyChecks c budget entry) r × (exit ≡ entry)
 
 -- ---- the fewest
 
+-- 5; the budget is at most 8, or 10; some addition within it covers, or 11
 abbrev pub fewestChecks : Case → ℕ → List Check
 fewestChecks c budget = check (Valid c) 5 0 ∷ check (budget ≤ 8) 10 0 ∷ check (placing.SomePlan (gridOf c) budget) 11 0 ∷ []
 

@@ -16,11 +16,13 @@ use Rattle.writer.specs.declared.Written.the-variants as written
 
 -- ---- a case text read: 1, then the first bad line, in it 2, 3, 4
 
+-- the case that the text says, or its refusal
 abbrev pub CaseReadReply : List ℕ → CaseRead → Type 0
 CaseReadReply text r = r ≡ readCase text
 
 -- ---- a case text written into the bytes lent
 
+-- the case is valid, or 5; its text has room, or 6
 abbrev pub writeChecks : Case → List ℕ → List Check
 writeChecks c lent = check (Valid c) 5 0 ∷ check (length (caseText c) ≤ length lent) 6 0 ∷ []
 
@@ -32,5 +34,6 @@ CaseWrittenReply c lent (written.Refused r) left = Failed (writeChecks c lent) r
 
 -- ---- a step text checked: 1, then the first bad line, in it 2, 3, 12
 
+-- how many steps the text has, or its refusal
 abbrev pub StepsCheckedReply : List ℕ → StepsRead → Type 0
 StepsCheckedReply text r = r ≡ readSteps text
