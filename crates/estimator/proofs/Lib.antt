@@ -1,4 +1,3 @@
 pub mod Bounds
 pub mod Filling
 pub mod Replying
-pub mod Uniqueness

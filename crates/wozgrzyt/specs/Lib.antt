@@ -2,4 +2,3 @@ pub mod Replies
 pub mod ListReplies
 pub mod SitingReplies
 pub mod TextReplies
-pub mod Demands

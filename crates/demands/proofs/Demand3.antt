@@ -29,9 +29,9 @@ use Rattle.following.specs.declared.Replayed.{Replayed}
 use Rattle.following.specs.declared.Replayed.the-variants as replayed
 use Rattle.following.specs.declared.Wove.{Wove}
 use Rattle.following.specs.declared.Wove.the-variants as wove
 use Rattle.wozgrzyt.specs.declared.Figured.the-variants as figured
 use Rattle.wozgrzyt.specs.Replies.{stated, FigureReply}
-use Rattle.wozgrzyt.specs.Demands.{Demand3}
+use Rattle.demands.specs.Demand3.{Demand3}
 
 -- ---- demand 2: a list is accepted exactly when each step is allowed where it stands
 

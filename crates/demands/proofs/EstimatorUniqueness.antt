@@ -10,12 +10,12 @@ use Rattle.reader.specs.declared.ReadAnswer.the-variants as read
 use Rattle.textreplay.specs.Replying.{TextReplayReply}
 use Rattle.wozgrzyt.specs.Replies.{ObservedReply}
 use Rattle.wozgrzyt.specs.SitingReplies.{VerdictReply, FewestReply}
-use Rattle.wozgrzyt.proofs.Uniqueness.{observed-unique}
-use Rattle.wozgrzyt.proofs.SitingUniqueness.{verdict-unique, fewest-unique}
-use Rattle.wozgrzyt.proofs.ListUniqueness.{text-replay-unique}
+use Rattle.demands.proofs.Uniqueness.{observed-unique}
+use Rattle.demands.proofs.SitingUniqueness.{verdict-unique, fewest-unique}
+use Rattle.demands.proofs.ListUniqueness.{text-replay-unique}
 use Rattle.estimator.specs.Answers.{ofObserved, ofVerdict, ofFewest, ofReplay, Said, ObservedFor, UnconfirmedFor, FewestFor, ReplayFor, OfRead, OfText}
 use Rattle.estimator.specs.Results.{resultOf, leftBy, Answered}
 use Rattle.estimator.specs.declared.answers.Answer.{Answer}
 
 -- P says one answer
 abbrev Unique : (Answer → Type 0) → Type 0

@@ -1,0 +1,79 @@
+-- The first check that fails: it is one, it is the refusal that a promise names, and demand 1 follows from it.
+use mathlib.Core.Path.{_≡_, refl, sym, _∙_, subst, subst⁻¹}
+use mathlib.Core.List.{List, [], _∷_}
+use mathlib.Core.Logic.{_⊎_, inl, inr}
+use Prim.Native.Nat.{ℕ}
+use Rattle.grid.specs.Refusals.{numberOf, placeOf, Is, Check, Passed, Failed}
+use Rattle.grid.specs.declared.refusal.Refusal.{Refusal}
+use Rattle.demands.specs.Order.{InOrder, FirstFails}
+use Rattle.demands.specs.Demand1.{Refuses, Demand1}
+
+-- ---- the first check that fails
+
+-- it has one number and one place
+pub first-unique : (qs : List Check) (n p m o : ℕ) → FirstFails qs n p → FirstFails qs m o → (n ≡ m) × (p ≡ o)
+first-unique (q ∷ qs) n p m o (inl a) (inl b) = (sym (a .1) ∙ b .1, sym (a .2) ∙ b .2)
+first-unique (q ∷ qs) n p m o (inl a) (inr b) = absurd (a .0 (b .0))
+first-unique (q ∷ qs) n p m o (inr a) (inl b) = absurd (b .0 (a .0))
+first-unique (q ∷ qs) n p m o (inr a) (inr b) = first-unique qs n p m o (a .1) (b .1)
+
+-- there is none where all pass
+pub first-or-passed : (qs : List Check) (n p : ℕ) → FirstFails qs n p → Passed qs → ⊥
+first-or-passed (q ∷ qs) n p (inl a) h = a .0 (h .0)
+first-or-passed (q ∷ qs) n p (inr a) h = first-or-passed qs n p (a .1) (h .1)
+
+-- it is the refusal that a promise names
+pub failed-first : (qs : List Check) (r : Refusal) → Failed qs r → FirstFails qs (numberOf r) (placeOf r)
+failed-first (q ∷ qs) r (inl a) = inl (a .0, sym (a .1 .numbered), sym (a .1 .placed))
+failed-first (q ∷ qs) r (inr a) = inr (a .0, failed-first qs r (a .1))
+
+-- ---- demand 1
+
+-- how a call's checks end: all pass and the reply is no refusal, or the reply is that of the first that fails, and of no other
+abbrev pub Ends : List Check → (ℕ → ℕ → Type 0) → Type 0
+Ends checks Refused =
+    (Passed checks × ((n p : ℕ) → Refused n p → ⊥))
+    ⊎ ((n : ℕ) × (p : ℕ) × FirstFails checks n p × Refused n p × ((m o : ℕ) → Refused m o → (n ≡ m) × (p ≡ o)))
+
+-- where the checks end so, are in order and a refusal leaves what is lent, the demand is met
+pub met : {M : Type 0} {before after : M} (checks : List Check) (Refused : ℕ → ℕ → Type 0) → InOrder checks → ((n p : ℕ) → Refused n p → after ≡ before) → Ends checks Refused
+    → Demand1 checks Refused before after
+met checks Refused order kept (inl a) = record {
+  order = order;
+  replies = inl (a .0);
+  given = λ n p h. absurd (a .1 n p h);
+  due = λ n p f. absurd (first-or-passed checks n p f (a .0));
+  kept = kept;
+}
+met checks Refused order kept (inr (n, p, f, h, one)) = record {
+  order = order;
+  replies = inr (n, p, f);
+  given = λ m o k. let e = one m o k in subst (λ (y : ℕ). FirstFails checks m y) (e .1) (subst (λ (x : ℕ). FirstFails checks x p) (e .0) f);
+  due = λ m o g. let e = first-unique checks n p m o f g in subst (λ (y : ℕ). Refused m y) (e .1) (subst (λ (x : ℕ). Refused x p) (e .0) h);
+  kept = kept;
+}
+
+-- ---- a call whose reply is an answer or a refusal
+
+-- a refusal's promise is that the first check that fails gives it and what is lent stays; any other reply's, that all pass
+pub record Promised {R M : Type 0} (P : R → Type 0) (checks : List Check) (refused : Refusal → R) (before after : M) : Type 0 where
+  pub fails : (q : Refusal) → P (refused q) → Failed checks q × (after ≡ before)
+  pub cases : (r : R) → P r → Passed checks ⊎ ((q : Refusal) × (r ≡ refused q))
+
+refused-first : {R M : Type 0} {P : R → Type 0} {checks : List Check} {refused : Refusal → R} {before after : M} → Promised P checks refused before after
+    → (r : R) → P r → (n p : ℕ) → Refuses refused r n p → FirstFails checks n p × (after ≡ before)
+refused-first {P = P} {checks = checks} w r h n p (q, e, i) =
+    let f = w .fails q (subst P e h) in
+    (subst (λ (y : ℕ). FirstFails checks n y) (i .placed) (subst (λ (x : ℕ). FirstFails checks x (placeOf q)) (i .numbered) (failed-first checks q (f .0))), f .1)
+
+pub reply-meets : {R M : Type 0} {P : R → Type 0} {checks : List Check} {refused : Refusal → R} {before after : M} → InOrder checks → Promised P checks refused before after
+    → (r : R) → P r → Demand1 checks (Refuses refused r) before after
+reply-meets {P = P} {checks = checks} {refused = refused} order w r h =
+    met checks (Refuses refused r) order (λ n p k. refused-first w r h n p k .1) (go (w .cases r h))
+  where
+    go : Passed checks ⊎ ((q : Refusal) × (r ≡ refused q)) → Ends checks (Refuses refused r)
+    go (inl a) = inl (a, λ n p k. first-or-passed checks n p (refused-first w r h n p k .0) a)
+    go (inr (q, e)) =
+        let k : Refuses refused r (numberOf q) (placeOf q) = (q, e, record { numbered = refl; placed = refl }) in
+        let f = refused-first w r h (numberOf q) (placeOf q) k .0 in
+        inr (numberOf q, placeOf q, f, k, λ m o j. first-unique checks (numberOf q) (placeOf q) m o f (refused-first w r h m o j .0))

@@ -1,0 +1,12 @@
+pub mod Uniqueness
+pub mod ListUniqueness
+pub mod SitingUniqueness
+pub mod TextUniqueness
+pub mod ReportUniqueness
+pub mod EstimatorUniqueness
+pub mod Demand3
+pub mod Firsts
+pub mod Turns
+pub mod Judging
+pub mod CaseTexts
+pub mod StepTexts

@@ -1,0 +1,34 @@
+-- Demand 1: each entry checks for itself, refuses only for the reasons in document 01's table, and a refusal leaves the lent memory unaltered.
+use mathlib.Core.Path.{_≡_}
+use mathlib.Core.List.{List}
+use mathlib.Core.Logic.{_⊎_}
+use Prim.Native.Nat.{ℕ, _+_, _*_, _≤_, _<_}
+use Rattle.grid.specs.Refusals.{Is, Check, Passed}
+use Rattle.grid.specs.declared.refusal.Refusal.{Refusal}
+use Rattle.demands.specs.Order.{InOrder, FirstFails}
+
+-- ---- a reply that refuses
+
+-- the reply is the refusal with this number and this place
+abbrev pub Refuses : {R : Type 0} → (Refusal → R) → R → ℕ → ℕ → Type 0
+Refuses refused reply number place = (q : Refusal) × (reply ≡ refused q) × Is number place q
+
+-- a C function's result is 100 times the place plus the refusal number
+pub record Coded (result number place : ℕ) : Type 0 where
+  pub is : result ≡ 100 * place + number
+  pub some : 1 ≤ number
+  pub most : number < 100
+
+-- ---- the demand
+
+-- of a reply: what the call checks, when the reply is a refusal with a number and a place, and what is lent, before and after
+pub record Demand1 {M : Type 0} (checks : List Check) (Refused : ℕ → ℕ → Type 0) (before after : M) : Type 0 where
+  -- the table's rows are tried in the document's order
+  pub order : InOrder checks
+  -- every input is refused by the first row that applies, or no row applies
+  pub replies : Passed checks ⊎ ((number : ℕ) × (place : ℕ) × FirstFails checks number place)
+  -- a refusal is given exactly when its row is the first that applies
+  pub given : (number place : ℕ) → Refused number place → FirstFails checks number place
+  pub due : (number place : ℕ) → FirstFails checks number place → Refused number place
+  -- and leaves the lent memory unaltered
+  pub kept : (number place : ℕ) → Refused number place → after ≡ before

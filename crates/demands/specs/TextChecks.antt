@@ -1,0 +1,114 @@
+-- What reading a text checks, line after line.
+use mathlib.Core.Path.{_≡_}
+use mathlib.Core.Bool.{Bool, true, false}
+use mathlib.Core.List.{List, [], _∷_, _++_}
+use Prim.Native.Nat.{ℕ, _+_, _≤_}
+use lib.ListN.{length}
+use Rattle.field.specs.Split.{split, lineFeed}
+use Rattle.field.specs.declared.Numeral.{Numeral}
+use Rattle.field.specs.declared.Numeral.the-variants as numeral
+use Rattle.record.specs.Record.{recordOf}
+use Rattle.record.specs.StepLine.{stepLineOf}
+use Rattle.record.specs.declared.Record.{Record}
+use Rattle.record.specs.declared.Record.the-variants.{Grid, Bus, Line, Pmu, End, Wrong}
+use Rattle.record.specs.declared.steps.StepLine.{StepLine}
+use Rattle.record.specs.declared.steps.StepLine.the-variants as line
+use Rattle.grid.specs.Cases.{mostSteps}
+use Rattle.grid.specs.Refusals.{Check, check}
+use Rattle.reader.specs.Reading.{mostBytes, inPlace, inRange, inOrder, Reader, start, next}
+use Rattle.steptext.specs.Steps.{mostStepBytes, stepInRange}
+use Rattle.planreport.specs.Plan.{budgetOf}
+
+-- nothing follows `end`
+abbrev pub NothingFollows : List ℕ → List (List ℕ) → Type 0
+NothingFollows [] [] = Unit {0}
+NothingFollows [] (m ∷ ms) = ⊥
+NothingFollows (b ∷ l) ms = ⊥
+
+-- ---- a case text
+
+-- after `end` this, after another record that
+abbrev pub afterRecord : Record → List Check → List Check → List Check
+afterRecord (Grid n) end on = on
+afterRecord (Bus k zero site) end on = on
+afterRecord (Line a b) end on = on
+afterRecord (Pmu p) end on = on
+afterRecord End end on = end
+afterRecord Wrong end on = on
+
+-- line k, where the reader stands so, and the pieces after its line feed: it has one, and its record may stand here, or 2; 3; 4; then the lines after it
+abbrev pub lineChecks : Reader → ℕ → List ℕ → List (List ℕ) → List Check
+lineChecks s k l [] = check ⊥ 2 k ∷ []
+lineChecks s k l (m ∷ ms) =
+    check (inPlace (s .place) (recordOf l) ≡ true) 2 k
+    ∷ check (inRange (s .place) (recordOf l) ≡ true) 3 k
+    ∷ check (inOrder (s .place) (recordOf l) ≡ true) 4 k
+    ∷ afterRecord (recordOf l) (check (NothingFollows m ms) 2 (k + 1) ∷ []) (lineChecks (next s (recordOf l)) (k + 1) m ms)
+
+-- a text whose first line is line k
+abbrev pub linesFrom : ℕ → List ℕ → List Check
+linesFrom k text = lineChecks start k (split lineFeed text .first) (split lineFeed text .rest)
+
+-- 1, then the first bad line
+abbrev pub caseChecks : List ℕ → List Check
+caseChecks text = check (length text ≤ mostBytes) 1 0 ∷ linesFrom 1 text
+
+-- ---- a step text
+
+-- or 2: the line is a step or `end`
+abbrev pub isFormed : StepLine → Bool
+isFormed (line.Step x) = true
+isFormed line.End = true
+isFormed line.Wrong = false
+
+-- or 3: a step's numbers are 1 to 64
+abbrev pub isRanged : StepLine → Bool
+isRanged (line.Step x) = stepInRange x
+isRanged line.End = true
+isRanged line.Wrong = true
+
+-- or 12: step k is at most the 1,024th
+abbrev pub HasTurn : StepLine → ℕ → Type 0
+HasTurn (line.Step x) k = k ≤ mostSteps
+HasTurn line.End k = Unit {0}
+HasTurn line.Wrong k = Unit {0}
+
+-- after `end` this, after a step that
+abbrev pub afterStep : StepLine → List Check → List Check → List Check
+afterStep (line.Step x) end on = on
+afterStep line.End end on = end
+afterStep line.Wrong end on = on
+
+-- line k and the pieces after its line feed: 2, 3, 12, then the lines after it
+abbrev pub stepLineChecks : ℕ → List ℕ → List (List ℕ) → List Check
+stepLineChecks k l [] = check ⊥ 2 k ∷ []
+stepLineChecks k l (m ∷ ms) =
+    check (isFormed (stepLineOf l) ≡ true) 2 k
+    ∷ check (isRanged (stepLineOf l) ≡ true) 3 k
+    ∷ check (HasTurn (stepLineOf l) k) 12 k
+    ∷ afterStep (stepLineOf l) (check (NothingFollows m ms) 2 (k + 1) ∷ []) (stepLineChecks (k + 1) m ms)
+
+-- 1, then the first bad line
+abbrev pub stepTextChecks : List ℕ → List Check
+stepTextChecks text = check (length text ≤ mostStepBytes) 1 0 ∷ stepLineChecks 1 (split lineFeed text .first) (split lineFeed text .rest)
+
+-- a step text read beside a case text: 50 added to each number
+abbrev pub withFifty : List Check → List Check
+withFifty [] = []
+withFifty (q ∷ qs) = check (q .wants) (q .number + 50) (q .place) ∷ withFifty qs
+
+-- ---- the planning program's input
+
+-- a budget
+abbrev pub IsNumber : Numeral → Type 0
+IsNumber (numeral.Is budget) = Unit {0}
+IsNumber numeral.Wrong = ⊥
+
+-- the plan line, or 2 at line 1, and then the case text's lines, which count from 2
+abbrev pub planLineChecks : List ℕ → List (List ℕ) → List Check
+planLineChecks l [] = check ⊥ 2 1 ∷ []
+planLineChecks l (m ∷ ms) = check (IsNumber (budgetOf l)) 2 1 ∷ lineChecks start 2 m ms
+
+-- 1 for the whole input, then the first bad line
+abbrev pub inputChecks : List ℕ → List Check
+inputChecks input = check (length input ≤ mostBytes) 1 0 ∷ planLineChecks (split lineFeed input .first) (split lineFeed input .rest)

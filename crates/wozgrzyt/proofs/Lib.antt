@@ -1,6 +1,0 @@
-pub mod Uniqueness
-pub mod ListUniqueness
-pub mod SitingUniqueness
-pub mod TextUniqueness
-pub mod ReportUniqueness
-pub mod Demands
