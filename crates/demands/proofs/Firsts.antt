@@ -1,10 +1,11 @@
 -- The first check that fails: it is one, it is the refusal that a promise names, and demand 1 follows from it.
 use mathlib.Core.Path.{_≡_, refl, sym, _∙_, subst, subst⁻¹}
-use mathlib.Core.List.{List, [], _∷_}
+use mathlib.Core.List.{List, [], _∷_, _++_}
 use mathlib.Core.Logic.{_⊎_, inl, inr}
 use Prim.Native.Nat.{ℕ}
 use Rattle.grid.specs.Refusals.{numberOf, placeOf, Is, Check, Passed, Failed}
 use Rattle.grid.specs.declared.refusal.Refusal.{Refusal}
+use Rattle.grid.proofs.Orders.{itself}
 use Rattle.demands.specs.Order.{InOrder, FirstFails}
 use Rattle.demands.specs.Demand1.{Refuses, Demand1}
 
@@ -55,25 +56,44 @@ met checks Refused order kept (inr (n, p, f, h, one)) = record {
 
 -- ---- a call whose reply is an answer or a refusal
 
--- a refusal's promise is that the first check that fails gives it and what is lent stays; any other reply's, that all pass
-pub record Promised {R M : Type 0} (P : R → Type 0) (checks : List Check) (refused : Refusal → R) (before after : M) : Type 0 where
-  pub fails : (q : Refusal) → P (refused q) → Failed checks q × (after ≡ before)
-  pub cases : (r : R) → P r → Passed checks ⊎ ((q : Refusal) × (r ≡ refused q))
-
-refused-first : {R M : Type 0} {P : R → Type 0} {checks : List Check} {refused : Refusal → R} {before after : M} → Promised P checks refused before after
-    → (r : R) → P r → (n p : ℕ) → Refuses refused r n p → FirstFails checks n p × (after ≡ before)
-refused-first {P = P} {checks = checks} w r h n p (q, e, i) =
-    let f = w .fails q (subst P e h) in
-    (subst (λ (y : ℕ). FirstFails checks n y) (i .placed) (subst (λ (x : ℕ). FirstFails checks x (placeOf q)) (i .numbered) (failed-first checks q (f .0))), f .1)
-
-pub reply-meets : {R M : Type 0} {P : R → Type 0} {checks : List Check} {refused : Refusal → R} {before after : M} → InOrder checks → Promised P checks refused before after
+-- a refusal's promise is that the first check that fails gives it, and that what is lent stays; any other reply's, that all pass
+pub reply-meets : {R M : Type 0} {before after : M} (P : R → Type 0) (checks : List Check) (refused : Refusal → R) → InOrder checks
+    → ((q : Refusal) → P (refused q) → Failed checks q × (after ≡ before)) → ((r : R) → P r → Passed checks ⊎ ((q : Refusal) × (r ≡ refused q)))
     → (r : R) → P r → Demand1 checks (Refuses refused r) before after
-reply-meets {P = P} {checks = checks} {refused = refused} order w r h =
-    met checks (Refuses refused r) order (λ n p k. refused-first w r h n p k .1) (go (w .cases r h))
+reply-meets {before = before} {after = after} P checks refused order fails cases r h =
+    met checks (Refuses refused r) order (λ n p k. first n p k .1) (go (cases r h))
   where
+    first : (n p : ℕ) → Refuses refused r n p → FirstFails checks n p × (after ≡ before)
+    first n p (q, e, i) =
+        let f = fails q (subst P e h) in
+        (subst (λ (y : ℕ). FirstFails checks n y) (i .placed) (subst (λ (x : ℕ). FirstFails checks x (placeOf q)) (i .numbered) (failed-first checks q (f .0))), f .1)
+
     go : Passed checks ⊎ ((q : Refusal) × (r ≡ refused q)) → Ends checks (Refuses refused r)
-    go (inl a) = inl (a, λ n p k. first-or-passed checks n p (refused-first w r h n p k .0) a)
+    go (inl a) = inl (a, λ n p k. first-or-passed checks n p (first n p k .0) a)
     go (inr (q, e)) =
-        let k : Refuses refused r (numberOf q) (placeOf q) = (q, e, record { numbered = refl; placed = refl }) in
-        let f = refused-first w r h (numberOf q) (placeOf q) k .0 in
-        inr (numberOf q, placeOf q, f, k, λ m o j. first-unique checks (numberOf q) (placeOf q) m o f (refused-first w r h m o j .0))
+        let k : Refuses refused r (numberOf q) (placeOf q) = (q, e, itself q) in
+        let f = first (numberOf q) (placeOf q) k .0 in
+        inr (numberOf q, placeOf q, f, k, λ m o j. first-unique checks (numberOf q) (placeOf q) m o f (first m o j .0))
+
+-- ---- one list of checks after another
+
+passed-then : (ps qs : List Check) → Passed ps → Passed qs → Passed (ps ++ qs)
+passed-then [] qs a b = b
+passed-then (p ∷ ps) qs a b = (a .0, passed-then ps qs (a .1) b)
+
+first-later : (ps qs : List Check) (n k : ℕ) → Passed ps → FirstFails qs n k → FirstFails (ps ++ qs) n k
+first-later [] qs n k a f = f
+first-later (p ∷ ps) qs n k a f = inr (a .0, first-later ps qs n k (a .1) f)
+
+first-sooner : (ps qs : List Check) (n k : ℕ) → FirstFails ps n k → FirstFails (ps ++ qs) n k
+first-sooner (p ∷ ps) qs n k (inl f) = inl f
+first-sooner (p ∷ ps) qs n k (inr f) = inr (f .0, first-sooner ps qs n k (f .1))
+
+-- the first list passes, and the second ends so
+pub ends-later : (ps qs : List Check) (Refused : ℕ → ℕ → Type 0) → Passed ps → Ends qs Refused → Ends (ps ++ qs) Refused
+ends-later ps qs Refused a (inl b) = inl (passed-then ps qs a (b .0), b .1)
+ends-later ps qs Refused a (inr (n, k, f, h, one)) = inr (n, k, first-later ps qs n k a f, h, one)
+
+-- the first list ends with a refusal
+pub ends-sooner : (ps qs : List Check) (Refused : ℕ → ℕ → Type 0) (n k : ℕ) → FirstFails ps n k → Refused n k → ((m o : ℕ) → Refused m o → (n ≡ m) × (k ≡ o)) → Ends (ps ++ qs) Refused
+ends-sooner ps qs Refused n k f h one = inr (n, k, first-sooner ps qs n k f, h, one)

@@ -10,3 +10,4 @@ pub mod Turns
 pub mod Judging
 pub mod CaseTexts
 pub mod StepTexts
+pub mod Demand1

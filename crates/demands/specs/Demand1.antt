@@ -3,8 +3,11 @@ use mathlib.Core.Path.{_≡_}
 use mathlib.Core.List.{List}
 use mathlib.Core.Logic.{_⊎_}
 use Prim.Native.Nat.{ℕ, _+_, _*_, _≤_, _<_}
-use Rattle.grid.specs.Refusals.{Is, Check, Passed}
+use Rattle.grid.specs.Refusals.{numberOf, placeOf, Is, Check, Passed, Failed}
 use Rattle.grid.specs.declared.refusal.Refusal.{Refusal}
+use Rattle.textreplay.specs.declared.TextReplayed.{TextReplayed}
+use Rattle.textreplay.specs.declared.TextReplayed.the-variants as told
+use Rattle.writer.specs.Printing.{RefusedText}
 use Rattle.demands.specs.Order.{InOrder, FirstFails}
 
 -- ---- a reply that refuses
@@ -12,6 +15,17 @@ use Rattle.demands.specs.Order.{InOrder, FirstFails}
 -- the reply is the refusal with this number and this place
 abbrev pub Refuses : {R : Type 0} → (Refusal → R) → R → ℕ → ℕ → Type 0
 Refuses refused reply number place = (q : Refusal) × (reply ≡ refused q) × Is number place q
+
+-- a refusal of a step text that is read beside a case: it has 50 added
+pub record Unread (q : Refusal) (number place : ℕ) : Type 0 where
+  pub numbered : numberOf q + 50 ≡ number
+  pub placed : placeOf q ≡ place
+
+-- what a step text replayed says, with the number and the place of its refusal
+abbrev pub TextRefuses : TextReplayed → ℕ → ℕ → Type 0
+TextRefuses (told.Reached s finished) number place = ⊥
+TextRefuses (told.Refused q) number place = Is number place q
+TextRefuses (told.Unread q) number place = Unread q number place
 
 -- a C function's result is 100 times the place plus the refusal number
 pub record Coded (result number place : ℕ) : Type 0 where
@@ -32,3 +46,10 @@ pub record Demand1 {M : Type 0} (checks : List Check) (Refused : ℕ → ℕ →
   pub due : (number place : ℕ) → FirstFails checks number place → Refused number place
   -- and leaves the lent memory unaltered
   pub kept : (number place : ℕ) → Refused number place → after ≡ before
+
+-- of what a program prints: the report where no row applies, and only the refusal's line where one does
+pub record DemandPrinted (checks : List Check) (Report : Type 0) (t : List ℕ) : Type 0 where
+  pub order : InOrder checks
+  pub replies : Passed checks ⊎ ((q : Refusal) × Failed checks q)
+  pub report : Passed checks → Report
+  pub refused : (q : Refusal) → Failed checks q → RefusedText q t
