@@ -14,7 +14,7 @@ use Rattle.grid.proofs.Orders.{itself}
 use Rattle.reader.specs.Reading.{mostBytes, inPlace, inRange, inOrder, accepted, verdict, Reader, start, next, caseOf, got, refused, closed, said, readLines, readText, readCase}
 use Rattle.reader.specs.declared.CaseRead.{CaseRead}
 use Rattle.reader.specs.declared.Verdict.{Verdict}
-use Rattle.reader.specs.declared.Verdict.the-variants.{Next, Last, Form, Range, Order}
+use Rattle.reader.specs.declared.Verdict.the-variants.{Form, Range, Order}
 use Rattle.demands.proofs.Judging.{SaidBy, good, passing, failing, within-limit}
 use Rattle.demands.specs.TextChecks.{NothingFollows, afterRecord, lineChecks, linesFrom, caseChecks}
 

@@ -1,130 +1,74 @@
--- Demand 1, of each public call: its checks are in document 01's order, a refusal is given exactly when its row is the first that applies, and leaves what is lent as it was.
--- That every input gets a reply, and that the call ends, is what each call's contract says: none has a requirement, and a proved function returns.
-use mathlib.Core.Path.{_≡_, refl}
-use mathlib.Core.List.{List, [], _∷_}
-use mathlib.Core.Logic.{_⊎_, inl, inr}
-use Prim.Native.Nat.{ℕ}
-use lib.Dec.{lit<}
-use lib.ListN.{length}
-use Rattle.step.specs.declared.Step.{Step}
-use Rattle.grid.specs.declared.Case.{Case}
-use Rattle.grid.specs.declared.refusal.Refusal.{Refusal}
-use Rattle.grid.specs.Refusals.{Check, Passed}
-use Rattle.following.specs.Lists.{listOf}
-use Rattle.following.specs.Replies.{replayChecks, ReplayReply, weaveChecks, WeaveReply}
-use Rattle.following.specs.declared.lists.StepList.{StepList}
-use Rattle.following.specs.declared.Replayed.{Replayed}
-use Rattle.following.specs.declared.Replayed.the-variants as replayed
-use Rattle.following.specs.declared.Wove.{Wove}
-use Rattle.following.specs.declared.Wove.the-variants as wove
-use Rattle.writer.specs.declared.Written.{Written}
-use Rattle.writer.specs.declared.Written.the-variants as written
-use Rattle.wozgrzyt.specs.declared.Observed.{Observed}
-use Rattle.wozgrzyt.specs.declared.Observed.the-variants as observed
-use Rattle.wozgrzyt.specs.declared.Figured.{Figured}
-use Rattle.wozgrzyt.specs.declared.Figured.the-variants as figured
-use Rattle.wozgrzyt.specs.declared.Tested.{Tested}
-use Rattle.wozgrzyt.specs.declared.Tested.the-variants as tested
-use Rattle.wozgrzyt.specs.declared.steps.DerivationAnswer.{DerivationAnswer}
-use Rattle.wozgrzyt.specs.declared.steps.DerivationAnswer.the-variants as derivation
-use Rattle.wozgrzyt.specs.declared.steps.Derived.{Derived}
-use Rattle.wozgrzyt.specs.declared.siting.Verdict.{Verdict}
-use Rattle.wozgrzyt.specs.declared.siting.Verdict.the-variants as verdict
-use Rattle.wozgrzyt.specs.declared.siting.Greedy.{Greedy}
-use Rattle.wozgrzyt.specs.declared.siting.Greedy.the-variants as greedy
-use Rattle.wozgrzyt.specs.declared.siting.Fewest.{Fewest}
-use Rattle.wozgrzyt.specs.declared.siting.Fewest.the-variants as fewest
-use Rattle.wozgrzyt.specs.Replies.{observedChecks, ObservedReply, figureChecks, FigureReply, stepChecks, StepReply}
-use Rattle.wozgrzyt.specs.ListReplies.{derivationChecks, DerivationAt, DerivationReply}
-use Rattle.wozgrzyt.specs.SitingReplies.{verdictChecks, VerdictReply, greedyChecks, GreedyReply, fewestChecks, FewestReply}
-use Rattle.wozgrzyt.specs.TextReplies.{writeChecks, CaseWrittenReply}
-use Rattle.demands.specs.Order.{InOrder}
-use Rattle.demands.specs.Demand1.{Refuses, Demand1}
-use Rattle.demands.proofs.Firsts.{reply-meets}
-use Rattle.demands.proofs.Turns.{replay-ordered, weave-ordered}
+-- Demand 1, over the promises of the calls.
+use Rattle.wozgrzyt.proofs.observed_set.Met as met-observed-set
+use Rattle.wozgrzyt.proofs.firing_figure.Met as met-firing-figure
+use Rattle.wozgrzyt.proofs.test_step.Met as met-test-step
+use Rattle.wozgrzyt.proofs.steps.derivation.Met as met-derivation
+use Rattle.desks.proofs.replay.Met as met-replay
+use Rattle.desks.proofs.weave.Met as met-weave
+use Rattle.wozgrzyt.proofs.siting.cross_validate.Met as met-cross-validate
+use Rattle.wozgrzyt.proofs.siting.place_greedy.Met as met-place-greedy
+use Rattle.wozgrzyt.proofs.siting.place_fewest.Met as met-place-fewest
+use Rattle.wozgrzyt.proofs.texts.read_case.Met as met-read-case
+use Rattle.wozgrzyt.proofs.texts.write_case.Met as met-write-case
+use Rattle.wozgrzyt.proofs.texts.check_steps.Met as met-check-steps
+use Rattle.desks.proofs.texts.read_steps.Met as met-read-steps
+use Rattle.textreplay.proofs.replay_text.Met as met-replay-text
+use Rattle.dayreport.proofs.day_report.Met as met-day-report
+use Rattle.planreport.proofs.plan_report.Met as met-plan-report
+use Rattle.estimator.proofs.wz_observed.Met as met-wz-observed
+use Rattle.estimator.proofs.wz_unconfirmed.Met as met-wz-unconfirmed
+use Rattle.estimator.proofs.wz_fewest.Met as met-wz-fewest
+use Rattle.estimator.proofs.wz_replay.Met as met-wz-replay
+use Rattle.demands.specs.Demand1.{Demand1}
+use Rattle.demands.proofs.CallsByTable as calls
+use Rattle.demands.proofs.TextsByTable as texts
+use Rattle.demands.proofs.ReportsByTable as reports
+use Rattle.demands.proofs.EstimatorByTable as estimator
 
--- nothing is lent
-abbrev Meets : {R : Type 0} → List Check → (Refusal → R) → R → Type 0
-Meets checks refused r = Demand1 {M = Unit {0}} checks (Refuses refused r) tt tt
-
--- ---- the grid
-
-pub observed-set : (c : Case) (r : Observed) → ObservedReply c r → Meets (observedChecks c) observed.Refused r
-observed-set c = reply-meets (ObservedReply c) (observedChecks c) observed.Refused tt (λ q p. (p, refl)) cases
-  where
-    cases : (r : Observed) → ObservedReply c r → Passed (observedChecks c) ⊎ ((q : Refusal) × (r ≡ observed.Refused q))
-    cases (observed.Set s) p = inl (p .0)
-    cases (observed.Refused q) p = inr (q, refl)
-
-pub firing-figure : (c : Case) (s i j : ℕ) (r : Figured) → FigureReply c s i j r → Meets (figureChecks c i j) figured.Refused r
-firing-figure c s i j = reply-meets (FigureReply c s i j) (figureChecks c i j) figured.Refused (inl (lit< tt), (inl (lit< tt), tt)) (λ q p. (p, refl)) cases
-  where
-    cases : (r : Figured) → FigureReply c s i j r → Passed (figureChecks c i j) ⊎ ((q : Refusal) × (r ≡ figured.Refused q))
-    cases (figured.Figure z) p = inl (p .0)
-    cases (figured.Refused q) p = inr (q, refl)
-
-pub test-step : (c : Case) (s : ℕ) (x : Step) (r : Tested) → StepReply c s x r → Meets (stepChecks c s x) tested.Refused r
-test-step c s x = reply-meets (StepReply c s x) (stepChecks c s x) tested.Refused (inl (lit< tt), (inr (refl, inr (refl, lit< tt)), (inr (refl, inr (refl, lit< tt)), tt))) (λ q p. (p, refl)) cases
-  where
-    cases : (r : Tested) → StepReply c s x r → Passed (stepChecks c s x) ⊎ ((q : Refusal) × (r ≡ tested.Refused q))
-    cases tested.Allowed p = inl p
-    cases (tested.Refused q) p = inr (q, refl)
-
--- ---- lists of steps
-
--- a refusal has an empty list beside it
-abbrev noDerivation : Refusal → Derived
-noDerivation q = record { answer = derivation.Refused q; list = listOf [] }
-
-pub derivation-call : (c : Case) (r : Derived) → DerivationReply c r → Meets (derivationChecks c) noDerivation r
-derivation-call c = reply-meets (DerivationReply c) (derivationChecks c) noDerivation tt (λ q p. (p .0, refl)) (λ r p. by-answer (r .answer) (r .list) p)
-  where
-    by-answer : (a : DerivationAnswer) (l : StepList) → DerivationAt c l a → Passed (derivationChecks c) ⊎ ((q : Refusal) × (_≡_ {A = Derived} (record { answer = a; list = l }) (noDerivation q)))
-    by-answer derivation.Found l p = inl (p .0)
-    by-answer (derivation.Refused q) l p = inr (q, λ i. record { answer = derivation.Refused q; list = p .1 i })
-
-pub replay : (c : Case) (xs : List Step) (r : Replayed) → ReplayReply c xs r → Meets (replayChecks c xs) replayed.Refused r
-replay c xs = reply-meets (ReplayReply c xs) (replayChecks c xs) replayed.Refused (replay-ordered c xs) (λ q p. (p, refl)) cases
-  where
-    cases : (r : Replayed) → ReplayReply c xs r → Passed (replayChecks c xs) ⊎ ((q : Refusal) × (r ≡ replayed.Refused q))
-    cases (replayed.Reached s finished) p = inl (p .0)
-    cases (replayed.Refused q) p = inr (q, refl)
-
-pub weave : (c : Case) (xs before after : List Step) (r : Wove) → WeaveReply c xs before after r → Demand1 (weaveChecks c xs (length before)) (Refuses wove.Refused r) before after
-weave c xs before after = reply-meets (WeaveReply c xs before after) (weaveChecks c xs (length before)) wove.Refused (weave-ordered c xs (length before)) (λ q p. p) cases
-  where
-    cases : (r : Wove) → WeaveReply c xs before after r → Passed (weaveChecks c xs (length before)) ⊎ ((q : Refusal) × (r ≡ wove.Refused q))
-    cases (wove.Written count s) p = inl (p .0)
-    cases (wove.Refused q) p = inr (q, refl)
-
--- ---- placing units
-
-pub cross-validate : (c : Case) (r : Verdict) → VerdictReply c r → Meets (verdictChecks c) verdict.Refused r
-cross-validate c = reply-meets (VerdictReply c) (verdictChecks c) verdict.Refused tt (λ q p. (p, refl)) cases
-  where
-    cases : (r : Verdict) → VerdictReply c r → Passed (verdictChecks c) ⊎ ((q : Refusal) × (r ≡ verdict.Refused q))
-    cases (verdict.Unconfirmed s) p = inl (p .0)
-    cases (verdict.Refused q) p = inr (q, refl)
-
-pub place-greedy : (c : Case) (budget : ℕ) (entry exit : List ℕ) (r : Greedy) → GreedyReply c budget entry exit r → Demand1 (greedyChecks c budget entry) (Refuses greedy.Refused r) entry exit
-place-greedy c budget entry exit = reply-meets (GreedyReply c budget entry exit) (greedyChecks c budget entry) greedy.Refused (inl (lit< tt), (inl (lit< tt), tt)) (λ q p. p) cases
-  where
-    cases : (r : Greedy) → GreedyReply c budget entry exit r → Passed (greedyChecks c budget entry) ⊎ ((q : Refusal) × (r ≡ greedy.Refused q))
-    cases (greedy.Added k) p = inl (p .0)
-    cases (greedy.Refused q) p = inr (q, refl)
-
-pub place-fewest : (c : Case) (budget : ℕ) (r : Fewest) → FewestReply c budget r → Meets (fewestChecks c budget) fewest.Refused r
-place-fewest c budget = reply-meets (FewestReply c budget) (fewestChecks c budget) fewest.Refused (inl (lit< tt), (inl (lit< tt), tt)) (λ q p. (p, refl)) cases
-  where
-    cases : (r : Fewest) → FewestReply c budget r → Passed (fewestChecks c budget) ⊎ ((q : Refusal) × (r ≡ fewest.Refused q))
-    cases (fewest.Sites s) p = inl (p .0)
-    cases (fewest.Refused q) p = inr (q, refl)
-
--- ---- a case text written
-
-pub write-case : (c : Case) (lent left : List ℕ) (r : Written) → CaseWrittenReply c lent r left → Demand1 (writeChecks c lent) (Refuses written.Refused r) lent left
-write-case c lent left = reply-meets (λ r. CaseWrittenReply c lent r left) (writeChecks c lent) written.Refused (inl (lit< tt), tt) (λ q p. p) cases
-  where
-    cases : (r : Written) → CaseWrittenReply c lent r left → Passed (writeChecks c lent) ⊎ ((q : Refusal) × (r ≡ written.Refused q))
-    cases (written.Bytes k) p = inl (p .0)
-    cases (written.Refused q) p = inr (q, refl)
+pub demand-1 : {M : Type 1} → Demand1 M
+demand-1 = record {
+  replies = record {
+    observed-set = met-observed-set.met;
+    firing-figure = met-firing-figure.met;
+    test-step = met-test-step.met;
+    derivation = met-derivation.met;
+    replay = met-replay.met;
+    weave = met-weave.met;
+    cross-validate = met-cross-validate.met;
+    place-greedy = met-place-greedy.met;
+    place-fewest = met-place-fewest.met;
+    read-case = met-read-case.met;
+    write-case = met-write-case.met;
+    check-steps = met-check-steps.met;
+    read-steps = met-read-steps.met;
+    replay-text = met-replay-text.met;
+    day-report = met-day-report.met;
+    plan-report = met-plan-report.met;
+    wz-observed = met-wz-observed.met;
+    wz-unconfirmed = met-wz-unconfirmed.met;
+    wz-fewest = met-wz-fewest.met;
+    wz-replay = met-wz-replay.met;
+  };
+  observed-set = calls.observed-set;
+  firing-figure = calls.firing-figure;
+  test-step = calls.test-step;
+  derivation = calls.derivation;
+  replay = calls.replay;
+  weave = calls.weave;
+  cross-validate = calls.cross-validate;
+  place-greedy = calls.place-greedy;
+  place-fewest = calls.place-fewest;
+  read-case = texts.read-case;
+  write-case = calls.write-case;
+  check-steps = texts.check-steps;
+  read-steps = texts.read-steps;
+  replay-text = texts.replay-text;
+  day-report = reports.day-report;
+  day-printed = reports.day-printed;
+  plan-report = reports.plan-report;
+  plan-printed = reports.plan-printed;
+  wz-observed = estimator.wz-observed;
+  wz-unconfirmed = estimator.wz-unconfirmed;
+  wz-fewest = estimator.wz-fewest;
+  wz-replay = estimator.wz-replay;
+}

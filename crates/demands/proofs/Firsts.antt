@@ -1,13 +1,13 @@
--- The first check that fails: it is one, it is the refusal that a promise names, and demand 1 follows from it.
-use mathlib.Core.Path.{_≡_, refl, sym, _∙_, subst, subst⁻¹}
+-- The first check that fails: it is one, it is the refusal that a promise names, and a reply that follows it is by the table.
+use mathlib.Core.Path.{_≡_, sym, _∙_, subst}
 use mathlib.Core.List.{List, [], _∷_, _++_}
 use mathlib.Core.Logic.{_⊎_, inl, inr}
 use Prim.Native.Nat.{ℕ}
-use Rattle.grid.specs.Refusals.{numberOf, placeOf, Is, Check, Passed, Failed}
+use Rattle.grid.specs.Refusals.{numberOf, placeOf, Check, Passed, Failed}
 use Rattle.grid.specs.declared.refusal.Refusal.{Refusal}
 use Rattle.grid.proofs.Orders.{itself}
 use Rattle.demands.specs.Order.{InOrder, FirstFails}
-use Rattle.demands.specs.Demand1.{Refuses, Demand1}
+use Rattle.demands.specs.ByTable.{Refuses, ByTable}
 
 -- ---- the first check that fails
 
@@ -28,7 +28,7 @@ pub failed-first : (qs : List Check) (r : Refusal) → Failed qs r → FirstFail
 failed-first (q ∷ qs) r (inl a) = inl (a .0, sym (a .1 .numbered), sym (a .1 .placed))
 failed-first (q ∷ qs) r (inr a) = inr (a .0, failed-first qs r (a .1))
 
--- ---- demand 1
+-- ---- by the table
 
 -- how a call's checks end: all pass and the reply is no refusal, or the reply is that of the first that fails, and of no other
 abbrev pub Ends : List Check → (ℕ → ℕ → Type 0) → Type 0
@@ -36,9 +36,9 @@ Ends checks Refused =
     (Passed checks × ((n p : ℕ) → Refused n p → ⊥))
     ⊎ ((n : ℕ) × (p : ℕ) × FirstFails checks n p × Refused n p × ((m o : ℕ) → Refused m o → (n ≡ m) × (p ≡ o)))
 
--- where the checks end so, are in order and a refusal leaves what is lent, the demand is met
+-- where the checks end so, are in order and a refusal leaves what is lent, the reply is by the table
 pub met : {M : Type 0} {before after : M} (checks : List Check) (Refused : ℕ → ℕ → Type 0) → InOrder checks → ((n p : ℕ) → Refused n p → after ≡ before) → Ends checks Refused
-    → Demand1 checks Refused before after
+    → ByTable checks Refused before after
 met checks Refused order kept (inl a) = record {
   order = order;
   replies = inl (a .0);
@@ -59,7 +59,7 @@ met checks Refused order kept (inr (n, p, f, h, one)) = record {
 -- a refusal's promise is that the first check that fails gives it, and that what is lent stays; any other reply's, that all pass
 pub reply-meets : {R M : Type 0} {before after : M} (P : R → Type 0) (checks : List Check) (refused : Refusal → R) → InOrder checks
     → ((q : Refusal) → P (refused q) → Failed checks q × (after ≡ before)) → ((r : R) → P r → Passed checks ⊎ ((q : Refusal) × (r ≡ refused q)))
-    → (r : R) → P r → Demand1 checks (Refuses refused r) before after
+    → (r : R) → P r → ByTable checks (Refuses refused r) before after
 reply-meets {before = before} {after = after} P checks refused order fails cases r h =
     met checks (Refuses refused r) order (λ n p k. first n p k .1) (go (cases r h))
   where
@@ -77,7 +77,7 @@ reply-meets {before = before} {after = after} P checks refused order fails cases
 
 -- ---- one list of checks after another
 
-passed-then : (ps qs : List Check) → Passed ps → Passed qs → Passed (ps ++ qs)
+pub passed-then : (ps qs : List Check) → Passed ps → Passed qs → Passed (ps ++ qs)
 passed-then [] qs a b = b
 passed-then (p ∷ ps) qs a b = (a .0, passed-then ps qs (a .1) b)
 

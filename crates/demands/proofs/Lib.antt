@@ -4,10 +4,16 @@ pub mod SitingUniqueness
 pub mod TextUniqueness
 pub mod ReportUniqueness
 pub mod EstimatorUniqueness
-pub mod Demand3
 pub mod Firsts
 pub mod Turns
 pub mod Judging
 pub mod CaseTexts
 pub mod StepTexts
+pub mod CallsByTable
+pub mod TextsByTable
+pub mod EstimatorByTable
+pub mod ReportsByTable
 pub mod Demand1
+pub mod Demand2
+pub mod Demand3
+pub mod FiringFigure

@@ -1,10 +1,8 @@
 -- For the calls over lists of steps: two replies that meet the promise on one input are equal, and so are the records that they leave.
-use mathlib.Core.Path.{_≡_, refl, sym, ap, ap₂, _∙_, subst}
-use mathlib.Core.Bool.{Bool}
+use mathlib.Core.Path.{_≡_, sym, ap, _∙_}
 use mathlib.Core.List.{List}
 use lib.ListN.{length}
 use Prim.Native.Nat.{ℕ}
-use Rattle.busset.specs.Sets.{setOf}
 use Rattle.busset.proofs.Tests.{decides-same}
 use Rattle.busset.proofs.Words.{set-inj}
 use Rattle.step.specs.declared.Step.{Step}

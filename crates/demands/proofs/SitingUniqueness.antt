@@ -1,18 +1,14 @@
--- For each of the siting group's calls: two replies that meet its promise on one input, with the room they leave, are equal. Demand 2's sentence on the fewest.
-use mathlib.Core.Path.{_≡_, sym, ap, _∙_, subst}
-use mathlib.Core.Logic.{inl, inr}
+-- For each of the siting group's calls: two replies that meet its promise on one input, with the room they leave, are equal.
+use mathlib.Core.Path.{_≡_, sym, ap, _∙_}
 use mathlib.Core.List.{List, _++_}
-use Prim.Native.Nat.{ℕ, _≤_}
+use Prim.Native.Nat.{ℕ}
 use lib.ListN.{length, drop}
 use Rattle.busset.specs.Sets.{setOf}
 use Rattle.busset.proofs.Words.{set-inj}
-use Rattle.rules.specs.Placing as placing
 use Rattle.rules.proofs.Ordering.{fewest-set-unique}
 use Rattle.rules.proofs.Choices.{unconfirmed-unique, greedy-unique}
 use Rattle.grid.specs.declared.Case.{Case}
-use Rattle.grid.specs.Cases.{gridOf, Valid}
-use Rattle.grid.specs.Refusals.{Is, Failed}
-use Rattle.grid.specs.declared.refusal.Refusal.{Refusal}
+use Rattle.grid.specs.Cases.{gridOf}
 use Rattle.grid.proofs.Orders.{failed-unique, failed-or-passed}
 use Rattle.wozgrzyt.specs.declared.siting.Verdict.{Verdict}
 use Rattle.wozgrzyt.specs.declared.siting.Verdict.the-variants as verdict
@@ -51,25 +47,3 @@ fewest-unique c budget (fewest.Sites m) (fewest.Sites k) p q = ap fewest.Sites (
 fewest-unique c budget (fewest.Sites m) (fewest.Refused r) p q = absurd (failed-or-passed (fewestChecks c budget) r q (p .0))
 fewest-unique c budget (fewest.Refused r) (fewest.Sites m) p q = absurd (failed-or-passed (fewestChecks c budget) r p (q .0))
 fewest-unique c budget (fewest.Refused r) (fewest.Refused k) p q = ap fewest.Refused (failed-unique (fewestChecks c budget) r k p q)
-
--- ---- demand 2, on the fewest
-
--- an answer is the first of the smallest additions that cover; and for a valid case and a budget of at most 8
--- the reply is refusal 11 at place 0 exactly when no addition within the budget covers
-pub record FirstSmallest (c : Case) (budget : ℕ) (reply : Fewest) : Type 0 where
-  pub answer : (m : ℕ) → reply ≡ fewest.Sites m → placing.Fewest (gridOf c) budget (setOf m)
-  pub refused : (r : Refusal) → reply ≡ fewest.Refused r → Is 11 0 r × (placing.SomePlan (gridOf c) budget → ⊥)
-  pub none : (placing.SomePlan (gridOf c) budget → ⊥) → (m : ℕ) → reply ≡ fewest.Sites m → ⊥
-
-pub first-smallest : (c : Case) (budget : ℕ) (reply : Fewest) → FewestReply c budget reply → Valid c → budget ≤ 8 → FirstSmallest c budget reply
-first-smallest c budget reply p v l = record {
-  answer = λ m e. subst (FewestReply c budget) e p .1;
-  refused = λ r e. only r (subst (FewestReply c budget) e p);
-  none = λ n m e. n (subst (FewestReply c budget) e p .0 .1 .1 .0);
-}
-  where
-    only : (r : Refusal) → Failed (fewestChecks c budget) r → Is 11 0 r × (placing.SomePlan (gridOf c) budget → ⊥)
-    only r (inl a) = absurd (a .0 v)
-    only r (inr (_, inl a)) = absurd (a .0 l)
-    only r (inr (_, inr (_, inl a))) = (a .1, a .0)
-    only r (inr (_, inr (_, inr (_, a)))) = absurd a

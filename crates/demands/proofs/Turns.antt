@@ -46,6 +46,14 @@ abbrev pub TurnsBy : ℕ → List Check → Type 0
 TurnsBy t [] = Unit {0}
 TurnsBy t (q ∷ qs) = (turn q ≤ t) × TurnsBy t qs
 
+pub then-turn : (t : ℕ) (ps qs : List Check) → TurnsBy t ps → TurnsBy t qs → TurnsBy t (ps ++ qs)
+then-turn t [] qs a b = b
+then-turn t (p ∷ ps) qs a b = (a .0, then-turn t ps qs (a .1) b)
+
+pub turn-more : (t u : ℕ) (ps : List Check) → t ≤ u → TurnsBy t ps → TurnsBy u ps
+turn-more t u [] l a = tt
+turn-more t u (p ∷ ps) l a = (omega (arith, l, a .0), turn-more t u ps l (a .1))
+
 -- what comes after every check of at most turn t
 abbrev pub Follows : ℕ → List Check → Type 1
 Follows t qs = InOrder qs × ((q : Check) → turn q ≤ t → InOrder (q ∷ qs))
@@ -85,6 +93,13 @@ replay-ordered c xs = (inl (lit< tt), steps-ordered Replay c [] (λ q h. tt) 1 e
 pub weave-ordered : (c : Case) (xs : List Step) (room : ℕ) → InOrder (weaveChecks c xs room)
 weave-ordered c xs room =
     (inl (lit< tt), steps-ordered Weave c (check (length (woven xs) ≤ room) 6 0 ∷ []) (λ q h. (inl (omega (arith, h)), tt)) 1 empty xs _ (inl (lit< tt)))
+
+steps-turn : (c : Case) (k s : ℕ) (xs : List Step) → TurnsBy stepTurn (checksFrom Replay c k s xs [])
+steps-turn c k s [] = tt
+steps-turn c k s (x ∷ xs) = (lit≤ tt, (lit≤ tt, (lit≤ tt, steps-turn c (suc k) (add s (x .bus)) xs)))
+
+pub replay-turn : (c : Case) (xs : List Step) → TurnsBy stepTurn (replayChecks c xs)
+replay-turn c xs = (lit≤ tt, (lit≤ tt, steps-turn c 1 empty xs))
 
 -- replay's come after a text that is read
 pub replay-follows : (c : Case) (xs : List Step) → Follows 3 (replayChecks c xs)

@@ -1,6 +1,5 @@
 -- For each public call: two replies that meet its promise on one input are equal.
 use mathlib.Core.Path.{_≡_, refl, sym, ap, _∙_}
-use mathlib.Core.Logic.{inl, inr}
 use Prim.Native.Nat.{ℕ}
 use Rattle.busset.specs.Sets.{setOf}
 use Rattle.busset.proofs.Words.{set-inj}

@@ -1,55 +1,79 @@
--- Demand 1: each entry checks for itself, refuses only for the reasons in document 01's table, and a refusal leaves the lent memory unaltered.
-use mathlib.Core.Path.{_≡_}
-use mathlib.Core.List.{List}
-use mathlib.Core.Logic.{_⊎_}
-use Prim.Native.Nat.{ℕ, _+_, _*_, _≤_, _<_}
-use Rattle.grid.specs.Refusals.{numberOf, placeOf, Is, Check, Passed, Failed}
-use Rattle.grid.specs.declared.refusal.Refusal.{Refusal}
+-- Demand 1: every text, case value, list and budget gets a reply and the program ends; each entry checks for itself, refuses only for the reasons in
+-- document 01's table, and a refusal leaves the lent memory unaltered.
+use mathlib.Core.List.{List, _++_}
+use Prim.Native.Nat.{ℕ}
+use lib.ListN.{length}
+use Rattle.step.specs.declared.Step.{Step}
+use Rattle.grid.specs.declared.Case.{Case}
+use Rattle.following.specs.Replies.{replayChecks, ReplayReply, weaveChecks, WeaveReply}
+use Rattle.following.specs.declared.Replayed.{Replayed}
+use Rattle.following.specs.declared.Replayed.the-variants as replayed
+use Rattle.following.specs.declared.Wove.{Wove}
+use Rattle.following.specs.declared.Wove.the-variants as wove
+use Rattle.reader.specs.Reading.{refused, readCase}
+use Rattle.reader.specs.declared.CaseRead.{CaseRead}
+use Rattle.steptext.specs.Steps.{StepsReadReply}
+use Rattle.steptext.specs.declared.StepsRead.{StepsRead}
+use Rattle.steptext.specs.declared.StepsRead.the-variants as steps
+use Rattle.textreplay.specs.Replying.{TextReplayReply}
 use Rattle.textreplay.specs.declared.TextReplayed.{TextReplayed}
-use Rattle.textreplay.specs.declared.TextReplayed.the-variants as told
-use Rattle.writer.specs.Printing.{RefusedText}
-use Rattle.demands.specs.Order.{InOrder, FirstFails}
+use Rattle.writer.specs.Printing.{PrintedReply}
+use Rattle.writer.specs.declared.Written.{Written}
+use Rattle.writer.specs.declared.Written.the-variants as written
+use Rattle.dayreport.specs.Day.{DayReport, Day}
+use Rattle.planreport.specs.Plan.{readPlan, planChecks, Plan}
+use Rattle.wozgrzyt.specs.declared.Observed.{Observed}
+use Rattle.wozgrzyt.specs.declared.Observed.the-variants as observed
+use Rattle.wozgrzyt.specs.declared.Figured.{Figured}
+use Rattle.wozgrzyt.specs.declared.Figured.the-variants as figured
+use Rattle.wozgrzyt.specs.declared.Tested.{Tested}
+use Rattle.wozgrzyt.specs.declared.Tested.the-variants as tested
+use Rattle.wozgrzyt.specs.declared.steps.Derived.{Derived}
+use Rattle.wozgrzyt.specs.declared.siting.Verdict.{Verdict}
+use Rattle.wozgrzyt.specs.declared.siting.Verdict.the-variants as verdict
+use Rattle.wozgrzyt.specs.declared.siting.Greedy.{Greedy}
+use Rattle.wozgrzyt.specs.declared.siting.Greedy.the-variants as greedy
+use Rattle.wozgrzyt.specs.declared.siting.Fewest.{Fewest}
+use Rattle.wozgrzyt.specs.declared.siting.Fewest.the-variants as fewest
+use Rattle.wozgrzyt.specs.Replies.{observedChecks, ObservedReply, figureChecks, FigureReply, stepChecks, StepReply}
+use Rattle.wozgrzyt.specs.ListReplies.{derivationChecks, DerivationReply}
+use Rattle.wozgrzyt.specs.SitingReplies.{verdictChecks, VerdictReply, greedyChecks, GreedyReply, fewestChecks, FewestReply}
+use Rattle.wozgrzyt.specs.TextReplies.{CaseReadReply, writeChecks, CaseWrittenReply, StepsCheckedReply}
+use Rattle.estimator.specs.Answers.{ObservedFor, UnconfirmedFor, FewestFor, ReplayFor, OfText}
+use Rattle.estimator.specs.Results.{Answered}
+use Rattle.demands.specs.TextChecks.{caseChecks, stepTextChecks, stepsReadChecks, textReplayChecks, estimatorChecks, inputChecks, printChecks}
+use Rattle.demands.specs.ByTable.{noDerivation, Refuses, TextRefuses, Coded, ByTable, NothingLent, PrintedByTable, FewestPrinted}
+use Rattle.demands.specs.Calls.{EveryCall}
 
--- ---- a reply that refuses
-
--- the reply is the refusal with this number and this place
-abbrev pub Refuses : {R : Type 0} → (Refusal → R) → R → ℕ → ℕ → Type 0
-Refuses refused reply number place = (q : Refusal) × (reply ≡ refused q) × Is number place q
-
--- a refusal of a step text that is read beside a case: it has 50 added
-pub record Unread (q : Refusal) (number place : ℕ) : Type 0 where
-  pub numbered : numberOf q + 50 ≡ number
-  pub placed : placeOf q ≡ place
-
--- what a step text replayed says, with the number and the place of its refusal
-abbrev pub TextRefuses : TextReplayed → ℕ → ℕ → Type 0
-TextRefuses (told.Reached s finished) number place = ⊥
-TextRefuses (told.Refused q) number place = Is number place q
-TextRefuses (told.Unread q) number place = Unread q number place
-
--- a C function's result is 100 times the place plus the refusal number
-pub record Coded (result number place : ℕ) : Type 0 where
-  pub is : result ≡ 100 * place + number
-  pub some : 1 ≤ number
-  pub most : number < 100
-
--- ---- the demand
-
--- of a reply: what the call checks, when the reply is a refusal with a number and a place, and what is lent, before and after
-pub record Demand1 {M : Type 0} (checks : List Check) (Refused : ℕ → ℕ → Type 0) (before after : M) : Type 0 where
-  -- the table's rows are tried in the document's order
-  pub order : InOrder checks
-  -- every input is refused by the first row that applies, or no row applies
-  pub replies : Passed checks ⊎ ((number : ℕ) × (place : ℕ) × FirstFails checks number place)
-  -- a refusal is given exactly when its row is the first that applies
-  pub given : (number place : ℕ) → Refused number place → FirstFails checks number place
-  pub due : (number place : ℕ) → FirstFails checks number place → Refused number place
-  -- and leaves the lent memory unaltered
-  pub kept : (number place : ℕ) → Refused number place → after ≡ before
-
--- of what a program prints: the report where no row applies, and only the refusal's line where one does
-pub record DemandPrinted (checks : List Check) (Report : Type 0) (t : List ℕ) : Type 0 where
-  pub order : InOrder checks
-  pub replies : Passed checks ⊎ ((q : Refusal) × Failed checks q)
-  pub report : Passed checks → Report
-  pub refused : (q : Refusal) → Failed checks q → RefusedText q t
+pub record Demand1 (M : Type 1) : Type 2 where
+  -- every input gets a reply, which its call's promise determines, and the call ends
+  pub replies : EveryCall M
+  -- a reply that a call's promise allows is by the table: the grid
+  pub observed-set : (c : Case) (r : Observed) → ObservedReply c r → NothingLent (observedChecks c) observed.Refused r
+  pub firing-figure : (c : Case) (s i j : ℕ) (r : Figured) → FigureReply c s i j r → NothingLent (figureChecks c i j) figured.Refused r
+  pub test-step : (c : Case) (s : ℕ) (x : Step) (r : Tested) → StepReply c s x r → NothingLent (stepChecks c s x) tested.Refused r
+  -- lists of steps
+  pub derivation : (c : Case) (r : Derived) → DerivationReply c r → NothingLent (derivationChecks c) noDerivation r
+  pub replay : (c : Case) (xs : List Step) (r : Replayed) → ReplayReply c xs r → NothingLent (replayChecks c xs) replayed.Refused r
+  pub weave : (c : Case) (xs before after : List Step) (r : Wove) → WeaveReply c xs before after r → ByTable (weaveChecks c xs (length before)) (Refuses wove.Refused r) before after
+  -- placing units
+  pub cross-validate : (c : Case) (r : Verdict) → VerdictReply c r → NothingLent (verdictChecks c) verdict.Refused r
+  pub place-greedy : (c : Case) (budget : ℕ) (entry exit : List ℕ) (r : Greedy) → GreedyReply c budget entry exit r → ByTable (greedyChecks c budget entry) (Refuses greedy.Refused r) entry exit
+  pub place-fewest : (c : Case) (budget : ℕ) (r : Fewest) → FewestReply c budget r → NothingLent (fewestChecks c budget) fewest.Refused r
+  -- texts
+  pub read-case : (text : List ℕ) (r : CaseRead) → CaseReadReply text r → NothingLent (caseChecks text) refused r
+  pub write-case : (c : Case) (lent left : List ℕ) (r : Written) → CaseWrittenReply c lent r left → ByTable (writeChecks c lent) (Refuses written.Refused r) lent left
+  pub check-steps : (text : List ℕ) (r : StepsRead) → StepsCheckedReply text r → NothingLent (stepTextChecks text) steps.Refused r
+  pub read-steps : (text : List ℕ) (before after : List Step) (r : StepsRead) → StepsReadReply text before after r → ByTable (stepsReadChecks text (length before)) (Refuses steps.Refused r) before after
+  pub replay-text : (c : Case) (text : List ℕ) (r : TextReplayed) → TextReplayReply c text r → ByTable {M = Unit {0}} (textReplayChecks c text) (TextRefuses r) tt tt
+  -- the reports, and what they print
+  pub day-report : (text lent left : List ℕ) (r : Written) → PrintedReply (Day text) lent left r → ByTable (printChecks (Day text) lent) (Refuses written.Refused r) lent left
+  pub day-printed : (text t : List ℕ) → Day text t → PrintedByTable (caseChecks text) (DayReport (readCase text .case) t) t
+  pub plan-report : (input lent left : List ℕ) (r : Written) → PrintedReply (Plan input) lent left r → ByTable (printChecks (Plan input) lent) (Refuses written.Refused r) lent left
+  pub plan-printed : (input t : List ℕ) → Plan input t
+      → PrintedByTable (inputChecks input ++ planChecks (readPlan input .read .case) (readPlan input .budget)) (FewestPrinted (readPlan input .read .case) (readPlan input .budget) t) t
+  -- the state estimator's calls
+  pub wz-observed : (text lent left : List ℕ) (r : ℕ) → Answered (OfText text ObservedFor) lent left r → ByTable (estimatorChecks text observedChecks lent) (Coded r) lent left
+  pub wz-unconfirmed : (text lent left : List ℕ) (r : ℕ) → Answered (OfText text UnconfirmedFor) lent left r → ByTable (estimatorChecks text verdictChecks lent) (Coded r) lent left
+  pub wz-fewest : (text : List ℕ) (budget : ℕ) (lent left : List ℕ) (r : ℕ) → Answered (OfText text (FewestFor budget)) lent left r → ByTable (estimatorChecks text (λ c. fewestChecks c budget) lent) (Coded r) lent left
+  pub wz-replay : (text steps lent left : List ℕ) (r : ℕ) → Answered (OfText text (ReplayFor steps)) lent left r → ByTable (estimatorChecks text (λ c. textReplayChecks c steps) lent) (Coded r) lent left

@@ -13,10 +13,12 @@ use Rattle.record.specs.declared.Record.{Record}
 use Rattle.record.specs.declared.Record.the-variants.{Grid, Bus, Line, Pmu, End, Wrong}
 use Rattle.record.specs.declared.steps.StepLine.{StepLine}
 use Rattle.record.specs.declared.steps.StepLine.the-variants as line
+use Rattle.grid.specs.declared.Case.{Case}
 use Rattle.grid.specs.Cases.{mostSteps}
 use Rattle.grid.specs.Refusals.{Check, check}
-use Rattle.reader.specs.Reading.{mostBytes, inPlace, inRange, inOrder, Reader, start, next}
-use Rattle.steptext.specs.Steps.{mostStepBytes, stepInRange}
+use Rattle.reader.specs.Reading.{mostBytes, inPlace, inRange, inOrder, Reader, start, next, readCase}
+use Rattle.following.specs.Replies.{replayChecks}
+use Rattle.steptext.specs.Steps.{mostStepBytes, stepInRange, stepsOf}
 use Rattle.planreport.specs.Plan.{budgetOf}
 
 -- nothing follows `end`
@@ -97,6 +99,24 @@ abbrev pub withFifty : List Check → List Check
 withFifty [] = []
 withFifty (q ∷ qs) = check (q .wants) (q .number + 50) (q .place) ∷ withFifty qs
 
+-- a step text read into so many records: 6 last
+abbrev pub stepsReadChecks : List ℕ → ℕ → List Check
+stepsReadChecks text room = stepTextChecks text ++ check (length (stepsOf text) ≤ room) 6 0 ∷ []
+
+-- a step text replayed: the whole text, and then its steps
+abbrev pub textReplayChecks : Case → List ℕ → List Check
+textReplayChecks c text = withFifty (stepTextChecks text) ++ replayChecks c (stepsOf text)
+
+-- ---- the state estimator's calls
+
+-- the set has room, or 6
+abbrev pub roomForSet : List ℕ → List Check
+roomForSet lent = check (8 ≤ length lent) 6 0 ∷ []
+
+-- the case text, then what the call on its case checks, then 6
+abbrev pub estimatorChecks : List ℕ → (Case → List Check) → List ℕ → List Check
+estimatorChecks text checks lent = caseChecks text ++ (checks (readCase text .case) ++ roomForSet lent)
+
 -- ---- the planning program's input
 
 -- a budget
@@ -112,3 +132,9 @@ planLineChecks l (m ∷ ms) = check (IsNumber (budgetOf l)) 2 1 ∷ lineChecks s
 -- 1 for the whole input, then the first bad line
 abbrev pub inputChecks : List ℕ → List Check
 inputChecks input = check (length input ≤ mostBytes) 1 0 ∷ planLineChecks (split lineFeed input .first) (split lineFeed input .rest)
+
+-- ---- what is printed
+
+-- every text that is asked for has room, or 6
+abbrev pub printChecks : (List ℕ → Type 0) → List ℕ → List Check
+printChecks P lent = check ((t : List ℕ) → P t → length t ≤ length lent) 6 0 ∷ []

@@ -1,0 +1,119 @@
+-- By the table: each public call on a case value or a list of steps.
+use mathlib.Core.Path.{_≡_, refl}
+use mathlib.Core.List.{List}
+use mathlib.Core.Logic.{_⊎_, inl, inr}
+use Prim.Native.Nat.{ℕ}
+use lib.Dec.{lit<}
+use lib.ListN.{length}
+use Rattle.step.specs.declared.Step.{Step}
+use Rattle.grid.specs.declared.Case.{Case}
+use Rattle.grid.specs.declared.refusal.Refusal.{Refusal}
+use Rattle.grid.specs.Refusals.{Passed}
+use Rattle.following.specs.Replies.{replayChecks, ReplayReply, weaveChecks, WeaveReply}
+use Rattle.following.specs.declared.lists.StepList.{StepList}
+use Rattle.following.specs.declared.Replayed.{Replayed}
+use Rattle.following.specs.declared.Replayed.the-variants as replayed
+use Rattle.following.specs.declared.Wove.{Wove}
+use Rattle.following.specs.declared.Wove.the-variants as wove
+use Rattle.writer.specs.declared.Written.{Written}
+use Rattle.writer.specs.declared.Written.the-variants as written
+use Rattle.wozgrzyt.specs.declared.Observed.{Observed}
+use Rattle.wozgrzyt.specs.declared.Observed.the-variants as observed
+use Rattle.wozgrzyt.specs.declared.Figured.{Figured}
+use Rattle.wozgrzyt.specs.declared.Figured.the-variants as figured
+use Rattle.wozgrzyt.specs.declared.Tested.{Tested}
+use Rattle.wozgrzyt.specs.declared.Tested.the-variants as tested
+use Rattle.wozgrzyt.specs.declared.steps.DerivationAnswer.{DerivationAnswer}
+use Rattle.wozgrzyt.specs.declared.steps.DerivationAnswer.the-variants as derived
+use Rattle.wozgrzyt.specs.declared.steps.Derived.{Derived}
+use Rattle.wozgrzyt.specs.declared.siting.Verdict.{Verdict}
+use Rattle.wozgrzyt.specs.declared.siting.Verdict.the-variants as verdict
+use Rattle.wozgrzyt.specs.declared.siting.Greedy.{Greedy}
+use Rattle.wozgrzyt.specs.declared.siting.Greedy.the-variants as greedy
+use Rattle.wozgrzyt.specs.declared.siting.Fewest.{Fewest}
+use Rattle.wozgrzyt.specs.declared.siting.Fewest.the-variants as fewest
+use Rattle.wozgrzyt.specs.Replies.{observedChecks, ObservedReply, figureChecks, FigureReply, stepChecks, StepReply}
+use Rattle.wozgrzyt.specs.ListReplies.{derivationChecks, DerivationAt, DerivationReply}
+use Rattle.wozgrzyt.specs.SitingReplies.{verdictChecks, VerdictReply, greedyChecks, GreedyReply, fewestChecks, FewestReply}
+use Rattle.wozgrzyt.specs.TextReplies.{writeChecks, CaseWrittenReply}
+use Rattle.demands.specs.ByTable.{noDerivation, Refuses, ByTable, NothingLent}
+use Rattle.demands.proofs.Firsts.{reply-meets}
+use Rattle.demands.proofs.Turns.{replay-ordered, weave-ordered}
+
+-- ---- the grid
+
+pub observed-set : (c : Case) (r : Observed) → ObservedReply c r → NothingLent (observedChecks c) observed.Refused r
+observed-set c = reply-meets (ObservedReply c) (observedChecks c) observed.Refused tt (λ q p. (p, refl)) cases
+  where
+    cases : (r : Observed) → ObservedReply c r → Passed (observedChecks c) ⊎ ((q : Refusal) × (r ≡ observed.Refused q))
+    cases (observed.Set s) p = inl (p .0)
+    cases (observed.Refused q) p = inr (q, refl)
+
+pub firing-figure : (c : Case) (s i j : ℕ) (r : Figured) → FigureReply c s i j r → NothingLent (figureChecks c i j) figured.Refused r
+firing-figure c s i j = reply-meets (FigureReply c s i j) (figureChecks c i j) figured.Refused (inl (lit< tt), (inl (lit< tt), tt)) (λ q p. (p, refl)) cases
+  where
+    cases : (r : Figured) → FigureReply c s i j r → Passed (figureChecks c i j) ⊎ ((q : Refusal) × (r ≡ figured.Refused q))
+    cases (figured.Figure z) p = inl (p .0)
+    cases (figured.Refused q) p = inr (q, refl)
+
+pub test-step : (c : Case) (s : ℕ) (x : Step) (r : Tested) → StepReply c s x r → NothingLent (stepChecks c s x) tested.Refused r
+test-step c s x = reply-meets (StepReply c s x) (stepChecks c s x) tested.Refused (inl (lit< tt), (inr (refl, inr (refl, lit< tt)), (inr (refl, inr (refl, lit< tt)), tt))) (λ q p. (p, refl)) cases
+  where
+    cases : (r : Tested) → StepReply c s x r → Passed (stepChecks c s x) ⊎ ((q : Refusal) × (r ≡ tested.Refused q))
+    cases tested.Allowed p = inl p
+    cases (tested.Refused q) p = inr (q, refl)
+
+-- ---- lists of steps
+
+pub derivation : (c : Case) (r : Derived) → DerivationReply c r → NothingLent (derivationChecks c) noDerivation r
+derivation c = reply-meets (DerivationReply c) (derivationChecks c) noDerivation tt (λ q p. (p .0, refl)) (λ r p. by-answer (r .answer) (r .list) p)
+  where
+    by-answer : (a : DerivationAnswer) (l : StepList) → DerivationAt c l a → Passed (derivationChecks c) ⊎ ((q : Refusal) × (_≡_ {A = Derived} (record { answer = a; list = l }) (noDerivation q)))
+    by-answer derived.Found l p = inl (p .0)
+    by-answer (derived.Refused q) l p = inr (q, λ i. record { answer = derived.Refused q; list = p .1 i })
+
+pub replay : (c : Case) (xs : List Step) (r : Replayed) → ReplayReply c xs r → NothingLent (replayChecks c xs) replayed.Refused r
+replay c xs = reply-meets (ReplayReply c xs) (replayChecks c xs) replayed.Refused (replay-ordered c xs) (λ q p. (p, refl)) cases
+  where
+    cases : (r : Replayed) → ReplayReply c xs r → Passed (replayChecks c xs) ⊎ ((q : Refusal) × (r ≡ replayed.Refused q))
+    cases (replayed.Reached s finished) p = inl (p .0)
+    cases (replayed.Refused q) p = inr (q, refl)
+
+pub weave : (c : Case) (xs before after : List Step) (r : Wove) → WeaveReply c xs before after r → ByTable (weaveChecks c xs (length before)) (Refuses wove.Refused r) before after
+weave c xs before after = reply-meets (WeaveReply c xs before after) (weaveChecks c xs (length before)) wove.Refused (weave-ordered c xs (length before)) (λ q p. p) cases
+  where
+    cases : (r : Wove) → WeaveReply c xs before after r → Passed (weaveChecks c xs (length before)) ⊎ ((q : Refusal) × (r ≡ wove.Refused q))
+    cases (wove.Written count s) p = inl (p .0)
+    cases (wove.Refused q) p = inr (q, refl)
+
+-- ---- placing units
+
+pub cross-validate : (c : Case) (r : Verdict) → VerdictReply c r → NothingLent (verdictChecks c) verdict.Refused r
+cross-validate c = reply-meets (VerdictReply c) (verdictChecks c) verdict.Refused tt (λ q p. (p, refl)) cases
+  where
+    cases : (r : Verdict) → VerdictReply c r → Passed (verdictChecks c) ⊎ ((q : Refusal) × (r ≡ verdict.Refused q))
+    cases (verdict.Unconfirmed s) p = inl (p .0)
+    cases (verdict.Refused q) p = inr (q, refl)
+
+pub place-greedy : (c : Case) (budget : ℕ) (entry exit : List ℕ) (r : Greedy) → GreedyReply c budget entry exit r → ByTable (greedyChecks c budget entry) (Refuses greedy.Refused r) entry exit
+place-greedy c budget entry exit = reply-meets (GreedyReply c budget entry exit) (greedyChecks c budget entry) greedy.Refused (inl (lit< tt), (inl (lit< tt), tt)) (λ q p. p) cases
+  where
+    cases : (r : Greedy) → GreedyReply c budget entry exit r → Passed (greedyChecks c budget entry) ⊎ ((q : Refusal) × (r ≡ greedy.Refused q))
+    cases (greedy.Added k) p = inl (p .0)
+    cases (greedy.Refused q) p = inr (q, refl)
+
+pub place-fewest : (c : Case) (budget : ℕ) (r : Fewest) → FewestReply c budget r → NothingLent (fewestChecks c budget) fewest.Refused r
+place-fewest c budget = reply-meets (FewestReply c budget) (fewestChecks c budget) fewest.Refused (inl (lit< tt), (inl (lit< tt), tt)) (λ q p. (p, refl)) cases
+  where
+    cases : (r : Fewest) → FewestReply c budget r → Passed (fewestChecks c budget) ⊎ ((q : Refusal) × (r ≡ fewest.Refused q))
+    cases (fewest.Sites s) p = inl (p .0)
+    cases (fewest.Refused q) p = inr (q, refl)
+
+-- ---- a case text written
+
+pub write-case : (c : Case) (lent left : List ℕ) (r : Written) → CaseWrittenReply c lent r left → ByTable (writeChecks c lent) (Refuses written.Refused r) lent left
+write-case c lent left = reply-meets (λ r. CaseWrittenReply c lent r left) (writeChecks c lent) written.Refused (inl (lit< tt), tt) (λ q p. p) cases
+  where
+    cases : (r : Written) → CaseWrittenReply c lent r left → Passed (writeChecks c lent) ⊎ ((q : Refusal) × (r ≡ written.Refused q))
+    cases (written.Bytes k) p = inl (p .0)
+    cases (written.Refused q) p = inr (q, refl)

@@ -1,0 +1,137 @@
+-- By the table: the calls that print a report, and what they print.
+use mathlib.Core.Path.{_≡_, refl, ap, subst, subst⁻¹}
+use mathlib.Core.Bool.{Bool, true, false, cond, not}
+use mathlib.Core.List.{List, [], _∷_, _++_}
+use mathlib.Core.Logic.{_⊎_, inl, inr}
+use Prim.Native.Nat.{ℕ, _≤_}
+use native.Mathlib.Omega.{arith}
+use lib.Dec.{T, lit<, ltb, ltb→lt, nltb→le}
+use lib.ListN.{length}
+use Rattle.field.specs.Split.{split, lineFeed}
+use Rattle.field.specs.declared.Numeral.{Numeral}
+use Rattle.field.specs.declared.Numeral.the-variants as numeral
+use Rattle.grid.specs.declared.Case.{Case}
+use Rattle.grid.specs.declared.refusal.Refusal.{Refusal}
+use Rattle.grid.specs.declared.refusal.Refusal.the-variants.{TextTooLong, WrongForm}
+use Rattle.grid.specs.Refusals.{Check, check, Passed, Failed}
+use Rattle.grid.proofs.Orders.{itself, failed-unique, failed-or-passed}
+use Rattle.reader.specs.Reading.{mostBytes, start, refused, readLines, readCase}
+use Rattle.reader.specs.declared.CaseRead.{CaseRead}
+use Rattle.writer.specs.Printing.{RefusedText, PrintedReply}
+use Rattle.writer.specs.declared.Written.{Written}
+use Rattle.writer.specs.declared.Written.the-variants as written
+use Rattle.dayreport.specs.Day.{DayReport, DayFor, Day}
+use Rattle.dayreport.proofs.Days.{day-unique}
+use Rattle.planreport.specs.Plan.{budgetOf, unasked, askedWith, planLines, readPlan, planChecks, PlanReport, found, none, PlanFor, Plan}
+use Rattle.planreport.proofs.Unique.{plan-unique}
+use Rattle.demands.specs.Order.{turn, InOrder}
+use Rattle.demands.specs.TextChecks.{IsNumber, planLineChecks, inputChecks, caseChecks, lineChecks, printChecks}
+use Rattle.demands.specs.ByTable.{Refuses, ByTable, PrintedByTable, FewestPrinted}
+use Rattle.demands.proofs.Firsts.{passed-then, reply-meets}
+use Rattle.demands.proofs.Turns.{then-ordered, case-ordered, input-ordered, input-turn}
+use Rattle.demands.proofs.Judging.{good, bad, passing, failing}
+use Rattle.demands.proofs.CaseTexts.{ReadBy, lines-judged, case-judged}
+
+-- ---- the reply: 6 where what is asked for has no room
+
+print-meets : (P : List ℕ → Type 0) → ((s t : List ℕ) → P s → P t → s ≡ t) → (lent left : List ℕ) (r : Written) → PrintedReply P lent left r → ByTable (printChecks P lent) (Refuses written.Refused r) lent left
+print-meets P one lent left = reply-meets (PrintedReply P lent left) (printChecks P lent) written.Refused tt (λ q p. (inl (λ h. omega (arith, h (p .text) (p .asked), p .more), p .refusal), p .kept)) cases
+  where
+    cases : (r : Written) → PrintedReply P lent left r → Passed (printChecks P lent) ⊎ ((q : Refusal) × (r ≡ written.Refused q))
+    cases (written.Bytes k) p = inl (λ t a. omega (arith, p .room, ap length (one t (p .text) a (p .asked))), tt)
+    cases (written.Refused q) p = inr (q, refl)
+
+pub day-report : (text lent left : List ℕ) (r : Written) → PrintedReply (Day text) lent left r → ByTable (printChecks (Day text) lent) (Refuses written.Refused r) lent left
+day-report text = print-meets (Day text) (day-unique text)
+
+pub plan-report : (input lent left : List ℕ) (r : Written) → PrintedReply (Plan input) lent left r → ByTable (printChecks (Plan input) lent) (Refuses written.Refused r) lent left
+plan-report input = print-meets (Plan input) (plan-unique input)
+
+-- ---- what is printed
+
+-- the report where all pass, or the line of the refusal that the first check that fails gives
+printed-met : {Report : Type 0} {t : List ℕ} (checks : List Check) → InOrder checks → (Passed checks × Report) ⊎ ((q : Refusal) × Failed checks q × RefusedText q t)
+    → PrintedByTable checks Report t
+printed-met checks order (inl h) =
+    record { order = order; replies = inl (h .0); report = λ p. h .1; refused = λ q f. absurd (failed-or-passed checks q f (h .0)) }
+printed-met {t = t} checks order (inr (q, f, e)) = record {
+  order = order;
+  replies = inr (q, f);
+  report = λ p. absurd (failed-or-passed checks q f p);
+  refused = λ k g. subst (λ (x : Refusal). RefusedText x t) (failed-unique checks q k f g) e;
+}
+
+pub day-printed : (text t : List ℕ) → Day text t → PrintedByTable (caseChecks text) (DayReport (readCase text .case) t) t
+day-printed text t p = printed-met (caseChecks text) (case-ordered text) (go (case-judged text))
+  where
+    by : CaseRead → Type 0
+    by x = DayFor (x .answer) (x .case) t
+
+    go : ReadBy (caseChecks text) (readCase text) → (Passed (caseChecks text) × DayReport (readCase text .case) t) ⊎ ((q : Refusal) × Failed (caseChecks text) q × RefusedText q t)
+    go (good h (c, e)) = inl (h, subst⁻¹ (λ (x : CaseRead). DayReport (x .case) t) e (subst by e p))
+    go (bad q f e) = inr (q, f, subst by e p)
+
+-- ---- the planning program's input
+
+plan-line-judged : (b : Numeral) (r : CaseRead) (checks : List Check) → ReadBy checks r → ReadBy (check (IsNumber b) 2 1 ∷ checks) (askedWith b r .read)
+plan-line-judged (numeral.Is budget) r checks h = passing (IsNumber (numeral.Is budget)) 2 1 tt h
+plan-line-judged numeral.Wrong r checks h = failing (IsNumber numeral.Wrong) 2 1 (WrongForm 1) (λ x. x) (itself (WrongForm 1))
+
+plan-lines-judged : (l : List ℕ) (ms : List (List ℕ)) → ReadBy (planLineChecks l ms) (planLines l ms .read)
+unfolding planLines
+plan-lines-judged l [] = failing ⊥ 2 1 (WrongForm 1) (λ x. x) (itself (WrongForm 1))
+plan-lines-judged l (m ∷ ms) = plan-line-judged (budgetOf l) (readLines start 2 m ms) (lineChecks start 2 m ms) (lines-judged start 2 m ms)
+
+input-judged : (input : List ℕ) → ReadBy (inputChecks input) (readPlan input .read)
+unfolding readPlan
+input-judged input = go (ltb mostBytes (length input)) refl
+  where
+    l : List ℕ
+    l = split lineFeed input .first
+
+    ms : List (List ℕ)
+    ms = split lineFeed input .rest
+
+    go : (b : Bool) → ltb mostBytes (length input) ≡ b → ReadBy (inputChecks input) (cond b (unasked TextTooLong) (planLines l ms) .read)
+    go true e = failing (length input ≤ mostBytes) 1 0 TextTooLong (λ h. omega (arith, h, ltb→lt mostBytes (length input) (subst⁻¹ T e tt))) (itself TextTooLong)
+    go false e = passing (length input ≤ mostBytes) 1 0 (nltb→le mostBytes (length input) (subst⁻¹ (λ (b : Bool). T (not b)) e tt)) (plan-lines-judged l ms)
+
+-- ---- the planning program
+
+failed-sooner : (ps qs : List Check) (q : Refusal) → Failed ps q → Failed (ps ++ qs) q
+failed-sooner (p ∷ ps) qs q (inl f) = inl f
+failed-sooner (p ∷ ps) qs q (inr f) = inr (f .0, failed-sooner ps qs q (f .1))
+
+failed-later : (ps qs : List Check) (q : Refusal) → Passed ps → Failed qs q → Failed (ps ++ qs) q
+failed-later [] qs q a f = f
+failed-later (p ∷ ps) qs q a f = inr (a .0, failed-later ps qs q (a .1) f)
+
+pub plan-printed : (input t : List ℕ) → Plan input t
+    → PrintedByTable (inputChecks input ++ planChecks (readPlan input .read .case) (readPlan input .budget)) (FewestPrinted (readPlan input .read .case) (readPlan input .budget) t) t
+plan-printed input t p = printed-met (inputChecks input ++ rest) (then-ordered 1 (inputChecks input) rest (input-ordered input) (input-turn input) follows) (go (input-judged input))
+  where
+    c : Case
+    c = readPlan input .read .case
+
+    budget : ℕ
+    budget = readPlan input .budget
+
+    rest : List Check
+    rest = planChecks c budget
+
+    follows : InOrder rest × ((q : Check) → turn q ≤ 1 → InOrder (q ∷ rest))
+    follows = ((inl (lit< tt), tt), λ q h. (inl (omega (arith, h)), (inl (lit< tt), tt)))
+
+    by : CaseRead → Type 0
+    by x = PlanFor (x .answer) (x .case) budget t
+
+    Outcome : Type 0
+    Outcome = (Passed (inputChecks input ++ rest) × FewestPrinted c budget t) ⊎ ((q : Refusal) × Failed (inputChecks input ++ rest) q × RefusedText q t)
+
+    reported : Passed (inputChecks input) → PlanReport c budget t → Outcome
+    reported h (found sites a f e) = inl (passed-then (inputChecks input) rest h a, (sites, f, e))
+    reported h (none q f e) = inr (q, failed-later (inputChecks input) rest q h f, e)
+
+    go : ReadBy (inputChecks input) (readPlan input .read) → Outcome
+    go (good h (k, e)) = reported h (subst⁻¹ (λ (x : CaseRead). PlanReport (x .case) budget t) e (subst by e p))
+    go (bad q f e) = inr (q, failed-sooner (inputChecks input) rest q f, subst by e p)

@@ -1,0 +1,153 @@
+-- By the table: each public call that reads a text.
+use mathlib.Core.Path.{_≡_, refl, sym, ap, _∙_, subst, subst⁻¹}
+use mathlib.Core.Bool.{Bool, true, false, cond, not}
+use mathlib.Core.List.{List, [], _∷_, _++_}
+use mathlib.Core.Logic.{inl, inr}
+use Prim.Native.Nat.{ℕ, _+_, _≤_}
+use native.Mathlib.Omega.{arith}
+use lib.Dec.{T, lit≤, ltb, ltb→lt, nltb→le}
+use lib.ListN.{length}
+use Rattle.step.specs.declared.Step.{Step}
+use Rattle.grid.specs.declared.Case.{Case}
+use Rattle.grid.specs.declared.refusal.Refusal.{Refusal}
+use Rattle.grid.specs.declared.refusal.Refusal.the-variants.{NoRoom}
+use Rattle.grid.specs.Refusals.{numberOf, placeOf, Check, check, Passed, Failed}
+use Rattle.grid.proofs.Orders.{itself}
+use Rattle.following.specs.Replies.{replayChecks}
+use Rattle.reader.specs.Reading.{got, refused}
+use Rattle.reader.specs.declared.CaseRead.{CaseRead}
+use Rattle.reader.specs.declared.ReadAnswer.the-variants as read
+use Rattle.steptext.specs.Steps.{readSteps, stepsOf, withRoom, leaves, StepsReadReply}
+use Rattle.steptext.specs.declared.StepsRead.{StepsRead}
+use Rattle.steptext.specs.declared.StepsRead.the-variants.{Steps, Refused}
+use Rattle.steptext.proofs.Found.{steps-count}
+use Rattle.textreplay.specs.Replying.{TextReplayAt, TextReplayReply}
+use Rattle.textreplay.specs.declared.TextReplayed.{TextReplayed}
+use Rattle.textreplay.specs.declared.TextReplayed.the-variants as told
+use Rattle.wozgrzyt.specs.TextReplies.{CaseReadReply, StepsCheckedReply}
+use Rattle.demands.specs.Order.{FirstFails}
+use Rattle.demands.specs.TextChecks.{caseChecks, stepTextChecks, withFifty, stepsReadChecks, textReplayChecks}
+use Rattle.demands.specs.ByTable.{Refuses, Unread, TextRefuses, ByTable}
+use Rattle.demands.proofs.Firsts.{failed-first, Ends, met, ends-later, ends-sooner}
+use Rattle.demands.proofs.Turns.{Follows, then-ordered, then-follows, replay-follows, case-ordered, step-text-ordered, step-text-turn, fifty-follows, fifty-text-turn}
+use Rattle.demands.proofs.Judging.{SaidBy, good, bad, failing}
+use Rattle.demands.proofs.CaseTexts.{IsCase, case-judged}
+use Rattle.demands.proofs.StepTexts.{IsCount, steps-judged}
+
+-- ---- texts read
+
+-- two refusals that are the same reply are one, and no answer is a refusal
+pub record Apart {R : Type 0} (refused : Refusal → R) (A : R → Type 0) : Type 0 where
+  pub one : (q k : Refusal) → refused q ≡ refused k → q ≡ k
+  pub answer : (q : Refusal) → A (refused q) → ⊥
+
+said-ends : {R : Type 0} {refused : Refusal → R} {A : R → Type 0} → Apart refused A → (checks : List Check) (r : R) → SaidBy refused A checks r → Ends checks (Refuses refused r)
+said-ends {A = A} w checks r (good p a) = inl (p, λ n k h. w .answer (h .0) (subst A (h .1) a))
+said-ends w checks r (bad q f e) =
+    inr (
+      numberOf q,
+      placeOf q,
+      failed-first checks q f,
+      (q, e, itself q),
+      λ m o h.
+          let s : q ≡ h .0 = w .one q (h .0) (sym e ∙ h .1) in (ap numberOf s ∙ h .2 .numbered, ap placeOf s ∙ h .2 .placed),
+    )
+
+case-apart : Apart refused IsCase
+case-apart = record { one = same; answer = λ q a. absurd-read q (a .0) (a .1) }
+  where
+    same : (q k : Refusal) → refused q ≡ refused k → q ≡ k
+    same q k e = let f : read.Refused q ≡ read.Refused k = ap (λ (r : CaseRead). r .answer) e in cc
+
+    absurd-read : (q : Refusal) (c : Case) → refused q ≡ got c → ⊥
+    absurd-read q c e = let f : read.Refused q ≡ read.Read = ap (λ (r : CaseRead). r .answer) e in let z : _≡_ {A = ℕ} 0 1 = cc in omega arith
+
+steps-apart : Apart Refused IsCount
+steps-apart = record { one = λ q k e. cc; answer = λ q a. absurd-count q (a .0) (a .1) }
+  where
+    absurd-count : (q : Refusal) (n : ℕ) → Refused q ≡ Steps n → ⊥
+    absurd-count q n e = let z : _≡_ {A = ℕ} 0 1 = cc in omega arith
+
+pub read-case : (text : List ℕ) (r : CaseRead) → CaseReadReply text r → ByTable {M = Unit {0}} (caseChecks text) (Refuses refused r) tt tt
+read-case text r p =
+    met (caseChecks text) (Refuses refused r) (case-ordered text) (λ n k h. refl) (said-ends case-apart (caseChecks text) r (subst⁻¹ (SaidBy refused IsCase (caseChecks text)) p (case-judged text)))
+
+pub check-steps : (text : List ℕ) (r : StepsRead) → StepsCheckedReply text r → ByTable {M = Unit {0}} (stepTextChecks text) (Refuses Refused r) tt tt
+check-steps text r p =
+    met (stepTextChecks text) (Refuses Refused r) (step-text-ordered text) (λ n k h. refl) (said-ends steps-apart (stepTextChecks text) r (subst⁻¹ (SaidBy Refused IsCount (stepTextChecks text)) p (steps-judged text)))
+
+-- the steps have room, or 6
+abbrev hasRoom : List ℕ → ℕ → List Check
+hasRoom text room = check (length (stepsOf text) ≤ room) 6 0 ∷ []
+
+-- where the text is good, it has as many steps as it says
+room-judged : (text : List ℕ) (room : ℕ) (r : StepsRead) → readSteps text ≡ r → SaidBy Refused IsCount (stepTextChecks text) r
+    → Ends (stepsReadChecks text room) (Refuses Refused (withRoom room r))
+room-judged text room r e (bad q f d) =
+    ends-sooner (stepTextChecks text) (hasRoom text room) (Refuses Refused (withRoom room r)) (numberOf q) (placeOf q) (failed-first (stepTextChecks text) q f) (q, same, itself q)
+    (λ m o h. let s : q ≡ h .0 = steps-apart .one q (h .0) (sym same ∙ h .1) in (ap numberOf s ∙ h .2 .numbered, ap placeOf s ∙ h .2 .placed))
+  where
+    same : withRoom room r ≡ Refused q
+    same = ap (withRoom room) d
+room-judged text room r e (good p (n, d)) =
+    ends-later (stepTextChecks text) (hasRoom text room) (Refuses Refused (withRoom room r)) p
+    (subst⁻¹ (λ (x : StepsRead). Ends (hasRoom text room) (Refuses Refused (withRoom room x))) d (go (ltb room n) refl))
+  where
+    many : length (stepsOf text) ≡ n
+    many = steps-count text n (e ∙ d)
+
+    go : (b : Bool) → ltb room n ≡ b → Ends (hasRoom text room) (Refuses Refused (cond b (Refused NoRoom) (Steps n)))
+    go true h = said-ends steps-apart (hasRoom text room) (Refused NoRoom) (failing (length (stepsOf text) ≤ room) 6 0 NoRoom (λ l. omega (arith, l, many, ltb→lt room n (subst⁻¹ T h tt))) (itself NoRoom))
+    go false h = said-ends steps-apart (hasRoom text room) (Steps n) (good (omega (arith, many, nltb→le room n (subst⁻¹ (λ (b : Bool). T (not b)) h tt)), tt) (n, refl))
+
+pub read-steps : (text : List ℕ) (before after : List Step) (r : StepsRead) → StepsReadReply text before after r
+    → ByTable (stepsReadChecks text (length before)) (Refuses Refused r) before after
+read-steps text before after r p =
+    met (stepsReadChecks text (length before)) (Refuses Refused r)
+    (then-ordered 1 (stepTextChecks text) (hasRoom text (length before)) (step-text-ordered text) (step-text-turn text) (tt, λ q h. (inl (omega (arith, h)), tt)))
+    (λ n k h. p .1 ∙ ap (λ (x : StepsRead). leaves x (stepsOf text) before) (h .1))
+    (subst⁻¹ (λ (x : StepsRead). Ends (stepsReadChecks text (length before)) (Refuses Refused x)) (p .0) (room-judged text (length before) (readSteps text) refl (steps-judged text)))
+
+-- ---- a step text replayed
+
+-- 50 added to each number
+fifty-first : (qs : List Check) (n k : ℕ) → FirstFails qs n k → FirstFails (withFifty qs) (n + 50) k
+fifty-first (q ∷ qs) n k (inl f) = inl (f .0, ap (λ (x : ℕ). x + 50) (f .1), f .2)
+fifty-first (q ∷ qs) n k (inr f) = inr (f .0, fifty-first qs n k (f .1))
+
+fifty-passed : (qs : List Check) → Passed qs → Passed (withFifty qs)
+fifty-passed [] p = tt
+fifty-passed (q ∷ qs) p = (p .0, fifty-passed qs (p .1))
+
+pub text-replay-ends : (c : Case) (text : List ℕ) (r : TextReplayed) → TextReplayReply c text r → Ends (textReplayChecks c text) (TextRefuses r)
+text-replay-ends c text r p = go (steps-judged text)
+  where
+    fifty : List Check
+    fifty = withFifty (stepTextChecks text)
+
+    steps : List Check
+    steps = replayChecks c (stepsOf text)
+
+    replayed-ends : (n : ℕ) (r : TextReplayed) → TextReplayAt c text (Steps n) r → Ends steps (TextRefuses r)
+    replayed-ends n (told.Reached s f) p = inl (p .0, λ n k h. h)
+    replayed-ends n (told.Refused q) p = inr (numberOf q, placeOf q, failed-first steps q p, itself q, λ m o h. (h .numbered, h .placed))
+    replayed-ends n (told.Unread q) p = absurd p
+
+    unread-ends : (q : Refusal) (r : TextReplayed) → Failed (stepTextChecks text) q → TextReplayAt c text (Refused q) r → Ends (fifty ++ steps) (TextRefuses r)
+    unread-ends q (told.Reached s f) a p = absurd p
+    unread-ends q (told.Refused k) a p = absurd p
+    unread-ends q (told.Unread k) a p =
+        ends-sooner fifty steps (TextRefuses (told.Unread k)) (numberOf q + 50) (placeOf q) (fifty-first (stepTextChecks text) (numberOf q) (placeOf q) (failed-first (stepTextChecks text) q a))
+        (record { numbered = ap (λ (x : Refusal). numberOf x + 50) p; placed = ap placeOf p })
+        (λ m o h. (sym (ap (λ (x : Refusal). numberOf x + 50) p) ∙ h .numbered, sym (ap placeOf p) ∙ h .placed))
+
+    go : SaidBy Refused IsCount (stepTextChecks text) (readSteps text) → Ends (fifty ++ steps) (TextRefuses r)
+    go (good a (n, e)) = ends-later fifty steps (TextRefuses r) (fifty-passed (stepTextChecks text) a) (replayed-ends n r (subst (λ (x : StepsRead). TextReplayAt c text x r) e p))
+    go (bad q f e) = unread-ends q r f (subst (λ (x : StepsRead). TextReplayAt c text x r) e p)
+
+pub text-replay-follows : (c : Case) (text : List ℕ) → Follows 1 (textReplayChecks c text)
+text-replay-follows c text =
+    then-follows 3 1 (withFifty (stepTextChecks text)) (replayChecks c (stepsOf text)) (fifty-follows text) (fifty-text-turn text) (lit≤ tt) (replay-follows c (stepsOf text))
+
+pub replay-text : (c : Case) (text : List ℕ) (r : TextReplayed) → TextReplayReply c text r → ByTable {M = Unit {0}} (textReplayChecks c text) (TextRefuses r) tt tt
+replay-text c text r p = met (textReplayChecks c text) (TextRefuses r) (text-replay-follows c text .0) (λ n k h. refl) (text-replay-ends c text r p)

@@ -1,0 +1,45 @@
+-- Demand 1's first sentence: every text, case value, list and budget gets a reply, and the call ends.
+-- A call's statement is that its own code, on every input that its contract allows, returns and leaves what the contract says; none of these contracts has a requirement.
+use Rattle.wozgrzyt.proofs.observed_set.Statement as observed-set
+use Rattle.wozgrzyt.proofs.firing_figure.Statement as firing-figure
+use Rattle.wozgrzyt.proofs.test_step.Statement as test-step
+use Rattle.wozgrzyt.proofs.steps.derivation.Statement as derivation
+use Rattle.desks.proofs.replay.Statement as replay
+use Rattle.desks.proofs.weave.Statement as weave
+use Rattle.wozgrzyt.proofs.siting.cross_validate.Statement as cross-validate
+use Rattle.wozgrzyt.proofs.siting.place_greedy.Statement as place-greedy
+use Rattle.wozgrzyt.proofs.siting.place_fewest.Statement as place-fewest
+use Rattle.wozgrzyt.proofs.texts.read_case.Statement as read-case
+use Rattle.wozgrzyt.proofs.texts.write_case.Statement as write-case
+use Rattle.wozgrzyt.proofs.texts.check_steps.Statement as check-steps
+use Rattle.desks.proofs.texts.read_steps.Statement as read-steps
+use Rattle.textreplay.proofs.replay_text.Statement as replay-text
+use Rattle.dayreport.proofs.day_report.Statement as day-report
+use Rattle.planreport.proofs.plan_report.Statement as plan-report
+use Rattle.estimator.proofs.wz_observed.Statement as wz-observed
+use Rattle.estimator.proofs.wz_unconfirmed.Statement as wz-unconfirmed
+use Rattle.estimator.proofs.wz_fewest.Statement as wz-fewest
+use Rattle.estimator.proofs.wz_replay.Statement as wz-replay
+
+-- every public call meets its promise on every input
+pub record EveryCall (M : Type 1) : Type 2 where
+  pub observed-set : observed-set.statement M
+  pub firing-figure : firing-figure.statement M
+  pub test-step : test-step.statement M
+  pub derivation : derivation.statement M
+  pub replay : replay.statement M
+  pub weave : weave.statement M
+  pub cross-validate : cross-validate.statement M
+  pub place-greedy : place-greedy.statement M
+  pub place-fewest : place-fewest.statement M
+  pub read-case : read-case.statement M
+  pub write-case : write-case.statement M
+  pub check-steps : check-steps.statement M
+  pub read-steps : read-steps.statement M
+  pub replay-text : replay-text.statement M
+  pub day-report : day-report.statement M
+  pub plan-report : plan-report.statement M
+  pub wz-observed : wz-observed.statement M
+  pub wz-unconfirmed : wz-unconfirmed.statement M
+  pub wz-fewest : wz-fewest.statement M
+  pub wz-replay : wz-replay.statement M
