@@ -33,10 +33,10 @@ text-unique text P u a b p q = go (readCase text .answer) p q
 
 -- where P says the answer, the result and every byte are fixed
 abbrev pub Fixed : (Answer → Type 0) → Type 0
-Fixed P = (lent left left′ : List ℕ) (r r′ : ℕ) → Answered P lent left r → Answered P lent left′ r′ → (r ≡ r′) × (left ≡ left′)
+Fixed P = (lent : List ℕ) (a b : ℕ) (left right : List ℕ) → Answered P lent left a → Answered P lent right b → (a ≡ b) × (left ≡ right)
 
 fixed : (P : Answer → Type 0) → Unique P → Fixed P
-fixed P u lent left left′ r r′ p q =
+fixed P u lent a b left right p q =
     let e = u (p .answer) (q .answer) (p .is) (q .is) in (
       p .replied .result ∙ ap (λ (a : Answer). resultOf a (length lent)) e ∙ sym (q .replied .result),
       p .replied .bytes ∙ ap (λ (a : Answer). leftBy a lent) e ∙ sym (q .replied .bytes),

@@ -4,6 +4,7 @@ pub mod SitingUniqueness
 pub mod TextUniqueness
 pub mod ReportUniqueness
 pub mod EstimatorUniqueness
+pub mod Determined
 pub mod Firsts
 pub mod Turns
 pub mod Judging

@@ -71,10 +71,10 @@ text-replay-unique c text a b p q = go (readSteps text) a b p q
     go (read.Refused r) (told.Unread j) (told.Refused k) p q = absurd q
     go (read.Refused r) (told.Unread j) (told.Unread k) p q = ap told.Unread (p ∙ sym q)
 
-pub weave-unique : (c : Case) (xs before x y : List Step) (a b : Wove) → WeaveReply c xs before x a → WeaveReply c xs before y b → (a ≡ b) × (x ≡ y)
-weave-unique c xs before x y (wove.Written m s) (wove.Written n t) p q =
+pub weave-unique : (c : Case) (xs before : List Step) (a b : Wove) (left right : List Step) → WeaveReply c xs before left a → WeaveReply c xs before right b → (a ≡ b) × (left ≡ right)
+weave-unique c xs before (wove.Written m s) (wove.Written n t) left right p q =
     (λ i. wove.Written ((p .1 ∙ sym (q .1)) i) (set-inj s t (p .2 ∙ sym (q .2)) i), p .3 ∙ sym (q .3))
-weave-unique c xs before x y (wove.Written m s) (wove.Refused r) p q = absurd (failed-or-passed (weaveChecks c xs (length before)) r (q .0) (p .0))
-weave-unique c xs before x y (wove.Refused r) (wove.Written m s) p q = absurd (failed-or-passed (weaveChecks c xs (length before)) r (p .0) (q .0))
-weave-unique c xs before x y (wove.Refused r) (wove.Refused k) p q =
+weave-unique c xs before (wove.Written m s) (wove.Refused r) left right p q = absurd (failed-or-passed (weaveChecks c xs (length before)) r (q .0) (p .0))
+weave-unique c xs before (wove.Refused r) (wove.Written m s) left right p q = absurd (failed-or-passed (weaveChecks c xs (length before)) r (p .0) (q .0))
+weave-unique c xs before (wove.Refused r) (wove.Refused k) left right p q =
     (ap wove.Refused (failed-unique (weaveChecks c xs (length before)) r k (p .0) (q .0)), p .1 ∙ sym (q .1))

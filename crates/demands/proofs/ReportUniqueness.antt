@@ -1,5 +1,5 @@
--- For each call that prints: two replies that meet its promise on one input, with the bytes they leave, are equal.
-use mathlib.Core.Path.{_≡_}
+-- For each call that prints: two replies that meet its promise on one input are equal, and so are the bytes that they leave.
+use mathlib.Core.Path.{_≡_, ap}
 use mathlib.Core.List.{List}
 use Prim.Native.Nat.{ℕ}
 use Rattle.writer.specs.declared.Written.{Written}
@@ -10,10 +10,14 @@ use Rattle.dayreport.proofs.Days.{day-unique}
 use Rattle.planreport.specs.Plan.{Plan}
 use Rattle.planreport.proofs.Unique.{plan-unique}
 
-pub day-report-unique : (text lent : List ℕ) (a b : Written) (left right : List ℕ) → PrintedReply (Day text) lent left a → PrintedReply (Day text) lent right b →
-    _≡_ {A = PrintReply} (record { reply = a; left = left }) (record { reply = b; left = right })
-day-report-unique text = printed-unique (day-unique text)
+-- where P asks for one text
+printed-one : (P : List ℕ → Type 0) → ((s t : List ℕ) → P s → P t → s ≡ t) → (lent : List ℕ) (a b : Written) (left right : List ℕ)
+    → PrintedReply P lent left a → PrintedReply P lent right b → (a ≡ b) × (left ≡ right)
+printed-one P one lent a b left right p q =
+    let e = printed-unique one lent a b left right p q in (ap (λ (r : PrintReply). r .reply) e, ap (λ (r : PrintReply). r .left) e)
 
-pub plan-report-unique : (input lent : List ℕ) (a b : Written) (left right : List ℕ) → PrintedReply (Plan input) lent left a → PrintedReply (Plan input) lent right b →
-    _≡_ {A = PrintReply} (record { reply = a; left = left }) (record { reply = b; left = right })
-plan-report-unique input = printed-unique (plan-unique input)
+pub day-report-unique : (text lent : List ℕ) (a b : Written) (left right : List ℕ) → PrintedReply (Day text) lent left a → PrintedReply (Day text) lent right b → (a ≡ b) × (left ≡ right)
+day-report-unique text = printed-one (Day text) (day-unique text)
+
+pub plan-report-unique : (input lent : List ℕ) (a b : Written) (left right : List ℕ) → PrintedReply (Plan input) lent left a → PrintedReply (Plan input) lent right b → (a ≡ b) × (left ≡ right)
+plan-report-unique input = printed-one (Plan input) (plan-unique input)

@@ -24,23 +24,17 @@ verdict-unique c (verdict.Unconfirmed s) (verdict.Refused r) p q = absurd (faile
 verdict-unique c (verdict.Refused r) (verdict.Unconfirmed s) p q = absurd (failed-or-passed (verdictChecks c) r p (q .0))
 verdict-unique c (verdict.Refused r) (verdict.Refused k) p q = ap verdict.Refused (failed-unique (verdictChecks c) r k p q)
 
--- the reply, and the room as it is left
-pub record Left (a b : Greedy) (exit exit′ : List ℕ) : Type 0 where
-  pub reply : a ≡ b
-  pub room : exit ≡ exit′
-
-pub greedy-reply-unique : (c : Case) (budget : ℕ) (entry exit exit′ : List ℕ) (a b : Greedy) → GreedyReply c budget entry exit a → GreedyReply c budget entry exit′ b → Left a b exit exit′
-greedy-reply-unique c budget entry exit exit′ (greedy.Added j) (greedy.Added k) p q =
+pub greedy-reply-unique : (c : Case) (budget : ℕ) (entry : List ℕ) (a b : Greedy) (left right : List ℕ) → GreedyReply c budget entry left a → GreedyReply c budget entry right b → (a ≡ b) × (left ≡ right)
+greedy-reply-unique c budget entry (greedy.Added j) (greedy.Added k) left right p q =
     let same = greedy-unique (gridOf c) budget (p .1 .list) (q .1 .list) (p .1 .greedy) (q .1 .greedy) in
-    let count : j ≡ k = p .1 .count ∙ ap length same ∙ sym (q .1 .count) in
-    record {
-      reply = ap greedy.Added count;
-      room = p .1 .written ∙ ap (λ (xs : List ℕ). xs ++ drop j entry) same ∙ ap (λ (i : ℕ). q .1 .list ++ drop i entry) count ∙ sym (q .1 .written);
-    }
-greedy-reply-unique c budget entry exit exit′ (greedy.Added j) (greedy.Refused r) p q = absurd (failed-or-passed (greedyChecks c budget entry) r (q .0) (p .0))
-greedy-reply-unique c budget entry exit exit′ (greedy.Refused r) (greedy.Added k) p q = absurd (failed-or-passed (greedyChecks c budget entry) r (p .0) (q .0))
-greedy-reply-unique c budget entry exit exit′ (greedy.Refused r) (greedy.Refused k) p q =
-    record { reply = ap greedy.Refused (failed-unique (greedyChecks c budget entry) r k (p .0) (q .0)); room = p .1 ∙ sym (q .1) }
+    let count : j ≡ k = p .1 .count ∙ ap length same ∙ sym (q .1 .count) in (
+      ap greedy.Added count,
+      p .1 .written ∙ ap (λ (xs : List ℕ). xs ++ drop j entry) same ∙ ap (λ (i : ℕ). q .1 .list ++ drop i entry) count ∙ sym (q .1 .written),
+    )
+greedy-reply-unique c budget entry (greedy.Added j) (greedy.Refused r) left right p q = absurd (failed-or-passed (greedyChecks c budget entry) r (q .0) (p .0))
+greedy-reply-unique c budget entry (greedy.Refused r) (greedy.Added k) left right p q = absurd (failed-or-passed (greedyChecks c budget entry) r (p .0) (q .0))
+greedy-reply-unique c budget entry (greedy.Refused r) (greedy.Refused k) left right p q =
+    (ap greedy.Refused (failed-unique (greedyChecks c budget entry) r k (p .0) (q .0)), p .1 ∙ sym (q .1))
 
 pub fewest-unique : (c : Case) (budget : ℕ) (a b : Fewest) → FewestReply c budget a → FewestReply c budget b → a ≡ b
 fewest-unique c budget (fewest.Sites m) (fewest.Sites k) p q = ap fewest.Sites (set-inj m k (fewest-set-unique (p .1) (q .1)))

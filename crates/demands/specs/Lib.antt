@@ -1,3 +1,4 @@
+pub mod Determined
 pub mod Order
 pub mod TextChecks
 pub mod ByTable

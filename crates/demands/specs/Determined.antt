@@ -1,0 +1,67 @@
+-- Every promise determines the reply: two replies that a public call's promise allows on one input are equal, and so is all that was lent.
+use mathlib.Core.Path.{_≡_}
+use mathlib.Core.List.{List}
+use Prim.Native.Nat.{ℕ}
+use Rattle.step.specs.declared.Step.{Step}
+use Rattle.grid.specs.declared.Case.{Case}
+use Rattle.following.specs.Replies.{ReplayReply, WeaveReply}
+use Rattle.following.specs.declared.Replayed.{Replayed}
+use Rattle.following.specs.declared.Wove.{Wove}
+use Rattle.reader.specs.declared.CaseRead.{CaseRead}
+use Rattle.steptext.specs.Steps.{StepsReadReply}
+use Rattle.steptext.specs.declared.StepsRead.{StepsRead}
+use Rattle.textreplay.specs.Replying.{TextReplayReply}
+use Rattle.textreplay.specs.declared.TextReplayed.{TextReplayed}
+use Rattle.writer.specs.Printing.{PrintedReply}
+use Rattle.writer.specs.declared.Written.{Written}
+use Rattle.dayreport.specs.Day.{Day}
+use Rattle.planreport.specs.Plan.{Plan}
+use Rattle.wozgrzyt.specs.declared.Observed.{Observed}
+use Rattle.wozgrzyt.specs.declared.Figured.{Figured}
+use Rattle.wozgrzyt.specs.declared.Tested.{Tested}
+use Rattle.wozgrzyt.specs.declared.steps.Derived.{Derived}
+use Rattle.wozgrzyt.specs.declared.siting.Verdict.{Verdict}
+use Rattle.wozgrzyt.specs.declared.siting.Greedy.{Greedy}
+use Rattle.wozgrzyt.specs.declared.siting.Fewest.{Fewest}
+use Rattle.wozgrzyt.specs.Replies.{ObservedReply, FigureReply, StepReply}
+use Rattle.wozgrzyt.specs.ListReplies.{DerivationReply}
+use Rattle.wozgrzyt.specs.SitingReplies.{VerdictReply, GreedyReply, FewestReply}
+use Rattle.wozgrzyt.specs.TextReplies.{CaseReadReply, CaseWrittenReply, StepsCheckedReply}
+use Rattle.estimator.specs.Answers.{ObservedFor, UnconfirmedFor, FewestFor, ReplayFor, OfText}
+use Rattle.estimator.specs.Results.{Answered}
+
+-- P allows one reply
+abbrev pub One : {R : Type 0} → (R → Type 0) → Type 0
+One {R} P = (a b : R) → P a → P b → a ≡ b
+
+-- P allows one reply, and one state of what was lent
+abbrev pub OneOf : {R M : Type 0} → (R → M → Type 0) → Type 0
+OneOf {R} {M} P = (a b : R) (left right : M) → P a left → P b right → (a ≡ b) × (left ≡ right)
+
+pub record Determined : Type 0 where
+  -- the grid
+  pub observed-set : (c : Case) → One {R = Observed} (ObservedReply c)
+  pub firing-figure : (c : Case) (s i j : ℕ) → One {R = Figured} (FigureReply c s i j)
+  pub test-step : (c : Case) (s : ℕ) (x : Step) → One {R = Tested} (StepReply c s x)
+  -- lists of steps
+  pub derivation : (c : Case) → One {R = Derived} (DerivationReply c)
+  pub replay : (c : Case) (xs : List Step) → One {R = Replayed} (ReplayReply c xs)
+  pub weave : (c : Case) (xs before : List Step) → OneOf {R = Wove} {M = List Step} (λ r after. WeaveReply c xs before after r)
+  -- placing units
+  pub cross-validate : (c : Case) → One {R = Verdict} (VerdictReply c)
+  pub place-greedy : (c : Case) (budget : ℕ) (entry : List ℕ) → OneOf {R = Greedy} {M = List ℕ} (λ r exit. GreedyReply c budget entry exit r)
+  pub place-fewest : (c : Case) (budget : ℕ) → One {R = Fewest} (FewestReply c budget)
+  -- texts
+  pub read-case : (text : List ℕ) → One {R = CaseRead} (CaseReadReply text)
+  pub write-case : (c : Case) (lent : List ℕ) → OneOf {R = Written} {M = List ℕ} (λ r left. CaseWrittenReply c lent r left)
+  pub check-steps : (text : List ℕ) → One {R = StepsRead} (StepsCheckedReply text)
+  pub read-steps : (text : List ℕ) (before : List Step) → OneOf {R = StepsRead} {M = List Step} (λ r after. StepsReadReply text before after r)
+  pub replay-text : (c : Case) (text : List ℕ) → One {R = TextReplayed} (TextReplayReply c text)
+  -- the reports
+  pub day-report : (text lent : List ℕ) → OneOf {R = Written} {M = List ℕ} (λ r left. PrintedReply (Day text) lent left r)
+  pub plan-report : (input lent : List ℕ) → OneOf {R = Written} {M = List ℕ} (λ r left. PrintedReply (Plan input) lent left r)
+  -- the state estimator's calls
+  pub wz-observed : (text lent : List ℕ) → OneOf {R = ℕ} {M = List ℕ} (λ r left. Answered (OfText text ObservedFor) lent left r)
+  pub wz-unconfirmed : (text lent : List ℕ) → OneOf {R = ℕ} {M = List ℕ} (λ r left. Answered (OfText text UnconfirmedFor) lent left r)
+  pub wz-fewest : (text : List ℕ) (budget : ℕ) (lent : List ℕ) → OneOf {R = ℕ} {M = List ℕ} (λ r left. Answered (OfText text (FewestFor budget)) lent left r)
+  pub wz-replay : (text steps lent : List ℕ) → OneOf {R = ℕ} {M = List ℕ} (λ r left. Answered (OfText text (ReplayFor steps)) lent left r)
