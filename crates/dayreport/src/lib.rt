@@ -37,7 +37,7 @@ fn report(case: Case, out: &mut [u8]) -> Written
     let n = case.n;
     let nbr = case.nbr;
     let list = following::derivation::derive(case);
-    let alone = place::confirming::unconfirmed(n, &nbr, case.units);
+    let alone = confirm::unconfirmed(n, &nbr, case.units);
     print_day(out, n, list, busset::count(alone))
 }
 

@@ -6,7 +6,7 @@ use native.Mathlib.Omega.{arith}
 use lib.ListN.{length, drop, set}
 use Rattle.busset.specs.Bytes.{byteOf, setBytes}
 use Rattle.busset.proofs.Packing.{byte-at}
-use Rattle.place.proofs.Writing.{Written, written-more}
+use Rattle.greedy.proofs.Writing.{Written, written-more}
 
 pub filled-more : (s : ℕ) {lent room : List ℕ} {i b : ℕ} → Written (setBytes s) lent room i → i < 8 → 8 ≤ length lent → b ≡ byteOf s i → Written (setBytes s) lent (set room i b) (i + 1)
 filled-more s {lent} {room} {i} {b} w l m e =

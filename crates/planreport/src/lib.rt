@@ -6,10 +6,10 @@ ghost use Rattle.planreport.specs.Plan.{PlanReport, Plan};
 mod asking;
 mod printing;
 
+use fewest::Found;
+use fewest::fewest;
 use grid::Case;
 use grid::Refusal;
-use place::fewest::Found;
-use place::fewest::fewest;
 use reader::ReadAnswer;
 use writer::Written;
 use writer::printing::print_refused;

@@ -27,7 +27,7 @@ pub fn cross_validate(case: Case) -> Verdict
         return Verdict::Refused(Refusal::InvalidCase);
     }
     let nbr = case.nbr;
-    Verdict::Unconfirmed(place::confirming::unconfirmed(case.n, &nbr, case.units))
+    Verdict::Unconfirmed(confirm::unconfirmed(case.n, &nbr, case.units))
 }
 
 // The sites that greedy adds within the budget, in the order added, into the room lent.
@@ -41,11 +41,11 @@ pub fn place_greedy(case: Case, budget: usize, room: &mut [usize]) -> Greedy
         return Greedy::Refused(Refusal::OverBudget(0));
     }
     let nbr = case.nbr;
-    let order = place::greedy::greedy(&nbr, case.zero, case.site, case.units, budget);
+    let order = greedy::greedy(&nbr, case.zero, case.site, case.units, budget);
     if room.len() < order.count {
         return Greedy::Refused(Refusal::NoRoom);
     }
-    place::greedy::write(order, room);
+    greedy::write(order, room);
     Greedy::Added(order.count)
 }
 
@@ -60,9 +60,9 @@ pub fn place_fewest(case: Case, budget: usize) -> Fewest
         return Fewest::Refused(Refusal::OverBudget(0));
     }
     let nbr = case.nbr;
-    let found = place::fewest::fewest(case.n, &nbr, case.zero, case.site, case.units, budget);
+    let found = fewest::fewest(case.n, &nbr, case.zero, case.site, case.units, budget);
     match found {
-        place::fewest::Found::Sites(m) => Fewest::Sites(m),
-        place::fewest::Found::Nothing => Fewest::Refused(Refusal::NoCover),
+        fewest::Found::Sites(m) => Fewest::Sites(m),
+        fewest::Found::Nothing => Fewest::Refused(Refusal::NoCover),
     }
 }

@@ -1,8 +1,8 @@
 use mathlib.Core.Path.{_≡_, subst}
 use native.Mathlib.Omega.{arith}
 use Rattle.grid.specs.Cases.{gridOf}
-use Rattle.place.specs.declared.fewest.Found.{Found}
-use Rattle.place.specs.Answers.{FewestIs}
+use Rattle.fewest.specs.declared.Found.{Found}
+use Rattle.fewest.specs.Answers.{FewestIs}
 use Rattle.writer.proofs.Printed.{printed-by}
 use Rattle.planreport.proofs.Reports.{over-budget, no-cover, fewest-found}
 use borrow.Author.Needs.{needs}

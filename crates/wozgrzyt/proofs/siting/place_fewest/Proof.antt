@@ -6,8 +6,8 @@ use Rattle.busset.proofs.Tests.{refutes}
 use Rattle.rules.proofs.Ordering.{fewest-some}
 use Rattle.grid.specs.Cases.{gridOf, Valid}
 use Rattle.grid.proofs.Orders.{itself}
-use Rattle.place.specs.declared.fewest.Found.{Found}
-use Rattle.place.specs.Answers.{FewestIs}
+use Rattle.fewest.specs.declared.Found.{Found}
+use Rattle.fewest.specs.Answers.{FewestIs}
 use borrow.Author.Needs.{needs}
 use Rattle.wozgrzyt.proofs.siting.place_fewest.Statement.{statement}
 use Rattle.wozgrzyt.proofs.siting.place_fewest.Tie as tie

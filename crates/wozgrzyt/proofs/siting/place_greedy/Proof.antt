@@ -6,8 +6,8 @@ use lib.ListN.{take}
 use Rattle.busset.proofs.Tests.{refutes}
 use Rattle.grid.specs.Cases.{gridOf, Valid}
 use Rattle.grid.proofs.Orders.{itself}
-use Rattle.place.specs.Choices.{Listed}
-use Rattle.place.proofs.Comparing.{listed-count, listed-room, listed-no-room}
+use Rattle.greedy.specs.Choices.{Listed}
+use Rattle.greedy.proofs.Comparing.{listed-count, listed-room, listed-no-room}
 use borrow.Author.Needs.{needs}
 use Rattle.wozgrzyt.proofs.siting.place_greedy.Statement.{statement}
 use Rattle.wozgrzyt.proofs.siting.place_greedy.Tie as tie

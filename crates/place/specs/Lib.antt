@@ -1,3 +1,0 @@
-pub mod Spreads
-pub mod Answers
-pub mod Choices
