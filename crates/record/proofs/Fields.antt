@@ -1,6 +1,6 @@
 -- What the fields of a line say.
-use mathlib.Core.Path.{_≡_, refl, sym, ap, ap₂, _∙_}
-use mathlib.Core.Bool.{Bool, true, false, cond}
+use mathlib.Core.Path.{_≡_, refl, sym, ap, _∙_}
+use mathlib.Core.Bool.{true, false}
 use mathlib.Core.List.{List, [], _∷_}
 use Prim.Native.Nat.{ℕ, _+_, _≤_, _<_}
 use native.Mathlib.Omega.{arith}
@@ -40,29 +40,6 @@ module _ (p q : ℕ) where
   pub mark-other : (f : List ℕ) → length f ≡ 1 → (getD f 0 0 ≡ p → ⊥) → (getD f 0 0 ≡ q → ⊥) → Neither ≡ markOf p q f
   unfolding markOf
   mark-other f l n m = sym (one-letter f l ∙ rw (ne-eqb _ _ n, ne-eqb _ _ m))
-
--- ---- the steps of a reader; the call's answer comes first in each equation, as a contract has it
-
--- an answer of f at a, where a is what an earlier call says
-module _ {A B : Type 0} (f : A → B) where
-  pub via : {r : B} {a b : A} → r ≡ f a → a ≡ b → r ≡ f b
-  via h e = h ∙ ap f e
-
-module _ {A B C : Type 0} (f : A → B → C) where
-  pub via₂ : {r : C} {a x : A} {b y : B} → r ≡ f a b → a ≡ x → b ≡ y → r ≡ f x y
-  via₂ h e i = h ∙ ap₂ f e i
-
-  -- the arm v of a match on a call's answer w
-  pub in-arm : {r : C} {w u v : A} {b : B} → w ≡ u → w ≡ v → r ≡ f v b → r ≡ f u b
-  in-arm i t h = rw (← i, t) h
-
--- a chain of tests: b is a call's answer of the test t
-module _ {A : Type 0} {t b : Bool} (x y : A) (i : b ≡ t) where
-  pub hit : b ≡ true → x ≡ cond t x y
-  hit e = rw (sym i ∙ e)
-
-  pub miss : {z : A} → b ≡ false → z ≡ y → z ≡ cond t x y
-  miss e h = rw (sym i ∙ e) h
 
 -- ---- the fields of a line
 

@@ -1,5 +1,6 @@
 use Rattle.record.specs.StepLine.{neighbourOf, zeroOf, byLetter, reasonFields}
-use Rattle.record.proofs.Fields.{by-none, by-next, in-arm, via}
+use Rattle.record.proofs.Answers.{in-arm, via}
+use Rattle.record.proofs.Fields.{by-none, by-next}
 use borrow.Author.Needs.{needs}
 use Rattle.record.proofs.steps.reason_fields.Statement.{statement}
 use Rattle.record.proofs.steps.reason_fields.Tie as tie

@@ -1,5 +1,6 @@
 use Rattle.record.specs.StepLine.{stepOf, stepFields}
-use Rattle.record.proofs.Fields.{by-none, by-next, via₂}
+use Rattle.record.proofs.Answers.{via₂}
+use Rattle.record.proofs.Fields.{by-none, by-next}
 use borrow.Author.Needs.{needs}
 use Rattle.record.proofs.steps.step_fields.Statement.{statement}
 use Rattle.record.proofs.steps.step_fields.Tie as tie

@@ -1,5 +1,6 @@
 use Rattle.record.specs.StepLine.{stepWordOf, byStepWord, stepLineOf}
-use Rattle.record.proofs.Fields.{by-first, in-arm}
+use Rattle.record.proofs.Answers.{in-arm}
+use Rattle.record.proofs.Fields.{by-first}
 use borrow.Author.Needs.{needs}
 use Rattle.record.proofs.steps.step_line_of.Statement.{statement}
 use Rattle.record.proofs.steps.step_line_of.Tie as tie

@@ -1,4 +1,4 @@
-use Rattle.record.proofs.Fields.{hit, miss}
+use Rattle.record.proofs.Answers.{hit, miss}
 use Rattle.record.specs.StepLine.{stepWordOf}
 use borrow.Author.Needs.{needs}
 use Rattle.record.proofs.steps.step_word_of.Statement.{statement}
