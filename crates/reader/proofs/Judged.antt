@@ -103,6 +103,17 @@ fit s Wrong h e = tt
 pub fit-of : (s : Place) (r : Record) → s .n ≤ mostBuses → verdict s r ≡ Next → Fit s r
 fit-of s r h e = fit s r h (accepted-of s r e .range)
 
+-- what fits, in the arm of a record
+module _ (s : Place) {r : Record} where
+  pub bus-fit : {k : ℕ} {z o : Bool} → r ≡ Bus k z o → Fit s r → IsBus width k
+  bus-fit e f = rw e at f
+
+  pub pmu-fit : {p : ℕ} → r ≡ Pmu p → Fit s r → IsBus width p
+  pmu-fit e f = rw e at f
+
+  pub line-fit : {a b : ℕ} → r ≡ Line a b → Fit s r → IsBus width a × IsBus width b × (s .lines < mostLines)
+  line-fit e f = rw e at f
+
 small : (s : Place) (r : Record) → s .n ≤ mostBuses → inRange s r ≡ true → nextPlace s r .n ≤ mostBuses
 small s (Grid n) h e = inside mostBuses n e .most
 small s (Bus k z o) h e = h

@@ -1,7 +1,7 @@
 -- Line after line: what is read of the whole text is what is read from where the reader stands.
-use mathlib.Core.Path.{_≡_, refl, sym, ap, _∙_}
+use mathlib.Core.Path.{_≡_, refl, sym, _∙_}
 use mathlib.Core.Bool.{Bool, true, false}
-use mathlib.Core.List.{List, _∷_}
+use mathlib.Core.List.{List, [], _∷_}
 use Prim.Native.Nat.{ℕ, suc, _+_, _≤_, _<_}
 use native.Mathlib.Numerals.{add-one}
 use native.Mathlib.Omega.{arith}
@@ -17,7 +17,7 @@ use Rattle.grid.specs.Cases.{mostBuses}
 use Rattle.grid.specs.declared.Case.{Case}
 use Rattle.grid.specs.declared.refusal.Refusal.the-variants.{TextTooLong, WrongForm}
 use Rattle.reader.specs.Building.{nextRows, nextMarks, noRows, noMarks}
-use Rattle.reader.specs.Reading.{Reader, mostBytes, verdict, nextPlace, start, caseOf, got, refused, closed, said, readLines, readText, readCase}
+use Rattle.reader.specs.Reading.{Reader, mostBytes, verdict, nextPlace, start, caseOf, refused, closed, said, readLines, readText, readCase}
 use Rattle.reader.specs.declared.Marks.{Marks}
 use Rattle.reader.specs.declared.Place.{Place}
 use Rattle.reader.specs.declared.CaseRead.{CaseRead}
@@ -29,25 +29,27 @@ use Rattle.reader.proofs.Judged.{small-of}
 abbrev from : Reader → ℕ → List ℕ → CaseRead
 from s k t = readLines s k (split 10 t .first) (split 10 t .rest)
 
--- ---- after `end`
-
-abbrev pub ending : Case → ℕ → List ℕ → CaseRead
+abbrev ending : Case → ℕ → List ℕ → CaseRead
 ending c k t = closed c k (split 10 t .first) (split 10 t .rest)
 
-pub ending-none : (c : Case) (k : ℕ) (text : List ℕ) (e : ℕ) → length text ≤ e + 1 → got c ≡ ending c k (drop (e + 1) text)
-unfolding split
-ending-none c k text e h = rw (drop-of-length-le text h)
+-- ---- after `end`, whose line feed stands at e: f has one value where nothing follows, another where anything does
 
-ending-cons : (c : Case) (k x : ℕ) (t : List ℕ) → refused (WrongForm k) ≡ ending c k (x ∷ t)
-unfolding split
-ending-cons c k x t = go (eqb x 10) refl
-  where
-    go : (b : Bool) → eqb x 10 ≡ b → refused (WrongForm k) ≡ ending c k (x ∷ t)
-    go true e = rw e
-    go false e = rw e
+module _ {A : Type 0} (f : List ℕ → List (List ℕ) → A) (text : List ℕ) (e : ℕ) where
+  pub end-none : length text ≤ e + 1 → f [] [] ≡ f (split 10 (drop (e + 1) text) .first) (split 10 (drop (e + 1) text) .rest)
+  unfolding split
+  end-none h = rw (drop-of-length-le text h)
 
-pub ending-more : (c : Case) (k : ℕ) (text : List ℕ) (e : ℕ) → e + 1 < length text → refused (WrongForm k) ≡ ending c k (drop (e + 1) text)
-ending-more c k text e h = ending-cons c k (getD text (e + 1) 0) (drop (suc (e + 1)) text) ∙ sym (ap (ending c k) (drop-cons text (e + 1) 0 h))
+  pub end-more : {r : A} → ((m : List ℕ) (ms : List (List ℕ)) → r ≡ f [] (m ∷ ms)) → ((b : ℕ) (l : List ℕ) (ms : List (List ℕ)) → r ≡ f (b ∷ l) ms) →
+      e + 1 < length text → r ≡ f (split 10 (drop (e + 1) text) .first) (split 10 (drop (e + 1) text) .rest)
+  unfolding split
+  end-more {r} p q h = rw (drop-cons text (e + 1) 0 h) (go (eqb (getD text (e + 1) 0) 10) refl)
+    where
+      t : List ℕ
+      t = getD text (e + 1) 0 ∷ drop (suc (e + 1)) text
+
+      go : (b : Bool) → eqb (getD text (e + 1) 0) 10 ≡ b → r ≡ f (split 10 t .first) (split 10 t .rest)
+      go true i = rw i (p _ _)
+      go false i = rw i (q _ _ _)
 
 -- ---- the loop
 
@@ -65,16 +67,16 @@ unfolding readText
 going-first h l f = record { high = h; few = omega arith; long = l; soon = f; small = omega arith; is = refl }
 
 module _ {text : List ℕ} {f₀ k₀ : ℕ} {s : Place} {rows : List ℕ} {m : Marks} {k at e : ℕ} (g : Going text f₀ k₀ s rows m k at) (p : PieceEnd 10 text at e) where
-  pub no-feed : length text ≤ e → refused (WrongForm k) ≡ readText k₀ (drop f₀ text)
+  pub no-feed : {x : CaseRead} → length text ≤ e → x ≡ refused (WrongForm k) → x ≡ readText k₀ (drop f₀ text)
   unfolding readLines
-  no-feed h = sym (g .is ∙ rw (p .cut, after-none 10 text e h))
+  no-feed h xi = xi ∙ sym (g .is ∙ rw (p .cut, after-none 10 text e h))
 
   module _ {r : Record} {v w : Verdict} (h : e < length text) (ri : r ≡ recordOf (part text at e)) (vi : v ≡ verdict s r) (told : v ≡ w) where
-    pub line-said :
-        said w k (from (record { place = nextPlace s r; rows = nextRows rows r; marks = nextMarks m r }) (k + 1) (drop (e + 1) text))
-        (ending (caseOf (record { place = s; rows = rows; marks = m })) (k + 1) (drop (e + 1) text)) ≡ readText k₀ (drop f₀ text)
+    pub line-said : {x : CaseRead} →
+        x ≡ said w k (from (record { place = nextPlace s r; rows = nextRows rows r; marks = nextMarks m r }) (k + 1) (drop (e + 1) text))
+        (ending (caseOf (record { place = s; rows = rows; marks = m })) (k + 1) (drop (e + 1) text)) → x ≡ readText k₀ (drop f₀ text)
     unfolding readLines
-    line-said = sym (g .is ∙ rw (p .cut, after-some 10 text e h, ← ri, ← vi, told, add-one e))
+    line-said xi = xi ∙ sym (g .is ∙ rw (p .cut, after-some 10 text e h, ← ri, ← vi, told, add-one e))
 
   pub going-on : {r : Record} {v : Verdict} {t : Place} {rows′ : List ℕ} {m′ : Marks} → e < length text → r ≡ recordOf (part text at e) → v ≡ verdict s r → v ≡ Next →
       t ≡ nextPlace s r → rows′ ≡ nextRows rows r → m′ ≡ nextMarks m r → Going text f₀ k₀ t rows′ m′ (k + 1) (e + 1)
@@ -86,7 +88,7 @@ module _ {text : List ℕ} {f₀ k₀ : ℕ} {s : Place} {rows : List ℕ} {m : 
         long = g .long;
         soon = g .soon;
         small = rw ti (small-of s r (g .small) (sym vi ∙ told));
-        is = rw (ti, wi, mi) (sym (line-said h ri vi told));
+        is = rw (ti, wi, mi) (sym (line-said h ri vi told refl));
       }
 
 -- ---- the whole text

@@ -6,18 +6,15 @@ use Prim.Native.Nat.{ℕ, _+_, _≤_, _<_}
 use native.Mathlib.Omega.{arith}
 use borrow.Author.Tests.{eq-eqb, ne-eqb}
 use lib.ListN.{length, getD}
-use Rattle.field.specs.Split.{part, after, PieceEnd}
+use Rattle.field.specs.Split.{split, part, after, PieceEnd}
 use Rattle.field.specs.Number.{numberOf}
+use Rattle.field.specs.declared.Numeral.{Numeral}
 use Rattle.field.proofs.Cutting.{after-none, after-some, after-next}
-use Rattle.record.specs.Fields.{markOf, classOf, one, none, oneNumber, oneSite}
-use Rattle.record.specs.Record.{lineOf, busOf, lineFields, busFields, wordOf, byWord, recordOf}
+use Rattle.record.specs.Fields.{markOf, classOf, one, none, oneSite}
+use Rattle.record.specs.Record.{busOf, busFields}
+use Rattle.record.specs.declared.Record.{Record}
 use Rattle.record.specs.declared.Record.the-variants.{Wrong}
-use Rattle.record.specs.StepLine.{letterOf, stepWordOf, byLetter, reasonFields, stepOf, stepFields, byStepWord, stepLineOf}
-use Rattle.record.specs.declared.steps.Letter.{Letter}
-use Rattle.record.specs.declared.steps.StepWord.{StepWord}
-use Rattle.record.specs.declared.steps.Given.the-variants.{Wrong as NoReason}
-use Rattle.record.specs.declared.steps.StepLine.the-variants.{Wrong as NoStep}
-use Rattle.record.specs.declared.Word.{Word}
+use Rattle.record.specs.declared.Mark.{Mark}
 use Rattle.record.specs.declared.Mark.the-variants.{Is as Marked, Neither}
 
 module _ (p q : ℕ) where
@@ -44,12 +41,18 @@ module _ (p q : ℕ) where
   unfolding markOf
   mark-other f l n m = sym (one-letter f l ∙ rw (ne-eqb _ _ n, ne-eqb _ _ m))
 
+-- ---- the fields of a line
+
+pub by-first : {A : Type 0} (f : List ℕ → List (List ℕ) → A) {s : List ℕ} {e : ℕ} {r : A} → PieceEnd 9 s 0 e → r ≡ f (part s 0 e) (after 9 s e) →
+    r ≡ f (split 9 s .first) (split 9 s .rest)
+by-first f p h = rw (p .cut) h
+
 module _ {A : Type 0} (f : List (List ℕ) → A) where
   pub by-none : (s : List ℕ) (e : ℕ) → length s ≤ e → f [] ≡ f (after 9 s e)
   by-none s e h = sym (ap f (after-none 9 s e h))
 
-  pub by-next : {s : List ℕ} {a e : ℕ} → a < length s → PieceEnd 9 s (a + 1) e → f (part s (a + 1) e ∷ after 9 s e) ≡ f (after 9 s a)
-  by-next h p = sym (ap f (after-next h p))
+  pub by-next : {s : List ℕ} {a e : ℕ} {r : A} → a < length s → PieceEnd 9 s (a + 1) e → r ≡ f (part s (a + 1) e ∷ after 9 s e) → r ≡ f (after 9 s a)
+  by-next h p i = i ∙ sym (ap f (after-next h p))
 
 module _ {A : Type 0} (w : A) (g : List ℕ → A) where
   pub one-none : (s : List ℕ) (e : ℕ) → length s ≤ e → w ≡ one w g (after 9 s e)
@@ -60,9 +63,9 @@ module _ {A : Type 0} (w : A) (g : List ℕ → A) where
   unfolding one
   one-more {s} {a} {e} h p l = sym (rw (after-next h p, after-some 9 s e l))
 
-  pub one-is : {s : List ℕ} {a e : ℕ} → a < length s → PieceEnd 9 s (a + 1) e → length s ≤ e → g (part s (a + 1) e) ≡ one w g (after 9 s a)
+  pub one-is : {s : List ℕ} {a e : ℕ} {r : A} → a < length s → PieceEnd 9 s (a + 1) e → length s ≤ e → r ≡ g (part s (a + 1) e) → r ≡ one w g (after 9 s a)
   unfolding one
-  one-is {s} {a} {e} h p l = sym (rw (after-next h p, after-none 9 s e l))
+  one-is {s} {a} {e} h p l i = i ∙ sym (rw (after-next h p, after-none 9 s e l))
 
 module _ {A : Type 0} (w v : A) where
   pub none-is : (s : List ℕ) (e : ℕ) → length s ≤ e → v ≡ none w v (after 9 s e)
@@ -73,51 +76,11 @@ module _ {A : Type 0} (w v : A) where
   unfolding none
   none-more s e h = rw (after-some 9 s e h)
 
-pub line-none : (s : List ℕ) (e : ℕ) → length s ≤ e → Wrong ≡ lineFields (after 9 s e)
-unfolding lineFields
-line-none s e h = by-none lineFields s e h
-
-pub line-is : {s : List ℕ} {a e : ℕ} → a < length s → PieceEnd 9 s (a + 1) e →
-    lineOf (numberOf (part s (a + 1) e)) (oneNumber (after 9 s e)) ≡ lineFields (after 9 s a)
-unfolding lineFields
-line-is h p = by-next lineFields h p
-
-pub bus-none : (s : List ℕ) (e : ℕ) → length s ≤ e → Wrong ≡ busFields (after 9 s e)
-unfolding busFields
-bus-none s e h = by-none busFields s e h
-
 pub bus-one : {s : List ℕ} {a e : ℕ} → a < length s → PieceEnd 9 s (a + 1) e → length s ≤ e → Wrong ≡ busFields (after 9 s a)
 unfolding busFields
 bus-one {s} {a} {e} h p l = sym (rw (after-next h p, after-none 9 s e l))
 
-pub bus-is : {s : List ℕ} {a e d : ℕ} → a < length s → PieceEnd 9 s (a + 1) e → e < length s → PieceEnd 9 s (e + 1) d →
-    busOf (numberOf (part s (a + 1) e)) (classOf (part s (e + 1) d)) (oneSite (after 9 s d)) ≡ busFields (after 9 s a)
+pub bus-is : {s : List ℕ} {a e d : ℕ} {n : Numeral} {x y : Mark} {r : Record} → a < length s → PieceEnd 9 s (a + 1) e → e < length s → PieceEnd 9 s (e + 1) d →
+    n ≡ numberOf (part s (a + 1) e) → x ≡ classOf (part s (e + 1) d) → y ≡ oneSite (after 9 s d) → r ≡ busOf n x y → r ≡ busFields (after 9 s a)
 unfolding busFields
-bus-is h p l q = sym (rw (after-next h p, after-next l q))
-
-pub record-by : {s : List ℕ} {e : ℕ} {w v : Word} → PieceEnd 9 s 0 e → w ≡ wordOf (part s 0 e) → w ≡ v → byWord v (after 9 s e) ≡ recordOf s
-unfolding recordOf
-record-by {s} {e} {w} {v} p i t = rw (p .cut, ← i, t)
-
--- ---- the lines of a step text
-
-pub reason-none : (s : List ℕ) (e : ℕ) → length s ≤ e → NoReason ≡ reasonFields (after 9 s e)
-unfolding reasonFields
-reason-none s e h = by-none reasonFields s e h
-
-module _ {s : List ℕ} {a e : ℕ} (h : a < length s) (p : PieceEnd 9 s (a + 1) e) where
-  pub reason-by : {w v : Letter} → w ≡ letterOf (part s (a + 1) e) → w ≡ v → byLetter v (after 9 s e) ≡ reasonFields (after 9 s a)
-  unfolding reasonFields
-  reason-by i t = sym (rw (after-next h p, ← i, t))
-
-  pub step-is : stepOf (numberOf (part s (a + 1) e)) (reasonFields (after 9 s e)) ≡ stepFields (after 9 s a)
-  unfolding stepFields
-  step-is = by-next stepFields h p
-
-pub step-none : (s : List ℕ) (e : ℕ) → length s ≤ e → NoStep ≡ stepFields (after 9 s e)
-unfolding stepFields
-step-none s e h = by-none stepFields s e h
-
-pub step-by : {s : List ℕ} {e : ℕ} {w v : StepWord} → PieceEnd 9 s 0 e → w ≡ stepWordOf (part s 0 e) → w ≡ v → byStepWord v (after 9 s e) ≡ stepLineOf s
-unfolding stepLineOf
-step-by {s} {e} {w} {v} p i t = rw (p .cut, ← i, t)
+bus-is h p l q i j k m = rw (after-next h p, after-next l q, ← i, ← j, ← k) m

@@ -1,14 +1,12 @@
 -- A step text, line after line: what is read of the whole is what is read from where the reader stands.
-use mathlib.Core.Path.{_≡_, refl, sym, ap, _∙_}
-use mathlib.Core.Bool.{Bool, true, false}
-use mathlib.Core.List.{List, [], _∷_}
-use Prim.Native.Nat.{ℕ, suc, _+_, _-_, _≤_, _<_}
+use mathlib.Core.Path.{_≡_, refl, sym, _∙_}
+use mathlib.Core.Bool.{true}
+use mathlib.Core.List.{List, []}
+use Prim.Native.Nat.{ℕ, _+_, _≤_, _<_}
 use native.Mathlib.Numerals.{add-one}
 use native.Mathlib.Omega.{arith}
 use borrow.Author.Tests.{lt-ltb, le-ltb}
-use lib.Dec.{eqb}
-use lib.ListN.{length, getD, drop, drop-of-length-le}
-use lib.Seq.{drop-cons}
+use lib.ListN.{length, drop}
 use Rattle.field.specs.Split.{split, part, after, PieceEnd}
 use Rattle.field.proofs.Cutting.{after-none, after-some}
 use Rattle.step.specs.declared.Step.{Step}
@@ -16,34 +14,17 @@ use Rattle.record.specs.StepLine.{stepLineOf}
 use Rattle.record.specs.declared.steps.StepLine.{StepLine}
 use Rattle.record.specs.declared.steps.StepLine.the-variants.{Step as StepOf}
 use Rattle.grid.specs.Cases.{mostSteps}
-use Rattle.grid.specs.declared.refusal.Refusal.the-variants.{TextTooLong, WrongForm, OutOfRange, TooManySteps}
+use Rattle.grid.specs.declared.refusal.Refusal.the-variants.{TextTooLong, WrongForm, TooManySteps}
 use Rattle.steptext.specs.Steps.{mostStepBytes, stepInRange, ended, lineSaid, stepLines, readSteps, andSteps, stepsIn, stepsFrom, StepHere}
 use Rattle.steptext.specs.declared.StepsRead.{StepsRead}
-use Rattle.steptext.specs.declared.StepsRead.the-variants.{Steps, Refused}
+use Rattle.steptext.specs.declared.StepsRead.the-variants.{Refused}
 
 -- what is read from a text that is still to be cut into lines
 abbrev from : ℕ → List ℕ → StepsRead
 from k t = stepLines k (split 10 t .first) (split 10 t .rest)
 
--- ---- after `end`
-
-abbrev pub ending : ℕ → List ℕ → StepsRead
+abbrev ending : ℕ → List ℕ → StepsRead
 ending k t = ended k (split 10 t .first) (split 10 t .rest)
-
-pub ending-none : (k : ℕ) (text : List ℕ) (e : ℕ) → length text ≤ e + 1 → Steps (k - 1) ≡ ending k (drop (e + 1) text)
-unfolding split
-ending-none k text e h = rw (drop-of-length-le text h)
-
-ending-cons : (k x : ℕ) (t : List ℕ) → Refused (WrongForm (k + 1)) ≡ ending k (x ∷ t)
-unfolding split
-ending-cons k x t = go (eqb x 10) refl
-  where
-    go : (b : Bool) → eqb x 10 ≡ b → Refused (WrongForm (k + 1)) ≡ ending k (x ∷ t)
-    go true e = rw e
-    go false e = rw e
-
-pub ending-more : (k : ℕ) (text : List ℕ) (e : ℕ) → e + 1 < length text → Refused (WrongForm (k + 1)) ≡ ending k (drop (e + 1) text)
-ending-more k text e h = ending-cons k (getD text (e + 1) 0) (drop (suc (e + 1)) text) ∙ sym (ap (ending k) (drop-cons text (e + 1) 0 h))
 
 -- ---- the loop
 
@@ -69,16 +50,13 @@ module _ {text : List ℕ} {k at e : ℕ} (g : Going text k at) (p : PieceEnd 10
   no-feed h = sym (g .is ∙ rw (p .cut, after-none 10 text e h))
 
   module _ {r w : StepLine} (h : e < length text) (ri : r ≡ stepLineOf (part text at e)) (told : r ≡ w) where
-    pub line-said : lineSaid w k (from (k + 1) (drop (e + 1) text)) (ending k (drop (e + 1) text)) ≡ readSteps text
+    pub line-said : {x : StepsRead} → x ≡ lineSaid w k (from (k + 1) (drop (e + 1) text)) (ending k (drop (e + 1) text)) → x ≡ readSteps text
     unfolding stepLines
-    line-said = sym (g .is ∙ rw (p .cut, after-some 10 text e h, ← ri, told, add-one e))
+    line-said xi = xi ∙ sym (g .is ∙ rw (p .cut, after-some 10 text e h, ← ri, told, add-one e))
 
   module _ {r : StepLine} {x : Step} (h : e < length text) (ri : r ≡ stepLineOf (part text at e)) (told : r ≡ StepOf x) where
-    pub out-of-range : stepInRange x ≡ false → Refused (OutOfRange k) ≡ readSteps text
-    out-of-range f = sym (sym (line-said h ri told) ∙ rw f)
-
     pub too-many : stepInRange x ≡ true → mostSteps < k → Refused (TooManySteps k) ≡ readSteps text
-    too-many f l = sym (sym (line-said h ri told) ∙ rw (f, lt-ltb _ _ l))
+    too-many f l = line-said h ri told (rw (f, lt-ltb _ _ l))
 
     pub going-on : stepInRange x ≡ true → k ≤ mostSteps → Going text (k + 1) (e + 1)
     going-on f l =
@@ -88,7 +66,7 @@ module _ {text : List ℕ} {k at e : ℕ} (g : Going text k at) (p : PieceEnd 10
           high = omega arith;
           few = omega (arith, g .few);
           long = g .long;
-          is = sym (line-said h ri told) ∙ rw (f, le-ltb _ _ l);
+          is = sym (line-said h ri told (rw (f, le-ltb _ _ l)));
         }
 
 -- ---- the steps, one by one
@@ -98,9 +76,9 @@ module _ {text : List ℕ} {a e : ℕ} (p : PieceEnd 10 text a e) where
   unfolding stepsFrom stepsIn
   steps-none h = rw (p .cut, after-none 10 text e h)
 
-  pub steps-said : {r w : StepLine} → e < length text → r ≡ stepLineOf (part text a e) → r ≡ w → stepsFrom text a ≡ andSteps w (stepsFrom text (e + 1))
+  pub steps-said : {r w : StepLine} {xs : List Step} → e < length text → r ≡ stepLineOf (part text a e) → r ≡ w → andSteps w (stepsFrom text (e + 1)) ≡ xs → stepsFrom text a ≡ xs
   unfolding stepsFrom stepsIn
-  steps-said h ri told = rw (p .cut, after-some 10 text e h, ← ri, told, add-one e)
+  steps-said h ri told xi = rw (p .cut, after-some 10 text e h, ← ri, told, ← add-one e) xi
 
   pub step-here : {r : StepLine} {x : Step} → e < length text → r ≡ stepLineOf (part text a e) → r ≡ StepOf x → StepHere text a x (e + 1)
-  step-here h ri told = let l = p .low in record { steps = steps-said h ri told; later = omega arith; high = omega arith }
+  step-here h ri told = let l = p .low in record { steps = steps-said h ri told refl; later = omega arith; high = omega arith }

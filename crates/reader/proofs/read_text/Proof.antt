@@ -1,9 +1,9 @@
-use borrow.Author.Needs.{needs}
 use Prim.Native.Nat.{_-_}
-use mathlib.Core.Path.{sym, _∙_}
 use lib.ListN.{length}
+use Rattle.record.proofs.Answers.{told}
 use Rattle.reader.proofs.Judged.{fit-of}
 use Rattle.reader.proofs.Lines.{Going, going-first, no-feed, line-said, going-on}
+use borrow.Author.Needs.{needs}
 use Rattle.reader.proofs.read_text.Statement.{statement}
 use Rattle.reader.proofs.read_text.Tie as tie
 
@@ -14,7 +14,7 @@ abbrev μ-loop : tie.MeasureT-loop
 μ-loop text from first s₀ rows₀ m₀ k₀ at₀ s rows m k at = length text - at
 
 loop-holds : tie.Need-loop-holds Inv-loop μ-loop
-loop-holds c = going-first (c .before .pre .0) (c .before .pre .1) (c .before .pre .2)
+loop-holds c = search going-first
 
 piece-end-requires : tie.Need-piece-end-requires Inv-loop μ-loop
 piece-end-requires c κs = search needs
@@ -23,11 +23,7 @@ refusal-requires : tie.Need-refusal-requires Inv-loop μ-loop
 refusal-requires c κs = search needs
 
 returns : tie.Need-returns Inv-loop μ-loop
-returns c =
-    let at-if1 = c .before in
-    let at-piece-end = at-if1 .before in
-    let at-loop = at-piece-end .before in
-    c .refusal .ensures ∙ no-feed (at-loop .loop .inv) (at-piece-end .piece-end .ensures) (at-if1 .if1 .taken)
+returns c = search no-feed
 
 sub-record-of : tie.Need-sub-record-of Inv-loop μ-loop
 sub-record-of c = search needs
@@ -48,25 +44,13 @@ enum-told : tie.Need-enum-told Inv-loop μ-loop
 enum-told c = search needs
 
 build-rows-requires : tie.Need-build-rows-requires Inv-loop μ-loop
-build-rows-requires c κs =
-    let at-enum-told = c .before in
-    let at-judge = at-enum-told .before .before in
-    let at-loop = at-judge .before .before .before .before .before in
-    fit-of _ _ (at-loop .loop .inv .small) (sym (at-judge .judge .ensures) ∙ at-enum-told .enum-told .given .1)
+build-rows-requires c κs = search (fit-of, told)
 
 build-marks-requires : tie.Need-build-marks-requires Inv-loop μ-loop
-build-marks-requires c κs =
-    let at-enum-told = c .before .before in
-    let at-judge = at-enum-told .before .before in
-    let at-loop = at-judge .before .before .before .before .before in
-    fit-of _ _ (at-loop .loop .inv .small) (sym (at-judge .judge .ensures) ∙ at-enum-told .enum-told .given .1)
+build-marks-requires c κs = search (fit-of, told)
 
 next-place-requires : tie.Need-next-place-requires Inv-loop μ-loop
-next-place-requires c κs =
-    let at-enum-told = c .before .before .before in
-    let at-judge = at-enum-told .before .before in
-    let at-loop = at-judge .before .before .before .before .before in
-    fit-of _ _ (at-loop .loop .inv .small) (sym (at-judge .judge .ensures) ∙ at-enum-told .enum-told .given .1)
+next-place-requires c κs = search (fit-of, told)
 
 enum-told-2 : tie.Need-enum-told-2 Inv-loop μ-loop
 enum-told-2 c = search needs
@@ -78,15 +62,7 @@ at-end-requires : tie.Need-at-end-requires Inv-loop μ-loop
 at-end-requires c κs = search needs
 
 returns-2 : tie.Need-returns-2 Inv-loop μ-loop
-returns-2 c =
-    let at-enum-told2 = c .before .before in
-    let at-judge = at-enum-told2 .before .before in
-    let at-record-of = at-judge .before in
-    let at-if1 = at-record-of .before .before in
-    let at-piece-end = at-if1 .before in
-    let at-loop = at-piece-end .before in
-    c .at-end .ensures ∙ line-said (at-loop .loop .inv) (at-piece-end .piece-end .ensures) (at-if1 .if1 .left) (at-record-of .record-of .ensures)
-    (at-judge .judge .ensures) (at-enum-told2 .enum-told2 .given .1)
+returns-2 c = search line-said
 
 enum-told-3 : tie.Need-enum-told-3 Inv-loop μ-loop
 enum-told-3 c = search needs
@@ -95,15 +71,7 @@ refusal-requires-2 : tie.Need-refusal-requires-2 Inv-loop μ-loop
 refusal-requires-2 c κs = search needs
 
 returns-3 : tie.Need-returns-3 Inv-loop μ-loop
-returns-3 c =
-    let at-enum-told3 = c .before in
-    let at-judge = at-enum-told3 .before .before in
-    let at-record-of = at-judge .before in
-    let at-if1 = at-record-of .before .before in
-    let at-piece-end = at-if1 .before in
-    let at-loop = at-piece-end .before in
-    c .refusal2 .ensures ∙ line-said (at-loop .loop .inv) (at-piece-end .piece-end .ensures) (at-if1 .if1 .left) (at-record-of .record-of .ensures)
-    (at-judge .judge .ensures) (at-enum-told3 .enum-told3 .given .1)
+returns-3 c = search line-said
 
 enum-told-4 : tie.Need-enum-told-4 Inv-loop μ-loop
 enum-told-4 c = search needs
@@ -112,15 +80,7 @@ refusal-requires-3 : tie.Need-refusal-requires-3 Inv-loop μ-loop
 refusal-requires-3 c κs = search needs
 
 returns-4 : tie.Need-returns-4 Inv-loop μ-loop
-returns-4 c =
-    let at-enum-told4 = c .before in
-    let at-judge = at-enum-told4 .before .before in
-    let at-record-of = at-judge .before in
-    let at-if1 = at-record-of .before .before in
-    let at-piece-end = at-if1 .before in
-    let at-loop = at-piece-end .before in
-    c .refusal3 .ensures ∙ line-said (at-loop .loop .inv) (at-piece-end .piece-end .ensures) (at-if1 .if1 .left) (at-record-of .record-of .ensures)
-    (at-judge .judge .ensures) (at-enum-told4 .enum-told4 .given .1)
+returns-4 c = search line-said
 
 enum-told-5 : tie.Need-enum-told-5 Inv-loop μ-loop
 enum-told-5 c = search needs
@@ -129,15 +89,7 @@ refusal-requires-4 : tie.Need-refusal-requires-4 Inv-loop μ-loop
 refusal-requires-4 c κs = search needs
 
 returns-5 : tie.Need-returns-5 Inv-loop μ-loop
-returns-5 c =
-    let at-enum-told5 = c .before in
-    let at-judge = at-enum-told5 .before .before in
-    let at-record-of = at-judge .before in
-    let at-if1 = at-record-of .before .before in
-    let at-piece-end = at-if1 .before in
-    let at-loop = at-piece-end .before in
-    c .refusal4 .ensures ∙ line-said (at-loop .loop .inv) (at-piece-end .piece-end .ensures) (at-if1 .if1 .left) (at-record-of .record-of .ensures)
-    (at-judge .judge .ensures) (at-enum-told5 .enum-told5 .given .1)
+returns-5 c = search line-said
 
 add-k : tie.Need-add-k Inv-loop μ-loop
 add-k c = search needs
@@ -149,17 +101,7 @@ loop-less : tie.Need-loop-less Inv-loop μ-loop
 loop-less c = search needs
 
 loop-again : tie.Need-loop-again Inv-loop μ-loop
-loop-again c =
-    let at-build-marks = c .before in
-    let at-build-rows = at-build-marks .before in
-    let at-enum-told = at-build-rows .before .before in
-    let at-judge = at-enum-told .before .before in
-    let at-record-of = at-judge .before in
-    let at-if1 = at-record-of .before .before in
-    let at-piece-end = at-if1 .before in
-    let at-loop = at-piece-end .before in
-    going-on (at-loop .loop .inv) (at-piece-end .piece-end .ensures) (at-if1 .if1 .left) (at-record-of .record-of .ensures) (at-judge .judge .ensures)
-    (at-enum-told .enum-told .given .1) (c .next-place .ensures) (at-build-rows .build-rows .ensures) (at-build-marks .build-marks .ensures)
+loop-again c = search going-on
 
 pub read-text-spec : {M : Type 1} → statement M
 read-text-spec =

@@ -1,4 +1,6 @@
-use Rattle.steptext.proofs.Stepping.{ending-none, ending-more}
+use mathlib.Core.Path.{refl}
+use Rattle.reader.proofs.Lines.{end-none, end-more}
+use Rattle.steptext.specs.Steps.{ended}
 use borrow.Author.Needs.{needs}
 use Rattle.steptext.proofs.at_end.Statement.{statement}
 use Rattle.steptext.proofs.at_end.Tie as tie
@@ -10,13 +12,13 @@ add-t7 : tie.Need-add-t7
 add-t7 c = search needs
 
 returns : tie.Need-returns
-returns c = ending-more _ _ _ (c .if1 .taken)
+returns c = end-more (ended _) _ _ (λ m ms. refl) (λ b l ms. refl) (c .if1 .taken)
 
 sub-t4 : tie.Need-sub-t4
 sub-t4 c = search needs
 
 returns-2 : tie.Need-returns-2
-returns-2 c = ending-none _ _ _ (c .if1 .left)
+returns-2 c = end-none (ended _) _ _ (c .if1 .left)
 
 pub at-end-spec : {M : Type 1} → statement M
 at-end-spec = tie.close (tie.spec add-if1 add-t7 returns sub-t4 returns-2)

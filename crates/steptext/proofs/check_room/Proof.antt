@@ -10,20 +10,16 @@ enum-known-answer : tie.Need-enum-known-answer
 enum-known-answer c = search needs
 
 returns : tie.Need-returns
-returns c =
-    let at-answer = c .before .before in
-    room-short _ (at-answer .before .before .check-steps .ensures) (at-answer .answer .given .1) (c .if1 .taken)
+returns c = search room-short
 
 enum-told : tie.Need-enum-told
 enum-told c = search needs
 
 returns-2 : tie.Need-returns-2
-returns-2 c =
-    let at-answer = c .before .before in
-    room-enough _ (at-answer .before .before .check-steps .ensures) (at-answer .answer .given .1) (c .if1 .left)
+returns-2 c = search room-enough
 
 returns-3 : tie.Need-returns-3
-returns-3 c = room-refused _ (c .before .before .check-steps .ensures) (c .enum-told .given .1)
+returns-3 c = search room-refused
 
 pub check-room-spec : {M : Type 1} → statement M
 check-room-spec =

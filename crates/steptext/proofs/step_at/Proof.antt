@@ -7,7 +7,7 @@ piece-end-requires : tie.Need-piece-end-requires
 piece-end-requires c κs = search needs
 
 returns : tie.Need-returns
-returns c = steps-none (c .before .piece-end .ensures) (c .if1 .taken)
+returns c = search steps-none
 
 sub-step-line-of : tie.Need-sub-step-line-of
 sub-step-line-of c = search needs
@@ -34,26 +34,13 @@ enum-told-2 : tie.Need-enum-told-2
 enum-told-2 c = search needs
 
 returns-2 : tie.Need-returns-2
-returns-2 c =
-    let at-x = c .before in
-    let at-step-line-of = at-x .before .before in
-    let at-if1 = at-step-line-of .before .before in
-    let at-piece-end = at-if1 .before in
-    step-here (at-piece-end .piece-end .ensures) (at-if1 .if1 .left) (at-step-line-of .step-line-of .ensures) (at-x .x .given .1)
+returns-2 c = search step-here
 
 returns-3 : tie.Need-returns-3
-returns-3 c =
-    let at-step-line-of = c .before .before in
-    let at-if1 = at-step-line-of .before .before in
-    let at-piece-end = at-if1 .before in
-    steps-said (at-piece-end .piece-end .ensures) (at-if1 .if1 .left) (at-step-line-of .step-line-of .ensures) (c .enum-told .given .1)
+returns-3 c = search steps-said
 
 returns-4 : tie.Need-returns-4
-returns-4 c =
-    let at-step-line-of = c .before .before in
-    let at-if1 = at-step-line-of .before .before in
-    let at-piece-end = at-if1 .before in
-    steps-said (at-piece-end .piece-end .ensures) (at-if1 .if1 .left) (at-step-line-of .step-line-of .ensures) (c .enum-told2 .given .1)
+returns-4 c = search steps-said
 
 pub step-at-spec : {M : Type 1} → statement M
 step-at-spec =

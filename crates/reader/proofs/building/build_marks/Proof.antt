@@ -1,6 +1,5 @@
-use mathlib.Core.Path.{subst}
-use Rattle.reader.specs.Reading.{Fit}
 use Rattle.busset.proofs.Holding.{hold-is}
+use Rattle.reader.proofs.Judged.{bus-fit, pmu-fit}
 use borrow.Author.Needs.{needs}
 use Rattle.reader.proofs.building.build_marks.Statement.{statement}
 use Rattle.reader.proofs.building.build_marks.Tie as tie
@@ -12,16 +11,10 @@ enum-known-r : tie.Need-enum-known-r
 enum-known-r c = search needs
 
 hold-if-requires : tie.Need-hold-if-requires
-hold-if-requires c κs =
-    let at-r = c .before in
-    let at-args = at-r .before .before in
-    subst (Fit (at-args .args .s)) (at-r .r .given .1) (at-args .pre)
+hold-if-requires c κs = search bus-fit
 
 hold-if-requires-2 : tie.Need-hold-if-requires-2
-hold-if-requires-2 c κs =
-    let at-r = c .before .before in
-    let at-args = at-r .before .before in
-    subst (Fit (at-args .args .s)) (at-r .r .given .1) (at-args .pre)
+hold-if-requires-2 c κs = search bus-fit
 
 enum-told-2 : tie.Need-enum-told-2
 enum-told-2 c = search needs
@@ -30,10 +23,7 @@ enum-known-r-2 : tie.Need-enum-known-r-2
 enum-known-r-2 c = search needs
 
 with-requires : tie.Need-with-requires
-with-requires c κs =
-    let at-r2 = c .before in
-    let at-args = at-r2 .before .before in
-    subst (Fit (at-args .args .s)) (at-r2 .r2 .given .1) (at-args .pre)
+with-requires c κs = search pmu-fit
 
 enum-told-3 : tie.Need-enum-told-3
 enum-told-3 c = search needs
@@ -53,9 +43,8 @@ returns-3 c = search needs
 returns-4 : tie.Need-returns-4
 returns-4 c =
     let at-r2 = c .before .before in
-    let at-args = at-r2 .before .before in
-    let f = subst (Fit (at-args .args .s)) (at-r2 .r2 .given .1) (at-args .pre) in rw (at-r2 .r2 .given .1) (cc (hold-is _ _ (f .some)
-    (c .with .ensures)))
+    let e = at-r2 .r2 .given .1 in
+    rw e (cc (hold-is _ _ (pmu-fit _ e (at-r2 .before .before .pre) .some) (c .with .ensures)))
 
 returns-5 : tie.Need-returns-5
 returns-5 c = search needs

@@ -1,5 +1,4 @@
-use mathlib.Core.Path.{subst}
-use Rattle.reader.specs.Reading.{Fit}
+use Rattle.reader.proofs.Judged.{line-fit}
 use borrow.Author.Needs.{needs}
 use Rattle.reader.proofs.building.build_rows.Statement.{statement}
 use Rattle.reader.proofs.building.build_rows.Tie as tie
@@ -14,10 +13,7 @@ enum-known-r : tie.Need-enum-known-r
 enum-known-r c = search needs
 
 add-line-requires : tie.Need-add-line-requires
-add-line-requires c κs =
-    let at-r = c .before .before in
-    let at-args = at-r .before .before in
-    let f = subst (Fit (at-args .args .s)) (at-r .r .given .1) (at-args .pre) in (f .0, f .1)
+add-line-requires c κs = let f = line-fit _ (c .before .before .r .given .1) (c .before .before .before .before .pre) in (f .0, f .1)
 
 enum-told-3 : tie.Need-enum-told-3
 enum-told-3 c = search needs

@@ -1,6 +1,5 @@
-use mathlib.Core.Path.{subst}
 use native.Mathlib.Omega.{arith}
-use Rattle.reader.specs.Reading.{Fit}
+use Rattle.reader.proofs.Judged.{line-fit}
 use borrow.Author.Needs.{needs}
 use Rattle.reader.proofs.judging.next_place.Statement.{statement}
 use Rattle.reader.proofs.judging.next_place.Tie as tie
@@ -15,10 +14,7 @@ enum-known-r-3 : tie.Need-enum-known-r-3
 enum-known-r-3 c = search needs
 
 add-t9 : tie.Need-add-t9
-add-t9 c =
-    let at-r3 = c .before .before in
-    let at-args = at-r3 .before .before in
-    let f = subst (Fit (at-args .args .s)) (at-r3 .r3 .given .1) (at-args .pre) in omega arith
+add-t9 c = let f = line-fit _ (c .before .before .r3 .given .1) (c .before .before .before .before .pre) in omega arith
 
 enum-known-r-4 : tie.Need-enum-known-r-4
 enum-known-r-4 c = search needs

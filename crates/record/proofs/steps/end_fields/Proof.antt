@@ -3,10 +3,10 @@ use Rattle.record.proofs.steps.end_fields.Statement.{statement}
 use Rattle.record.proofs.steps.end_fields.Tie as tie
 
 returns : tie.Need-returns
-returns c = none-more _ _ _ _ (c .if1 .taken)
+returns c = search none-more
 
 returns-2 : tie.Need-returns-2
-returns-2 c = none-is _ _ _ _ (c .if1 .left)
+returns-2 c = search none-is
 
 pub end-fields-spec : {M : Type 1} → statement M
 end-fields-spec = tie.close (tie.spec returns returns-2)

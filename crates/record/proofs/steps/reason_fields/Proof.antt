@@ -1,12 +1,13 @@
-use mathlib.Core.Path.{ap, _∙_}
-use Rattle.record.specs.StepLine.{neighbourOf, zeroOf}
-use Rattle.record.proofs.Fields.{reason-none, reason-by}
+use Rattle.record.specs.StepLine.{neighbourOf, zeroOf, byLetter, reasonFields}
+use Rattle.record.proofs.Answers.{in-arm, via}
+use Rattle.record.proofs.Fields.{by-none, by-next}
 use borrow.Author.Needs.{needs}
 use Rattle.record.proofs.steps.reason_fields.Statement.{statement}
 use Rattle.record.proofs.steps.reason_fields.Tie as tie
 
 returns : tie.Need-returns
-returns c = reason-none _ _ (c .if1 .taken)
+unfolding reasonFields
+returns c = search (by-none reasonFields)
 
 add-a : tie.Need-add-a
 add-a c = search needs
@@ -54,40 +55,20 @@ enum-told-4 : tie.Need-enum-told-4
 enum-told-4 c = search needs
 
 returns-2 : tie.Need-returns-2
-returns-2 c =
-    let at-enum-told = c .before in
-    let at-letter-of = at-enum-told .before .before in
-    let at-piece-end = at-letter-of .before .before in
-    let at-if1 = at-piece-end .before in
-    c .own-fields .ensures ∙ reason-by (at-if1 .if1 .left) (at-piece-end .piece-end .ensures) (at-letter-of .letter-of .ensures)
-    (at-enum-told .enum-told .given .1)
+unfolding reasonFields
+returns-2 c = search (by-next reasonFields, in-arm byLetter)
 
 returns-3 : tie.Need-returns-3
-returns-3 c =
-    let at-one-number = c .before in
-    let at-enum-told2 = at-one-number .before in
-    let at-letter-of = at-enum-told2 .before .before in
-    let at-piece-end = at-letter-of .before .before in
-    let at-if1 = at-piece-end .before in
-    c .neighbour-of .ensures ∙ ap neighbourOf (at-one-number .one-number .ensures) ∙ reason-by (at-if1 .if1 .left) (at-piece-end .piece-end .ensures)
-    (at-letter-of .letter-of .ensures) (at-enum-told2 .enum-told2 .given .1)
+unfolding reasonFields
+returns-3 c = search (by-next reasonFields, in-arm byLetter, via neighbourOf)
 
 returns-4 : tie.Need-returns-4
-returns-4 c =
-    let at-one-number2 = c .before in
-    let at-enum-told3 = at-one-number2 .before in
-    let at-letter-of = at-enum-told3 .before .before in
-    let at-piece-end = at-letter-of .before .before in
-    let at-if1 = at-piece-end .before in
-    c .zero-of .ensures ∙ ap zeroOf (at-one-number2 .one-number2 .ensures) ∙ reason-by (at-if1 .if1 .left) (at-piece-end .piece-end .ensures)
-    (at-letter-of .letter-of .ensures) (at-enum-told3 .enum-told3 .given .1)
+unfolding reasonFields
+returns-4 c = search (by-next reasonFields, in-arm byLetter, via zeroOf)
 
 returns-5 : tie.Need-returns-5
-returns-5 c =
-    let at-letter-of = c .before .before in
-    let at-piece-end = at-letter-of .before .before in
-    let at-if1 = at-piece-end .before in
-    reason-by (at-if1 .if1 .left) (at-piece-end .piece-end .ensures) (at-letter-of .letter-of .ensures) (c .enum-told4 .given .1)
+unfolding reasonFields
+returns-5 c = search (by-next reasonFields, in-arm byLetter)
 
 pub reason-fields-spec : {M : Type 1} → statement M
 reason-fields-spec =

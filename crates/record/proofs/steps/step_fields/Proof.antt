@@ -1,12 +1,13 @@
-use mathlib.Core.Path.{ap₂, _∙_}
-use Rattle.record.specs.StepLine.{stepOf}
-use Rattle.record.proofs.Fields.{step-none, step-is}
+use Rattle.record.specs.StepLine.{stepOf, stepFields}
+use Rattle.record.proofs.Answers.{via₂}
+use Rattle.record.proofs.Fields.{by-none, by-next}
 use borrow.Author.Needs.{needs}
 use Rattle.record.proofs.steps.step_fields.Statement.{statement}
 use Rattle.record.proofs.steps.step_fields.Tie as tie
 
 returns : tie.Need-returns
-returns c = step-none _ _ (c .if1 .taken)
+unfolding stepFields
+returns c = search (by-none stepFields)
 
 add-a : tie.Need-add-a
 add-a c = search needs
@@ -33,13 +34,8 @@ step-of-requires : tie.Need-step-of-requires
 step-of-requires c κs = search needs
 
 returns-2 : tie.Need-returns-2
-returns-2 c =
-    let at-reason-fields = c .before in
-    let at-number-of = at-reason-fields .before in
-    let at-piece-end = at-number-of .before .before in
-    let at-if1 = at-piece-end .before in
-    c .step-of .ensures ∙ ap₂ stepOf (at-number-of .number-of .ensures) (at-reason-fields .reason-fields .ensures) ∙ step-is (at-if1 .if1 .left)
-    (at-piece-end .piece-end .ensures)
+unfolding stepFields
+returns-2 c = search (by-next stepFields, via₂ stepOf)
 
 pub step-fields-spec : {M : Type 1} → statement M
 step-fields-spec =

@@ -1,5 +1,6 @@
-use mathlib.Core.Path.{_∙_}
-use Rattle.record.proofs.Fields.{step-by}
+use Rattle.record.specs.StepLine.{stepWordOf, byStepWord, stepLineOf}
+use Rattle.record.proofs.Answers.{in-arm}
+use Rattle.record.proofs.Fields.{by-first}
 use borrow.Author.Needs.{needs}
 use Rattle.record.proofs.steps.step_line_of.Statement.{statement}
 use Rattle.record.proofs.steps.step_line_of.Tie as tie
@@ -35,24 +36,16 @@ enum-told-3 : tie.Need-enum-told-3
 enum-told-3 c = search needs
 
 returns : tie.Need-returns
-returns c =
-    let at-enum-told = c .before in
-    let at-step-word-of = at-enum-told .before .before in
-    let at-piece-end = at-step-word-of .before .before in
-    c .step-fields .ensures ∙ step-by (at-piece-end .piece-end .ensures) (at-step-word-of .step-word-of .ensures) (at-enum-told .enum-told .given .1)
+unfolding stepLineOf
+returns c = search (by-first (λ w. byStepWord (stepWordOf w)), in-arm byStepWord)
 
 returns-2 : tie.Need-returns-2
-returns-2 c =
-    let at-enum-told2 = c .before in
-    let at-step-word-of = at-enum-told2 .before .before in
-    let at-piece-end = at-step-word-of .before .before in
-    c .end-fields .ensures ∙ step-by (at-piece-end .piece-end .ensures) (at-step-word-of .step-word-of .ensures) (at-enum-told2 .enum-told2 .given .1)
+unfolding stepLineOf
+returns-2 c = search (by-first (λ w. byStepWord (stepWordOf w)), in-arm byStepWord)
 
 returns-3 : tie.Need-returns-3
-returns-3 c =
-    let at-step-word-of = c .before .before in
-    let at-piece-end = at-step-word-of .before .before in
-    step-by (at-piece-end .piece-end .ensures) (at-step-word-of .step-word-of .ensures) (c .enum-told3 .given .1)
+unfolding stepLineOf
+returns-3 c = search (by-first (λ w. byStepWord (stepWordOf w)), in-arm byStepWord)
 
 pub step-line-of-spec : {M : Type 1} → statement M
 step-line-of-spec =

@@ -15,10 +15,7 @@ enum-told-2 : tie.Need-enum-told-2
 enum-told-2 c = search needs
 
 returns : tie.Need-returns
-returns c =
-    let at-given = c .before in
-    let at-bus = at-given .before .before .before in
-    rw (at-bus .bus .given .1, at-given .given .given .1)
+returns c = cc
 
 returns-2 : tie.Need-returns-2
 returns-2 c = search needs

@@ -1,4 +1,4 @@
-use mathlib.Core.Path.{sym, _∙_}
+use Rattle.record.proofs.Answers.{hit, miss}
 use Rattle.record.specs.StepLine.{stepWordOf}
 use borrow.Author.Needs.{needs}
 use Rattle.record.proofs.steps.step_word_of.Statement.{statement}
@@ -12,7 +12,7 @@ is-same-requires c κs = search needs
 
 returns : tie.Need-returns
 unfolding stepWordOf
-returns c = rw (sym (c .before .is-same .ensures) ∙ c .if1 .taken)
+returns c = search hit
 
 slice-aggregate-is-same-2 : tie.Need-slice-aggregate-is-same-2
 slice-aggregate-is-same-2 c = search needs
@@ -22,19 +22,11 @@ is-same-requires-2 c κs = search needs
 
 returns-2 : tie.Need-returns-2
 unfolding stepWordOf
-returns-2 c =
-    let at-is-same2 = c .before in
-    let at-if1 = at-is-same2 .before .before in
-    let at-is-same = at-if1 .before in
-    rw (sym (at-is-same .is-same .ensures) ∙ at-if1 .if1 .left, sym (at-is-same2 .is-same2 .ensures) ∙ c .if2 .taken)
+returns-2 c = search (hit, miss)
 
 returns-3 : tie.Need-returns-3
 unfolding stepWordOf
-returns-3 c =
-    let at-is-same2 = c .before in
-    let at-if1 = at-is-same2 .before .before in
-    let at-is-same = at-if1 .before in
-    rw (sym (at-is-same .is-same .ensures) ∙ at-if1 .if1 .left, sym (at-is-same2 .is-same2 .ensures) ∙ c .if2 .left)
+returns-3 c = search miss
 
 pub step-word-of-spec : {M : Type 1} → statement M
 step-word-of-spec =
