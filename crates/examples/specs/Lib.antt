@@ -6,3 +6,6 @@ pub mod CaseTexts
 pub mod StepTexts
 pub mod Reports
 pub mod Results
+pub mod Sets
+pub mod Grids
+pub mod Refusals
