@@ -5,3 +5,8 @@ pub mod Results
 pub mod Sets
 pub mod Grids
 pub mod Crowded
+pub mod Computed
+pub mod Observation
+pub mod Deriving
+pub mod Steps
+pub mod Weaving

@@ -9,3 +9,8 @@ pub mod Results
 pub mod Sets
 pub mod Grids
 pub mod Refusals
+pub mod Observation
+pub mod Steps
+pub mod Derivation
+pub mod Weaving
+pub mod Figures
