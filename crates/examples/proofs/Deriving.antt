@@ -1,0 +1,128 @@
+-- Tests that a step is the next and that a list is the derivation, which the checker computes: 0 where they pass.
+use mathlib.Core.Path.{_≡_, subst}
+use mathlib.Core.List.{List, [], _∷_}
+use mathlib.Core.Logic.{⊎-elim}
+use Prim.Native.Nat.{ℕ, zero, suc, _+_, _-_, _≤_, _<_}
+use native.Mathlib.Omega.{arith}
+use Rattle.busset.specs.Sets.{Bus, bit, In, Out, add, lack, size}
+use Rattle.busset.proofs.Tests.{below-or}
+use Rattle.step.specs.declared.Reason.{Reason}
+use Rattle.step.specs.declared.Reason.the-variants.{OwnUnit, NeighbourOf, ZeroInjection}
+use Rattle.step.specs.declared.Step.{Step}
+use Rattle.rules.specs.Grids.{Grid, Proper, total}
+use Rattle.rules.specs.Steps.{Holds, Allowed, ReasonNames, Finished}
+use Rattle.rules.specs.Derivation.{Before, NextIs, DerivedFrom, finished, next}
+use Rattle.rules.proofs.Firing.{others-in}
+use Rattle.rules.proofs.Reasons.{holds-names, allowed-bus}
+use Rattle.rules.proofs.Tests.{total-none, gap, gap-none, given, holdsTest, holds-tests}
+
+-- ---- a step that is allowed
+
+-- the bus is not observed and the reason holds: of the neighbours of w, one alone is not observed
+unfoldable pub reasonTest : Grid → ℕ → ℕ → Reason → ℕ
+reasonTest g s b OwnUnit = 1 - bit (g .units) b
+reasonTest g s b (NeighbourOf p) = (1 - bit (g .units) p) + (1 - bit (g .nbr p) b)
+reasonTest g s b (ZeroInjection w) = (1 - bit (g .zero) w) + (1 - bit s w) + (1 - bit (g .nbr w) b) + gap (size (lack (g .nbr w) s)) 1
+
+unfoldable pub allowedTest : Grid → ℕ → Step → ℕ
+allowedTest g s x = bit s (x .bus) + reasonTest g s (x .bus) (x .reason)
+
+reason-passes : (g : Grid) (s b : ℕ) (r : Reason) → Out s b → reasonTest g s b r ≡ 0 → Holds g s b r
+unfolding reasonTest
+reason-passes g s b OwnUnit o e = omega arith
+reason-passes g s b (NeighbourOf p) o e = record { unit = omega arith; joined = omega arith }
+reason-passes g s b (ZeroInjection w) o e = record {
+  class = omega arith;
+  observed = omega arith;
+  joined = omega arith;
+  others = others-in (g .nbr w) s s b (gap-none (size (lack (g .nbr w) s)) 1 (omega arith)) (λ a. omega arith) (omega arith) o;
+}
+
+pub allowed-passes : (g : Grid) (s : ℕ) (x : Step) → allowedTest g s x ≡ 0 → Allowed g s x
+unfolding allowedTest
+allowed-passes g s x e = let o : Out s (x .bus) = omega arith in record { new = o; holds = reason-passes g s (x .bus) (x .reason) o (omega arith) }
+
+-- ---- steps that are not
+
+-- no p below k, or no w, is a reason for b
+unfoldable pub noUnit : Grid → ℕ → ℕ → ℕ → ℕ
+noUnit g s b k = total k (λ p. 1 - holdsTest g s b (NeighbourOf p))
+
+unfoldable pub noZero : Grid → ℕ → ℕ → ℕ → ℕ
+noZero g s b k = total k (λ w. 1 - holdsTest g s b (ZeroInjection w))
+
+-- no reason holds for b, unless it is observed
+unfoldable pub noReason : Grid → ℕ → ℕ → ℕ
+noReason g s b = given (1 - bit s b) ((1 - holdsTest g s b OwnUnit) + noUnit g s b (g .n) + noZero g s b (g .n))
+
+-- no reason that is taken before r holds for b
+unfoldable pub noSooner : Grid → ℕ → ℕ → Reason → ℕ
+noSooner g s b OwnUnit = 0
+noSooner g s b (NeighbourOf p) = (1 - holdsTest g s b OwnUnit) + noUnit g s b (p - 1)
+noSooner g s b (ZeroInjection w) = (1 - holdsTest g s b OwnUnit) + noUnit g s b (g .n) + noZero g s b (w - 1)
+
+unfoldable pub nextTest : Grid → ℕ → Step → ℕ
+nextTest g s x = allowedTest g s x + total (x .bus - 1) (noReason g s) + noSooner g s (x .bus) (x .reason)
+
+unfoldable pub derivedTest : Grid → ℕ → List Step → ℕ
+derivedTest g s [] = total (g .n) (noReason g s)
+derivedTest g s (x ∷ xs) = nextTest g s x + derivedTest g (add s (x .bus)) xs
+
+-- what is wanted where the digit is 0
+given-out : (d x : ℕ) → d ≡ 0 → given (1 - d) x ≡ 0 → x ≡ 0
+unfolding given
+given-out zero x o e = e
+given-out (suc d) x o e = absurd (omega arith)
+
+-- a bus that is not below p
+not-below : (p q : ℕ) → 1 ≤ q → (Bus (p - 1) q → ⊥) → p ≤ q
+not-below p q l h = ⊎-elim (λ (m : q < p). absurd (h (record { some = l; most = omega arith }))) (λ (m : p ≤ q). m) (below-or q p)
+
+module _ (g : Grid) (v : Proper g) where
+  no-unit : (s b k p : ℕ) → noUnit g s b k ≡ 0 → Bus k p → Holds g s b (NeighbourOf p) → ⊥
+  unfolding noUnit
+  no-unit s b k p e h r = omega (arith, total-none k (λ p. 1 - holdsTest g s b (NeighbourOf p)) e p h, holds-tests g s b v (NeighbourOf p) r)
+
+  no-zero : (s b k w : ℕ) → noZero g s b k ≡ 0 → Bus k w → Holds g s b (ZeroInjection w) → ⊥
+  unfolding noZero
+  no-zero s b k w e h r = omega (arith, total-none k (λ w. 1 - holdsTest g s b (ZeroInjection w)) e w h, holds-tests g s b v (ZeroInjection w) r)
+
+  no-own : (s b : ℕ) → 1 - holdsTest g s b OwnUnit ≡ 0 → Holds g s b OwnUnit → ⊥
+  no-own s b e r = omega (arith, holds-tests g s b v OwnUnit r)
+
+  no-reason : (s b : ℕ) (r : Reason) → noReason g s b ≡ 0 → Out s b → Holds g s b r → ⊥
+  unfolding noReason
+  no-reason s b r e o h =
+      let z = given-out (bit s b) ((1 - holdsTest g s b OwnUnit) + noUnit g s b (g .n) + noZero g s b (g .n)) o e in
+      go r (holds-names g s b v r h) h (omega arith) (omega arith) (omega arith)
+    where
+      go : (r : Reason) → ReasonNames (g .n) r → Holds g s b r → 1 - holdsTest g s b OwnUnit ≡ 0 → noUnit g s b (g .n) ≡ 0 → noZero g s b (g .n) ≡ 0 → ⊥
+      go OwnUnit n h x y z = no-own s b x h
+      go (NeighbourOf p) n h x y z = no-unit s b (g .n) p y n h
+      go (ZeroInjection w) n h x y z = no-zero s b (g .n) w z n h
+
+  finished-passes : (s : ℕ) → total (g .n) (noReason g s) ≡ 0 → Finished g s
+  finished-passes s e x a = no-reason s (x .bus) (x .reason) (total-none (g .n) (noReason g s) e (x .bus) (allowed-bus v a)) (a .new) (a .holds)
+
+  first-passes : (s b : ℕ) (r q : Reason) → noSooner g s b r ≡ 0 → ReasonNames (g .n) q → Holds g s b q → Before r q
+  unfolding noSooner
+  first-passes s b OwnUnit q e n h = tt
+  first-passes s b (NeighbourOf p) OwnUnit e n h = no-own s b (omega arith) h
+  first-passes s b (NeighbourOf p) (NeighbourOf q) e n h = not-below p q (n .some) (λ l. no-unit s b (p - 1) q (omega arith) l h)
+  first-passes s b (NeighbourOf p) (ZeroInjection w) e n h = tt
+  first-passes s b (ZeroInjection w) OwnUnit e n h = no-own s b (omega arith) h
+  first-passes s b (ZeroInjection w) (NeighbourOf q) e n h = no-unit s b (g .n) q (omega arith) n h
+  first-passes s b (ZeroInjection w) (ZeroInjection u) e n h = not-below w u (n .some) (λ l. no-zero s b (w - 1) u (omega arith) l h)
+
+  pub next-passes : (s : ℕ) (x : Step) → nextTest g s x ≡ 0 → NextIs g s x
+  unfolding nextTest
+  next-passes s x e = record {
+    allowed = allowed-passes g s x (omega arith);
+    lowest = λ y a. not-below (x .bus) (y .bus) (allowed-bus v a .some) (λ l. no-reason s (y .bus) (y .reason) (total-none (x .bus - 1) (noReason g s) (omega arith) (y .bus) l) (a .new) (a .holds));
+    first = λ y a q. let h : Holds g s (x .bus) (y .reason) = subst (λ (b : ℕ). Holds g s b (y .reason)) q (a .holds) in first-passes s (x .bus) (x .reason) (y .reason) (omega arith) (holds-names g s (x .bus) v (y .reason) h) h;
+  }
+
+  pub derived-passes : (s : ℕ) (xs : List Step) → derivedTest g s xs ≡ 0 → DerivedFrom g s xs
+  unfolding derivedTest
+  derived-passes s [] e = finished (finished-passes s e)
+  derived-passes s (x ∷ xs) e = next (next-passes s x (omega arith)) (derived-passes (add s (x .bus)) xs (omega arith))

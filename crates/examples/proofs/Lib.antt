@@ -1,0 +1,12 @@
+pub mod Rows
+pub mod Texts
+pub mod Readings
+pub mod Results
+pub mod Sets
+pub mod Grids
+pub mod Crowded
+pub mod Computed
+pub mod Observation
+pub mod Deriving
+pub mod Steps
+pub mod Weaving

@@ -1,0 +1,110 @@
+-- The tables of case texts, step texts and printed texts: each is computed.
+use mathlib.Core.Path.{refl}
+use lib.Count.{ones, onesIn}
+use Rattle.busset.specs.Sets.{add, setOf}
+use Rattle.busset.specs.Held as held
+use Rattle.field.specs.Split.{split, join, same}
+use Rattle.field.specs.Number.{isDigit, takes, numberFrom, numberOf, digits}
+use Rattle.record.specs.Fields.{markOf, one, none}
+use Rattle.record.specs.Record.{wordOf, lineFields, busFields, recordOf, recordText}
+use Rattle.record.specs.StepLine.{letterOf, stepWordOf, reasonFields, stepFields, stepLineOf, stepText}
+use Rattle.grid.specs.Cases.{neighbours}
+use Rattle.reader.specs.Reading.{isBus, isAfter, pastBuses, verdict, readLines, readText, readCase}
+use Rattle.reader.specs.Writing.{busRecords, members, lineRecords, linesText}
+use Rattle.steptext.specs.Steps.{stepInRange, stepLines, readSteps, stepsIn, stepsFrom}
+use Rattle.writer.specs.Printing.{refusedText}
+use Rattle.dayreport.specs.Day.{stepsText}
+use Rattle.planreport.specs.Plan.{planFields, budgetOf, planLines, readPlan}
+use Rattle.examples.specs.CaseTexts as case
+use Rattle.examples.specs.StepTexts as steps
+use Rattle.examples.specs.Reports as reports
+
+-- ---- case texts
+
+pub cases-right : case.CasesRight
+unfolding readCase readText readLines verdict isBus isAfter pastBuses recordOf wordOf lineFields busFields markOf one none split same isDigit takes numberFrom numberOf held.hold held.wordOf add setOf
+cases-right = refl
+
+pub texts-right : case.TextsRight
+unfolding busRecords members lineRecords linesText recordText join digits neighbours setOf
+texts-right = refl
+
+pub whole-right : case.WholeRight
+unfolding readCase readText readLines verdict isBus isAfter pastBuses recordOf wordOf lineFields busFields markOf one none split same isDigit takes numberFrom numberOf
+whole-right = refl
+
+pub later-right : case.LaterRight
+unfolding readCase readText readLines verdict isBus isAfter pastBuses recordOf wordOf lineFields busFields markOf one none split same isDigit takes numberFrom numberOf
+later-right = refl
+
+pub case-limits-right : case.LimitsRight
+unfolding readCase readText readLines verdict recordOf wordOf split same
+case-limits-right = refl
+
+pub verdicts-right : case.VerdictsRight
+unfolding verdict isBus isAfter pastBuses
+verdicts-right = refl
+
+-- ---- step texts
+
+pub ranges-right : steps.RangesRight
+unfolding stepInRange isBus
+ranges-right = refl
+
+pub readings-right : steps.ReadingsRight
+unfolding readSteps stepLines stepInRange isBus stepLineOf stepWordOf letterOf reasonFields stepFields one none split same isDigit takes numberFrom numberOf
+readings-right = refl
+
+pub beyond-right : steps.BeyondRight
+unfolding stepLines stepInRange isBus stepLineOf stepWordOf letterOf reasonFields stepFields one none split same isDigit takes numberFrom numberOf
+beyond-right = refl
+
+pub step-limits-right : steps.LimitsRight
+unfolding readSteps stepLines stepLineOf stepWordOf split same
+step-limits-right = refl
+
+pub lists-right : steps.ListsRight
+unfolding stepsFrom stepsIn stepLineOf stepWordOf letterOf reasonFields stepFields one none split same isDigit takes numberFrom numberOf
+lists-right = refl
+
+pub rooms-right : steps.RoomsRight
+rooms-right = refl
+
+pub lefts-right : steps.LeftsRight
+lefts-right = refl
+
+-- ---- what is printed
+
+pub refusals-right : reports.RefusalsRight
+unfolding refusedText join digits
+refusals-right = refl
+
+pub days-right : reports.DaysRight
+unfolding stepsText stepText join digits
+days-right = refl
+
+pub xv-right : reports.VerdictsRight
+unfolding digits
+xv-right = refl
+
+-- ---- the planning program
+
+pub budgets-right : reports.BudgetsRight
+unfolding budgetOf planFields split same isDigit takes numberFrom numberOf
+budgets-right = refl
+
+pub inputs-right : reports.InputsRight
+unfolding readPlan planLines budgetOf planFields readLines verdict isBus isAfter pastBuses recordOf wordOf lineFields busFields markOf one none split same isDigit takes numberFrom numberOf
+inputs-right = refl
+
+pub asked-right : reports.AskedRight
+unfolding readPlan planLines budgetOf planFields readLines verdict isBus isAfter pastBuses recordOf wordOf lineFields busFields markOf one none split same isDigit takes numberFrom numberOf held.hold held.wordOf add setOf
+asked-right = refl
+
+pub plan-limits-right : reports.LimitsRight
+unfolding readPlan planLines budgetOf planFields readLines verdict recordOf wordOf split same
+plan-limits-right = refl
+
+pub plans-right : reports.PlansRight
+unfolding members linesText recordText join digits setOf ones onesIn
+plans-right = refl

@@ -1,0 +1,65 @@
+-- What the tables speak of: sets, steps, case values and grids, written short.
+use mathlib.Core.List.{List, [], _∷_, _++_, map}
+use Prim.Native.Nat.{ℕ, _-_}
+use lib.ListN.{length, replicate}
+use Rattle.busset.specs.Sets.{setOf}
+use Rattle.step.specs.declared.Reason.the-variants.{OwnUnit, NeighbourOf, ZeroInjection}
+use Rattle.step.specs.declared.Step.{Step}
+use Rattle.rules.specs.Grids.{Grid}
+use Rattle.grid.specs.declared.Case.{Case}
+use Rattle.grid.specs.Cases.{gridOf}
+use Rattle.starred.specs.Table.{Drawing, wordOf, caseOf, seven, path}
+
+-- the set of the buses of a list without repeats
+abbrev pub set : List ℕ → ℕ
+set bs = setOf (wordOf bs)
+
+-- `step b O`
+abbrev pub own : ℕ → Step
+own b = record { bus = b; reason = OwnUnit }
+
+-- `step b N p`
+abbrev pub near : ℕ → ℕ → Step
+near b p = record { bus = b; reason = NeighbourOf p }
+
+-- `step b Z w`
+abbrev pub zeroAt : ℕ → ℕ → Step
+zeroAt b w = record { bus = b; reason = ZeroInjection w }
+
+-- a case value: n, the neighbours of each bus in bus order, the Z buses, the Y sites and the units
+abbrev pub value : ℕ → List (List ℕ) → List ℕ → List ℕ → List ℕ → Case
+value n rows zeros sites units = record {
+  n = n;
+  nbr = map wordOf rows ++ replicate (64 - length rows) 0;
+  zero = wordOf zeros;
+  site = wordOf sites;
+  units = wordOf units;
+}
+
+-- the grid that a drawing says
+abbrev pub grid : Drawing → Grid
+grid d = gridOf (caseOf d)
+
+-- document 01's seven-bus grid with these units
+abbrev pub sevenGrid : List ℕ → Grid
+sevenGrid units = grid (seven units)
+
+-- document 01's path 1-2-3-4-5, where only 3 is Z, with these units
+abbrev pub pathWith : List ℕ → Drawing
+pathWith units = record { n = 5; lines = path .lines; zeros = path .zeros; units = units }
+
+-- the path 1-2-3-4, where 2 and 3 are Z, with a unit at 4: firing 3 frees 2, and then firing 2 frees 1
+abbrev pub sweep : Drawing
+sweep = record { n = 4; lines = (1, 2) ∷ (2, 3) ∷ (3, 4) ∷ []; zeros = 2 ∷ 3 ∷ []; units = 4 ∷ [] }
+
+-- two buses, joined, where 1 is Z, with a unit at 2
+abbrev pub leaf : Drawing
+leaf = record { n = 2; lines = (1, 2) ∷ []; zeros = 1 ∷ []; units = 2 ∷ [] }
+
+-- two buses with no line, with a unit at 1
+abbrev pub lone : Drawing
+lone = record { n = 2; lines = []; zeros = 1 ∷ 2 ∷ []; units = 1 ∷ [] }
+
+-- bus 1 and bus 4, each joined to the Z buses 2 and 3, with these units
+abbrev pub ring : List ℕ → Drawing
+ring units = record { n = 4; lines = (1, 2) ∷ (1, 3) ∷ (2, 4) ∷ (3, 4) ∷ []; zeros = 2 ∷ 3 ∷ []; units = units }

@@ -1,0 +1,16 @@
+pub mod Tables
+pub mod Drawings
+pub mod Fields
+pub mod Records
+pub mod CaseTexts
+pub mod StepTexts
+pub mod Reports
+pub mod Results
+pub mod Sets
+pub mod Grids
+pub mod Refusals
+pub mod Observation
+pub mod Steps
+pub mod Derivation
+pub mod Weaving
+pub mod Figures
