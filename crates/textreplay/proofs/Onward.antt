@@ -1,13 +1,14 @@
 -- Following a text's steps one after another: what follows from here follows from the beginning.
 use mathlib.Core.Path.{_≡_, refl, sym, _∙_, subst, subst⁻¹}
-use mathlib.Core.List.{List, []}
+use mathlib.Core.List.{List, [], _∷_}
 use Prim.Native.Nat.{ℕ, _≤_}
 use native.Mathlib.Omega.{arith}
 use lib.ListN.{length}
 use Rattle.step.specs.declared.Step.{Step}
 use Rattle.grid.specs.declared.Case.{Case}
 use Rattle.grid.specs.declared.refusal.Refusal.{Refusal}
-use Rattle.following.specs.Following.{Applied, Begun, Follows, none, next}
+use Rattle.following.specs.Following.{AppliedTo, Applied, Begun, Follows, none, next}
+use Rattle.following.specs.declared.Standing.the-variants.{Bad}
 use Rattle.following.specs.Replies.{ReplayReply, EndedAt}
 use Rattle.following.specs.declared.Following.{Following}
 use Rattle.following.specs.declared.Task.the-variants.{Replay}
@@ -48,6 +49,15 @@ onward-all {c} {text} {n} {b} {st} {at} l g o p t =
       begun = subst⁻¹ (λ (k : ℕ). Begun c Replay k b) l g;
       follows = o .whole st (subst⁻¹ (λ (l : List Step). Follows c st l st) h none);
     }
+
+-- the first bad step stays, whatever steps come after it
+bad-stays : (c : Case) (st : Following) (q : Refusal) → st .standing ≡ Bad q → (xs : List Step) → Follows c st xs st
+bad-stays c st q e [] = none
+bad-stays c st q e (x ∷ xs) = next (subst⁻¹ (AppliedTo c st x st) e e) (bad-stays c st q e xs)
+
+pub onward-bad : {c : Case} {text : List ℕ} {n : ℕ} {b st : Following} {at : ℕ} {q : Refusal} → length (stepsOf text) ≡ n → Begun c Replay n b → Onward c text b st at → st .standing ≡ Bad q → Followed c (stepsOf text) st
+onward-bad {c} {text} {n} {b} {st} {at} {q} l g o e =
+    record { first = b; begun = subst⁻¹ (λ (k : ℕ). Begun c Replay k b) l g; follows = o .whole st (bad-stays c st q e (stepsFrom text at)) }
 
 -- ---- the answer
 

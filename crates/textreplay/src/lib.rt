@@ -6,6 +6,7 @@ ghost use Rattle.textreplay.specs.Replying.{Followed, TextReplayReply};
 use busset::BusSet;
 use following::Following;
 use following::Replayed;
+use following::Standing;
 use following::Task;
 use following::apply;
 use following::begin;
@@ -24,7 +25,7 @@ pub enum TextReplayed {
     Unread(Refusal),
 }
 
-// The n steps of a text, followed one after another.
+// The n steps of a text, followed one after another up to the first bad one.
 fn follow_text(case: Case, text: &[u8], n: usize) -> Following
     requires { ⌜ length (stepsOf (now text)) ≡ n ⌝ }
     ensures { λ r. ⌜ Followed case (stepsOf (now (text .entry))) r ⌝ }
@@ -32,6 +33,10 @@ fn follow_text(case: Case, text: &[u8], n: usize) -> Following
     let mut st = begin(case, Task::Replay, n);
     let mut at: usize = 0;
     loop {
+        let standing = st.standing;
+        let Standing::Good = standing else {
+            return st;
+        };
         match step_at(text, at) {
             NextStep::At(x, e) => {
                 st = apply(case, st, x);

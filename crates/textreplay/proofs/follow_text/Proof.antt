@@ -2,7 +2,7 @@ use borrow.Author.Needs.{needs}
 use Prim.Native.Nat.{_-_}
 use native.Mathlib.Omega.{arith}
 use lib.ListN.{length}
-use Rattle.textreplay.proofs.Onward.{Onward, onward-none, here, onward-more, onward-all}
+use Rattle.textreplay.proofs.Onward.{Onward, onward-none, here, onward-more, onward-all, onward-bad}
 use Rattle.textreplay.proofs.follow_text.Statement.{statement}
 use Rattle.textreplay.proofs.follow_text.Tie as tie
 
@@ -17,6 +17,17 @@ begin-requires c κs = search needs
 
 loop-holds : tie.Need-loop-holds Inv-loop μ-loop
 loop-holds c = onward-none _ _ _
+
+enum-told : tie.Need-enum-told Inv-loop μ-loop
+enum-told c = search needs
+
+enum-told-2 : tie.Need-enum-told-2 Inv-loop μ-loop
+enum-told-2 c = search needs
+
+returns : tie.Need-returns Inv-loop μ-loop
+returns c =
+    let at-loop = c .before .before in
+    onward-bad (at-loop .before .before .before .pre) (at-loop .before .begin .ensures) (at-loop .loop .inv) (c .enum-told2 .given .1)
 
 step-at-requires : tie.Need-step-at-requires Inv-loop μ-loop
 step-at-requires c κs = search needs
@@ -38,16 +49,16 @@ loop-again : tie.Need-loop-again Inv-loop μ-loop
 loop-again c =
     let at-x = c .before .before in
     let at-step-at = at-x .before .before in
-    onward-more (at-step-at .before .loop .inv) (at-step-at .step-at .ensures) (at-x .x .given .1) (c .apply .ensures)
+    onward-more (at-step-at .before .before .before .loop .inv) (at-step-at .step-at .ensures) (at-x .x .given .1) (c .apply .ensures)
 
-enum-told : tie.Need-enum-told Inv-loop μ-loop
-enum-told c = search needs
+enum-told-3 : tie.Need-enum-told-3 Inv-loop μ-loop
+enum-told-3 c = search needs
 
-returns : tie.Need-returns Inv-loop μ-loop
-returns c =
+returns-2 : tie.Need-returns-2 Inv-loop μ-loop
+returns-2 c =
     let at-step-at = c .before .before in
-    let at-loop = at-step-at .before in
-    onward-all (at-loop .before .before .before .pre) (at-loop .before .begin .ensures) (at-loop .loop .inv) (at-step-at .step-at .ensures) (c .enum-told .given .1)
+    let at-loop = at-step-at .before .before .before in
+    onward-all (at-loop .before .before .before .pre) (at-loop .before .begin .ensures) (at-loop .loop .inv) (at-step-at .step-at .ensures) (c .enum-told3 .given .1)
 
 pub follow-text-spec : {M : Type 1} → statement M
 follow-text-spec =
@@ -57,10 +68,13 @@ follow-text-spec =
     μ-loop
     begin-requires
     loop-holds
+    enum-told
+    enum-told-2
+    returns
     step-at-requires
     enum-known-x
     apply-requires
     loop-less
     loop-again
-    enum-told
-    returns)
+    enum-told-3
+    returns-2)
