@@ -1,8 +1,8 @@
 use Rattle.busset.proofs.Tests.{refutes}
-use Rattle.cuts.proofs.Cutting.{shrunk-same, shrunk-spread}
+use Rattle.groups.proofs.Grouping.{shrunk-same, shrunk-spread}
 use borrow.Author.Needs.{needs}
-use Rattle.cuts.proofs.tried.Statement.{statement}
-use Rattle.cuts.proofs.tried.Tie as tie
+use Rattle.groups.proofs.tried.Statement.{statement}
+use Rattle.groups.proofs.tried.Tie as tie
 
 row-requires : tie.Need-row-requires
 row-requires c κs = search needs

@@ -6,8 +6,8 @@ use Rattle.busset.specs.Sets.{bit, Sub, setOf, size}
 use Rattle.busset.proofs.Tests.{refutes}
 use Rattle.busset.proofs.Members.{without-sub}
 use borrow.Author.Needs.{needs}
-use Rattle.cuts.proofs.is_outlit.Statement.{statement}
-use Rattle.cuts.proofs.is_outlit.Tie as tie
+use Rattle.outlit.proofs.is_outlit.Statement.{statement}
+use Rattle.outlit.proofs.is_outlit.Tie as tie
 
 abbrev Inv-loop : tie.InvT-loop
 Inv-loop rows others x lit left₀ left = Sub (setOf left) (setOf others)

@@ -8,10 +8,11 @@ use Rattle.rules.specs.Observation.{Least}
 use Rattle.rules.specs.Ways.{Whatever}
 use Rattle.rules.proofs.Blocks.{Grouped, grouped-none, grouped-spared, grouped-lacks}
 use Rattle.grid.specs.Cases.{neighbours}
-use Rattle.cuts.proofs.Cutting.{no-group, next-group, spares-same, spares-none}
+use Rattle.spread.proofs.Sparing.{spares-same, spares-none}
+use Rattle.groups.proofs.Grouping.{no-group, next-group}
 use borrow.Author.Needs.{needs}
-use Rattle.cuts.proofs.narrowed.Statement.{statement}
-use Rattle.cuts.proofs.narrowed.Tie as tie
+use Rattle.groups.proofs.narrowed.Statement.{statement}
+use Rattle.groups.proofs.narrowed.Tie as tie
 
 abbrev Inv-loop : tie.InvT-loop
 Inv-loop n nbr zero s sites k q₀ t₀ m₀ q t m = (m ≤ k) × Sub (setOf q) (setOf sites) × Whatever n (neighbours nbr) (setOf zero) (λ g. Least g (setOf s) → Grouped g (setOf sites) (setOf q) (setOf t) m)

@@ -1,7 +1,7 @@
-use Rattle.cuts.proofs.Cutting.{group-by}
+use Rattle.groups.proofs.Grouping.{group-by}
 use borrow.Author.Needs.{needs}
-use Rattle.cuts.proofs.group.Statement.{statement}
-use Rattle.cuts.proofs.group.Tie as tie
+use Rattle.groups.proofs.group.Statement.{statement}
+use Rattle.groups.proofs.group.Tie as tie
 
 all-requires : tie.Need-all-requires
 all-requires c κs = search needs

@@ -3,11 +3,11 @@ use borrow.Author.Tests.{not-true}
 use Rattle.busset.specs.Sets.{setOf, size}
 use Rattle.busset.proofs.Tests.{refutes}
 use Rattle.grid.specs.Cases.{neighbours}
-use Rattle.cuts.specs.Cuts.{Shrunk}
-use Rattle.cuts.proofs.Cutting.{shrunk-same, shrunk-more}
+use Rattle.groups.specs.Shrinking.{Shrunk}
+use Rattle.groups.proofs.Grouping.{shrunk-same, shrunk-more}
 use borrow.Author.Needs.{needs}
-use Rattle.cuts.proofs.shrunk.Statement.{statement}
-use Rattle.cuts.proofs.shrunk.Tie as tie
+use Rattle.groups.proofs.shrunk.Statement.{statement}
+use Rattle.groups.proofs.shrunk.Tie as tie
 
 abbrev Inv-loop : tie.InvT-loop
 Inv-loop n nbr zero c r₀ left₀ r left = Shrunk n (neighbours nbr) (setOf zero) (setOf c) (setOf r)

@@ -6,10 +6,11 @@ use borrow.Author.Tests.{not-true}
 use Rattle.busset.specs.Sets.{setOf, size}
 use Rattle.busset.proofs.Tests.{refutes}
 use Rattle.grid.specs.Cases.{neighbours}
-use Rattle.cuts.proofs.Cutting.{spares-same, Thinned, thinned-none, thinned-yes, thinned-no, thinned-to}
+use Rattle.spread.proofs.Sparing.{spares-same}
+use Rattle.outlit.proofs.Thinning.{Thinned, thinned-none, thinned-yes, thinned-no, thinned-to}
 use borrow.Author.Needs.{needs}
-use Rattle.cuts.proofs.undominated.Statement.{statement}
-use Rattle.cuts.proofs.undominated.Tie as tie
+use Rattle.outlit.proofs.undominated.Statement.{statement}
+use Rattle.outlit.proofs.undominated.Tie as tie
 
 abbrev Inv-loop : tie.InvT-loop
 Inv-loop nbr zero s sites k rows kept₀ left₀ kept left = (n : ℕ) → Thinned n (neighbours nbr) (setOf zero) (setOf s) (setOf sites) k (setOf kept) (setOf left)

@@ -4,10 +4,10 @@ use borrow.Author.Tests.{not-true, not-false}
 use Rattle.busset.specs.Sets.{setOf, size}
 use Rattle.busset.proofs.Tests.{refutes}
 use Rattle.grid.specs.Cases.{neighbours}
-use Rattle.cuts.proofs.Cutting.{Lighting, lighting-none, lighting-more, lighting-all}
+use Rattle.outlit.proofs.Thinning.{Lighting, lighting-none, lighting-more, lighting-all}
 use borrow.Author.Needs.{needs}
-use Rattle.cuts.proofs.lit_rows.Statement.{statement}
-use Rattle.cuts.proofs.lit_rows.Tie as tie
+use Rattle.outlit.proofs.lit_rows.Statement.{statement}
+use Rattle.outlit.proofs.lit_rows.Tie as tie
 
 abbrev Inv-loop : tie.InvT-loop
 Inv-loop nbr zero s sites rows₀ left₀ rows left = Lighting (neighbours nbr) (setOf zero) (setOf s) (setOf sites) rows (setOf left)
