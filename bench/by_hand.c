@@ -1,4 +1,4 @@
-// The observed set and the search for the fewest, as the crates observe, spread, cuts and fewest have them, written by hand in C.
+// The observed set and the search for the fewest, as the crates observe, spread, outlit, groups, cuts and fewest have them, written by hand in C.
 //   by_hand calls GRIDS              over families of 64-bus grids, GRIDS of each, with a budget of 8: how many calls the search makes
 //                                    (of the search and of the cut that calls itself), and the time of the slowest grid of each family
 //   by_hand write FAMILY SIZE ZEROS  the text of one grid of a family: 0 meshes, 1 random with SIZE lines, 2 rooks' grids

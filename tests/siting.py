@@ -2,14 +2,15 @@
 """What crates/try_sites must print, found without it: every answer is worked out here from document 01's sentences by trying all
 placements, and the grids are read from cases. One answer is not: that 57 buses need 12 units, which an integer program found.
 
-    tests/siting.py            prints the expected output
-    tests/siting.py --grids    prints crates/try_sites/src/grids.rt, the same grids as numbers
+    tests/siting.py                prints crates/try_sites/stdout
+    tests/siting.py --questions    prints crates/try_sites/stdin: the same questions, as the program reads them
 """
 import itertools
 import os
 import sys
 
 HERE = os.path.dirname(os.path.abspath(__file__))
+ASKING = "--questions" in sys.argv
 
 
 def read(name):
@@ -33,6 +34,12 @@ class Grid:
             self.near[a].add(b)
             self.near[b].add(a)
         self.sites = [b for b in range(1, n + 1) if b not in barred]
+
+    def text(self):
+        buses = ["bus\t%d\t%s\t%s\n" % (b, "Z" if b in self.zeros else "I", "Y" if b in self.sites else "N") for b in self.near]
+        lines = ["line\t%d\t%d\n" % (a, b) for a in self.near for b in sorted(self.near[a]) if a < b]
+        units = ["pmu\t%d\n" % b for b in sorted(self.units)]
+        return "grid\t%d\n" % self.n + "".join(buses + lines + units) + "end\n"
 
     def observed(self, units):
         seen = set(units)
@@ -79,11 +86,19 @@ def say(name, answer):
     print(name + ":" + "".join(" " + str(x) for x in answer))
 
 
+def ask(name, text, budget=0, room=0, end="#"):
+    print("%s\n%d\n%d\n%s" % (name, budget, room, text), end=end)
+
+
 def verdict(name, g):
+    if ASKING:
+        return ask("verdict, " + name, g.text())
     say("verdict, " + name, g.unconfirmed())
 
 
 def greedy(name, g, budget, room=64):
+    if ASKING:
+        return ask("greedy, " + name, g.text(), budget, room)
     if budget > 64:
         return print("greedy, " + name + ": refused 10 0")
     xs = g.greedy(budget)
@@ -93,6 +108,8 @@ def greedy(name, g, budget, room=64):
 
 
 def fewest(name, g, budget, answer=False):
+    if ASKING:
+        return ask("fewest, " + name, g.text(), budget)
     if budget > 8:
         return print("fewest, " + name + ": refused 10 0")
     xs = g.fewest(budget) if answer is False else answer
@@ -101,14 +118,10 @@ def fewest(name, g, budget, answer=False):
     say("fewest, " + name, xs)
 
 
-def grids():
-    print("// The grids of cases, as numbers: written by tests/siting.py --grids.")
-    print("use crate::drawing::drawn;\nuse wozgrzyt::Case;")
-    for f, name in (("seven", "seven"), ("ieee14", "ieee14"), ("ieee30", "ieee30"), ("ieee57", "ieee57"), ("source000-fig4", "figure4"), ("source000-gadget", "gadget")):
-        n, lines, zeros = read(f)
-        flat = ", ".join("%d, %d" % l for l in lines)
-        print("\npub fn %s() -> Case {\n    let lines: [u8; %d] = [%s];\n    let zeros: [u8; %d] = [%s];\n    drawn(%d, &lines, &zeros)\n}"
-              % (name, 2 * len(lines), flat, len(zeros), ", ".join(map(str, zeros)), n))
+def no_buses():
+    if ASKING:
+        return ask("no buses", "", 65, 2, "")
+    print("no buses: refused 5 0 refused 5 0 refused 5 0")
 
 
 def main():
@@ -157,8 +170,8 @@ def main():
     fewest("ieee30 with 6", Grid(*read("ieee30")), 6)
     fewest("ieee57", Grid(*read("ieee57")), 8, None)
     fewest("64 buses with no lines", Grid(64, [], []), 8, None)
-    print("no buses: refused 5 0 refused 5 0 refused 5 0")
+    no_buses()
 
 
 if __name__ == "__main__":
-    grids() if "--grids" in sys.argv else main()
+    main()

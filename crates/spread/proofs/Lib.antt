@@ -1,1 +1,2 @@
 pub mod Lighting
+pub mod Sparing

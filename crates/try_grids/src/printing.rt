@@ -1,47 +1,20 @@
 // Answers, printed one to a line.
 use busset::BusSet;
+use shown::refused;
+use shown::text;
 use wozgrzyt::Case;
 use wozgrzyt::Figured;
 use wozgrzyt::Observed;
 use wozgrzyt::Reason;
-use wozgrzyt::Refusal;
 use wozgrzyt::Step;
 use wozgrzyt::Tested;
-
-fn text(bytes: &[u8]) {
-    io::write_all(1, bytes);
-}
-
-fn number(n: usize) {
-    io::print_decimal(1, n as u64);
-}
-
-fn refused(r: Refusal) {
-    text(b" refused ");
-    number(grid::refusal::number(r) as usize);
-    text(b" ");
-    number(grid::refusal::place(r));
-}
-
-fn spaced(b: usize) {
-    text(b" ");
-    number(b);
-}
-
-fn set(s: BusSet) {
-    for b in 1..=64 {
-        if busset::has(s, b) {
-            spaced(b);
-        }
-    }
-}
 
 // The observed set, or the refusal.
 pub fn observed(name: &[u8], case: Case) {
     text(name);
     text(b":");
     match wozgrzyt::observed_set(case) {
-        Observed::Set(s) => set(s),
+        Observed::Set(s) => shown::set(s),
         Observed::Refused(r) => refused(r),
     }
     text(b"\n");

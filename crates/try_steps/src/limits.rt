@@ -11,11 +11,11 @@ use grid::Case;
 // So many steps: the derivation, and its last step again and again.
 fn many(name: &[u8], case: Case, p: Plan, count: usize) {
     let q = plans::stretched(p, count);
-    printing::text(b"replay ");
-    printing::number(count);
+    shown::text(b"replay ");
+    shown::number(count);
     printing::replays(name, case, q);
-    printing::text(b"weave ");
-    printing::number(count);
+    shown::text(b"weave ");
+    shown::number(count);
     printing::weaves(name, case, q, 72);
 }
 

@@ -21,19 +21,19 @@ pub fn good(case: Case) -> Plan {
 }
 
 fn both(name: &[u8], case: Case, p: Plan) {
-    printing::text(b"replay ");
+    shown::text(b"replay ");
     printing::replays(name, case, p);
-    printing::text(b"weave ");
+    shown::text(b"weave ");
     printing::weaves(name, case, p, 72);
 }
 
 // The list p with the step put in at `at`.
 fn placed(name: &[u8], case: Case, p: Plan, at: usize, s: Step) {
     let q = plans::inserted(p, at, s);
-    printing::text(b"replay,");
+    shown::text(b"replay,");
     printing::step(s);
     printing::replays(name, case, q);
-    printing::text(b"weave,");
+    shown::text(b"weave,");
     printing::step(s);
     printing::weaves(name, case, q, 72);
 }

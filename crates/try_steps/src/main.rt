@@ -28,7 +28,7 @@ fn derivations() {
 
 fn derivation(name: &[u8], case: grid::Case) {
     printing::derives(name, case);
-    printing::text(name);
+    shown::text(name);
     printing::replays(b", replayed", case, lists::good(case));
 }
 

@@ -49,16 +49,6 @@ pub fn near(p: Plan, bus: usize, unit: usize) -> Plan {
     )
 }
 
-pub fn by_zero(p: Plan, bus: usize, w: usize) -> Plan {
-    add(
-        p,
-        Step {
-            bus,
-            reason: Reason::ZeroInjection(w),
-        },
-    )
-}
-
 // The step at i, counted from 0.
 pub fn nth(p: Plan, i: usize) -> Step {
     if 1025 <= i {

@@ -3,42 +3,17 @@ use crate::lending::replay_first;
 use crate::plans;
 use crate::plans::Plan;
 use crate::records;
-use busset::BusSet;
 use following::Replayed;
 use following::Wove;
 use grid::Case;
-use grid::Refusal;
+use shown::number;
+use shown::refused;
+use shown::set;
+use shown::spaced;
+use shown::text;
 use step::Reason;
 use step::Step;
 use wozgrzyt::DerivationAnswer;
-
-pub fn text(bytes: &[u8]) {
-    io::write_all(1, bytes);
-}
-
-pub fn number(n: usize) {
-    io::print_decimal(1, n as u64);
-}
-
-fn refused(r: Refusal) {
-    text(b" refused ");
-    number(grid::refusal::number(r) as usize);
-    text(b" ");
-    number(grid::refusal::place(r));
-}
-
-fn spaced(b: usize) {
-    text(b" ");
-    number(b);
-}
-
-fn set(s: BusSet) {
-    for b in 1..=64 {
-        if busset::has(s, b) {
-            spaced(b);
-        }
-    }
-}
 
 fn reason(r: Reason) {
     match r {

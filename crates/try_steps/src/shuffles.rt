@@ -138,8 +138,8 @@ fn opened(name: &[u8], case: Case, count: usize) -> Desks {
     for d in 0..5 {
         if d < count {
             let p = drawn_list(case, d + 1);
-            printing::text(name);
-            printing::text(b", a desk's list:");
+            shown::text(name);
+            shown::text(b", a desk's list:");
             printing::steps(p);
             printing::replays(b", replayed", case, p);
             ds = with_desk(ds, d, p);
@@ -153,11 +153,11 @@ pub fn shuffles(name: &[u8], case: Case, count: usize) {
     let ds = opened(name, case, count);
     for k in 1..=24 {
         let p = shuffled(ds, k);
-        printing::text(name);
-        printing::text(b", shuffle ");
-        printing::number(k);
-        printing::text(b" of ");
-        printing::number(p.n);
+        shown::text(name);
+        shown::text(b", shuffle ");
+        shown::number(k);
+        shown::text(b" of ");
+        shown::number(p.n);
         printing::weaves(b" steps", case, p, 64);
     }
 }

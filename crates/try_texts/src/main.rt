@@ -163,16 +163,17 @@ fn judge(t: Tally, room: &[u8], n: usize) -> Tally {
     }
 }
 
+fn spaced(n: u64) {
+    io::write_all(1, b" ");
+    io::print_decimal(1, n);
+}
+
 fn say(name: &[u8], t: Tally) {
     io::write_all(1, name);
-    io::write_all(1, b" ");
-    io::print_decimal(1, t.count);
-    io::write_all(1, b" ");
-    io::print_decimal(1, t.good);
-    io::write_all(1, b" ");
-    io::print_decimal(1, t.same);
-    io::write_all(1, b" ");
-    io::print_decimal(1, t.sum);
+    spaced(t.count);
+    spaced(t.good);
+    spaced(t.same);
+    spaced(t.sum);
     io::write_all(1, b"\n");
 }
 
@@ -183,23 +184,31 @@ fn tried(t: Tally, text: &[u8], a: usize, e: usize, s: &[u8], u: &[u8]) -> Tally
     judge(t, &room, n)
 }
 
-// Where the text goes on: at i, or after its byte.
-fn after(i: usize, drop: bool) -> usize
-    requires { ⌜ i ≤ 16400 ⌝ }
-{
-    if drop {
-        return i + 1;
-    }
-    i
+// What is dropped at a byte: nothing, the byte, or all from it on.
+enum Drop {
+    Nothing,
+    Byte,
+    Rest,
 }
 
-// At each byte: the byte dropped or not, and s put there.
-fn each_byte(name: &[u8], text: &[u8], kind: Kind, drop: bool, s: &[u8])
+// Where the text of so many bytes goes on after i.
+fn after(i: usize, drop: Drop, count: usize) -> usize
+    requires { ⌜ i ≤ 16400 ⌝ }
+{
+    match drop {
+        Drop::Nothing => i,
+        Drop::Byte => i + 1,
+        Drop::Rest => count,
+    }
+}
+
+// At each byte: what is dropped, and s put there.
+fn each_byte(name: &[u8], text: &[u8], kind: Kind, drop: Drop, s: &[u8])
     requires { ⌜ length (now text) ≤ 16400 ⌝ }
 {
     let mut t = fresh(kind);
     for i in 0..text.len() + 1 {
-        t = tried(t, text, i, after(i, drop), s, b"");
+        t = tried(t, text, i, after(i, drop, text.len()), s, b"");
     }
     say(name, t);
 }
@@ -214,44 +223,23 @@ fn each_doubled(text: &[u8], kind: Kind)
     say(b"doubled", t);
 }
 
-fn each_cut(text: &[u8], kind: Kind)
+// At each byte, one after another of the bytes put there.
+fn each_of(name: &[u8], text: &[u8], kind: Kind, drop: Drop, bytes: &[u8])
     requires { ⌜ length (now text) ≤ 16400 ⌝ }
 {
-    let mut t = fresh(kind);
-    for i in 0..text.len() + 1 {
-        t = tried(t, text, i, text.len(), b"", b"");
+    for i in 0..bytes.len() {
+        each_byte(name, text, kind, drop, &bytes[i..i + 1]);
     }
-    say(b"cut", t);
 }
 
 fn by_byte(text: &[u8], kind: Kind)
     requires { ⌜ length (now text) ≤ 16400 ⌝ }
 {
-    each_byte(b"removed", text, kind, true, b"");
+    each_byte(b"removed", text, kind, Drop::Byte, b"");
     each_doubled(text, kind);
-    by_change(text, kind);
-    by_insert(text, kind);
-    each_cut(text, kind);
-}
-
-fn by_change(text: &[u8], kind: Kind)
-    requires { ⌜ length (now text) ≤ 16400 ⌝ }
-{
-    each_byte(b"changed", text, kind, true, b"\0");
-    each_byte(b"changed", text, kind, true, b"\n");
-    each_byte(b"changed", text, kind, true, b"0");
-    each_byte(b"changed", text, kind, true, b"9");
-    each_byte(b"changed", text, kind, true, b"\xff");
-}
-
-fn by_insert(text: &[u8], kind: Kind)
-    requires { ⌜ length (now text) ≤ 16400 ⌝ }
-{
-    each_byte(b"inserted", text, kind, false, b"\t");
-    each_byte(b"inserted", text, kind, false, b"\n");
-    each_byte(b"inserted", text, kind, false, b"\r");
-    each_byte(b"inserted", text, kind, false, b"1");
-    each_byte(b"inserted", text, kind, false, b"\xc8");
+    each_of(b"changed", text, kind, Drop::Byte, b"\0\n09\xff");
+    each_of(b"inserted", text, kind, Drop::Nothing, b"\t\n\r1\xc8");
+    each_byte(b"cut", text, kind, Drop::Rest, b"");
 }
 
 // The line at a, which ends at e, doubled, dropped, and swapped with the next, which ends at f.
@@ -290,37 +278,16 @@ fn each_field(text: &[u8], kind: Kind, word: &[u8])
     say(b"field", t);
 }
 
-fn by_field(text: &[u8], kind: Kind)
+// In the place of each field, one after another of the words, which stand between tabs.
+fn each_word(text: &[u8], kind: Kind, words: &[u8])
     requires { ⌜ length (now text) ≤ 16400 ⌝ }
 {
-    each_field(text, kind, b"");
-    each_field(text, kind, b"0");
-    each_field(text, kind, b"00");
-    each_field(text, kind, b"07");
-    each_field(text, kind, b"1");
-    each_field(text, kind, b"8");
-    each_field(text, kind, b"64");
-    by_number(text, kind);
-    by_word(text, kind);
-}
-
-fn by_number(text: &[u8], kind: Kind)
-    requires { ⌜ length (now text) ≤ 16400 ⌝ }
-{
-    each_field(text, kind, b"65");
-    each_field(text, kind, b"256");
-    each_field(text, kind, b"9999");
-    each_field(text, kind, b"10000");
-}
-
-fn by_word(text: &[u8], kind: Kind)
-    requires { ⌜ length (now text) ≤ 16400 ⌝ }
-{
-    each_field(text, kind, b"+1");
-    each_field(text, kind, b"Z");
-    each_field(text, kind, b"N");
-    each_field(text, kind, b"end");
-    each_field(text, kind, b"line");
+    let mut a: usize = 0;
+    while a < words.len() {
+        let e = splice::field_end(words, a);
+        each_field(text, kind, &words[a..e]);
+        a = e + 1;
+    }
 }
 
 fn each_tail(text: &[u8], kind: Kind)
@@ -367,7 +334,11 @@ fn all_kinds(text: &[u8], kind: Kind)
 {
     by_byte(text, kind);
     by_line(text, kind);
-    by_field(text, kind);
+    each_word(
+        text,
+        kind,
+        b"\t0\t00\t07\t1\t8\t64\t65\t256\t9999\t10000\t+1\tZ\tN\tend\tline",
+    );
     by_end(text, kind);
 }
 

@@ -11,7 +11,8 @@ use Rattle.rules.specs.Observation.{Least}
 use Rattle.rules.specs.Ways.{Whatever, Spared}
 use Rattle.grid.specs.Cases.{neighbours}
 use Rattle.spread.proofs.Lighting.{lit-least}
-use Rattle.cuts.proofs.Cutting.{shrunk-closed, IdleBut, idle-tried, idle-no-cover, lacks-no-cover, spared-tried}
+use Rattle.groups.proofs.Grouping.{shrunk-closed}
+use Rattle.cuts.proofs.Cutting.{IdleBut, idle-tried, idle-no-cover, lacks-no-cover, spared-tried}
 use borrow.Fn.Kinds.{In}
 use borrow.Fn.PlainCycle.{Measures, is, falls, and}
 use Rattle.cuts.proofs.is_hopeless.Reads as is-hopeless
@@ -20,10 +21,10 @@ use Rattle.cuts.proofs.+is_hopeless.Lts-is_hopeless as is-hopeless-lts
 use Rattle.busset.proofs.is_none.Reads as is-none-reads
 use Rattle.busset.proofs.lowest.Reads as lowest-reads
 use Rattle.busset.proofs.without.Reads as without-reads
-use Rattle.cuts.proofs.group.Reads as group-reads
-use Rattle.cuts.proofs.narrowed.Reads as narrowed-reads
-use Rattle.cuts.proofs.shrunk.Reads as shrunk-reads
-use Rattle.cuts.proofs.undominated.Reads as undominated-reads
+use Rattle.groups.proofs.group.Reads as group-reads
+use Rattle.groups.proofs.narrowed.Reads as narrowed-reads
+use Rattle.groups.proofs.shrunk.Reads as shrunk-reads
+use Rattle.outlit.proofs.undominated.Reads as undominated-reads
 use Rattle.spread.proofs.is_full.Reads as is-full-reads
 use Rattle.spread.proofs.lit.Reads as lit-reads
 use Rattle.cuts.proofs.+is_hopeless.{statement}

@@ -3,7 +3,7 @@ use mathlib.Core.Path.{_≡_, subst}
 use mathlib.Core.List.{_++_}
 use native.Mathlib.Omega.{arith}
 use lib.ListN.{take, drop}
-use Rattle.greedy.proofs.Writing.{Written, written-none, written-more}
+use Rattle.step.proofs.Writing.{Written, written-none, written-more}
 use borrow.Author.Needs.{needs}
 use Rattle.greedy.proofs.write.Statement.{statement}
 use Rattle.greedy.proofs.write.Tie as tie
@@ -36,7 +36,7 @@ loop-less : tie.Need-loop-less Inv-loop μ-loop
 loop-less c = search needs
 
 loop-again : tie.Need-loop-again Inv-loop μ-loop
-loop-again c = (search needs, written-more (c .before .loop .inv .1) (search needs) (search needs))
+loop-again c = (search needs, written-more 0 (c .before .loop .inv .1) (search needs) (search needs))
 
 same-length : tie.Need-same-length Inv-loop μ-loop
 same-length c = c .before .loop .inv .1 .long

@@ -2,7 +2,7 @@ use borrow.Author.Needs.{needs}
 use Prim.Native.Nat.{_-_, _≤_}
 use native.Mathlib.Omega.{arith}
 use Rattle.busset.specs.Bytes.{setBytes}
-use Rattle.greedy.proofs.Writing.{Written, written-none}
+use Rattle.step.proofs.Writing.{Written, written-none}
 use Rattle.estimator.proofs.Filling.{filled-more, filled-all}
 use Rattle.estimator.proofs.results.fill.Statement.{statement}
 use Rattle.estimator.proofs.results.fill.Tie as tie

@@ -1,0 +1,31 @@
+use borrow.Author.Needs.{needs}
+use Prim.Native.Nat.{_-_, _≤_}
+use native.Mathlib.Omega.{arith}
+use lib.ListN.{length}
+use Rattle.try_sites.proofs.questions.Statement.{statement}
+use Rattle.try_sites.proofs.questions.Tie as tie
+
+abbrev Inv-loop : tie.InvT-loop
+Inv-loop text a₀ a = a ≤ length text
+
+abbrev μ-loop : tie.MeasureT-loop
+μ-loop text a₀ a = length text - a
+
+loop-holds : tie.Need-loop-holds Inv-loop μ-loop
+loop-holds c = search needs
+
+question-requires : tie.Need-question-requires Inv-loop μ-loop
+question-requires c κs = search needs
+
+loop-less : tie.Need-loop-less Inv-loop μ-loop
+loop-less c = omega (arith, c .question .ensures .some (c .before .loop-test .taken))
+
+loop-again : tie.Need-loop-again Inv-loop μ-loop
+loop-again c = search needs
+
+returns : tie.Need-returns Inv-loop μ-loop
+returns c = search needs
+
+pub questions-spec : {M : Type 1} → statement M
+questions-spec =
+    tie.close (tie.spec Inv-loop μ-loop loop-holds question-requires loop-less loop-again returns)
