@@ -96,11 +96,8 @@ module _ (text : List ℕ) (r : CaseRead) where
   pub read-good : r ≡ readCase text → r .answer ≡ Read → Valid (r .case)
   read-good e told = read-valid text (r .case) (sym e ∙ (λ i. record { answer = told i; case = r .case })) .valid
 
-  pub day-read : r ≡ readCase text → r .answer ≡ Read → (t : List ℕ) → DayReport (r .case) t → Day text t
-  day-read e told t d = subst (λ (x : CaseRead). DayFor (x .answer) (x .case) t) e (subst⁻¹ (λ (a : ReadAnswer). DayFor a (r .case) t) told d)
-
   pub read-bad : (q : Refusal) → r ≡ readCase text → r .answer ≡ Refused q → placeOf q < 10000
   read-bad q e told = omega (arith, read-place text q (ap (λ (x : CaseRead). x .answer) (sym e) ∙ told))
 
-  pub day-refused : (q : Refusal) → r ≡ readCase text → r .answer ≡ Refused q → (t : List ℕ) → RefusedText q t → Day text t
-  day-refused q e told t d = subst (λ (x : CaseRead). DayFor (x .answer) (x .case) t) e (subst⁻¹ (λ (a : ReadAnswer). DayFor a (r .case) t) told d)
+  pub day-by : {a : ReadAnswer} → r ≡ readCase text → r .answer ≡ a → (t : List ℕ) → DayFor a (r .case) t → Day text t
+  day-by e told t d = subst (λ (x : CaseRead). DayFor (x .answer) (x .case) t) e (subst⁻¹ (λ (a : ReadAnswer). DayFor a (r .case) t) told d)

@@ -8,12 +8,11 @@ use native.Mathlib.Omega.{arith}
 use borrow.Author.Tests.{lt-ltb, le-ltb, ltb-false}
 use lib.Dec.{ltb}
 use lib.ListN.{length, drop}
-use Rattle.field.specs.Split.{split, part, after, same, bytes, PieceEnd}
+use Rattle.field.specs.Split.{split, part, after, PieceEnd}
 use Rattle.field.specs.declared.Numeral.{Numeral}
 use Rattle.field.specs.declared.Numeral.the-variants.{Is, Wrong}
 use Rattle.field.proofs.Cutting.{after-none, after-some, rest-few}
 use Rattle.record.specs.Fields.{one, oneNumber}
-use Rattle.record.proofs.Fields.{by-none}
 use Rattle.grid.specs.Cases.{Valid}
 use Rattle.grid.specs.declared.refusal.Refusal.{Refusal}
 use Rattle.grid.specs.declared.refusal.Refusal.the-variants.{TextTooLong, WrongForm}
@@ -28,10 +27,6 @@ use Rattle.planreport.specs.Plan.{planFields, budgetOf, unasked, askedWi
 
 -- ---- the plan line
 
-pub fields-none : (s : List ℕ) (e : ℕ) → length s ≤ e → Is 8 ≡ planFields (after 9 s e)
-unfolding planFields
-fields-none s e h = by-none planFields s e h
-
 fields-one : (f : List ℕ) (fs : List (List ℕ)) → oneNumber (f ∷ fs) ≡ planFields (f ∷ fs)
 unfolding planFields one
 fields-one f [] = refl
@@ -40,15 +35,6 @@ fields-one f (g ∷ fs) = refl
 pub fields-some : (s : List ℕ) (e : ℕ) → e < length s → oneNumber (after 9 s e) ≡ planFields (after 9 s e)
 fields-some s e h = rw (after-some 9 s e h) (fields-one _ _)
 
-module _ {s : List ℕ} {e : ℕ} {t : Bool} (p : PieceEnd 9 s 0 e) (i : t ≡ same (part s 0 e) (bytes "plan")) where
-  pub budget-other : t ≡ false → Wrong ≡ budgetOf s
-  unfolding budgetOf
-  budget-other n = rw (p .cut, sym i ∙ n)
-
-  pub budget-is : t ≡ true → planFields (after 9 s e) ≡ budgetOf s
-  unfolding budgetOf
-  budget-is y = sym (rw (p .cut, sym i ∙ y))
-
 -- ---- the whole input
 
 pub too-long : (x : List ℕ) → mostBytes < length x → unasked TextTooLong ≡ readPlan x
@@ -56,13 +42,13 @@ unfolding readPlan
 too-long x h = rw (lt-ltb _ _ h)
 
 module _ {x : List ℕ} {e : ℕ} (l : length x ≤ mostBytes) (p : PieceEnd 10 x 0 e) where
-  pub no-feed : length x ≤ e → unasked (WrongForm 1) ≡ readPlan x
+  pub no-feed : {a : Asked} → length x ≤ e → a ≡ unasked (WrongForm 1) → a ≡ readPlan x
   unfolding readPlan planLines
-  no-feed h = sym (rw (le-ltb _ _ l, p .cut, after-none 10 x e h))
+  no-feed h is = is ∙ sym (rw (le-ltb _ _ l, p .cut, after-none 10 x e h))
 
-  pub asked-by : {b w : Numeral} → e < length x → b ≡ budgetOf (part x 0 e) → b ≡ w → askedWith w (readText 2 (drop (e + 1) x)) ≡ readPlan x
+  pub asked-by : {a : Asked} {b w : Numeral} → e < length x → b ≡ budgetOf (part x 0 e) → b ≡ w → a ≡ askedWith w (readText 2 (drop (e + 1) x)) → a ≡ readPlan x
   unfolding readPlan planLines readText
-  asked-by h i t = sym (rw (le-ltb _ _ l, p .cut, after-some 10 x e h, ← i, t, add-one e))
+  asked-by h i t is = is ∙ sym (rw (le-ltb _ _ l, p .cut, after-some 10 x e h, ← i, t, add-one e))
 
 -- ---- what is read
 

@@ -1,10 +1,10 @@
 -- What is printed for a case: the lines of the fewest, and the reply by what is found.
+use mathlib.Core.Path.{_≡_}
 use mathlib.Core.Logic.{inl, inr}
 use mathlib.Core.List.{List, [], _∷_}
 use Prim.Native.Nat.{ℕ, _≤_, _<_}
 use native.Mathlib.Omega.{arith}
-use Rattle.busset.specs.Sets.{Counted, width}
-use Rattle.rules.specs.Placing.{SomePlan, Fewest}
+use Rattle.busset.specs.Sets.{Counted, width, setOf}
 use Rattle.rules.proofs.Ordering.{fewest-some}
 use Rattle.field.specs.Split.{join, bytes, tab, lineFeed}
 use Rattle.field.specs.Number.{numberText}
@@ -13,6 +13,9 @@ use Rattle.grid.specs.Cases.{gridOf}
 use Rattle.grid.specs.declared.Case.{Case}
 use Rattle.grid.specs.declared.refusal.Refusal.the-variants.{OverBudget, NoCover}
 use Rattle.grid.proofs.Orders.{itself}
+use Rattle.place.specs.Answers.{FewestIs}
+use Rattle.place.specs.declared.fewest.Found.{Found}
+use Rattle.place.specs.declared.fewest.Found.the-variants.{Sites, Nothing}
 use Rattle.reader.specs.Writing.{members, linesText}
 use Rattle.writer.specs.Put.{Put}
 use Rattle.writer.specs.Printing.{printed, RefusedText}
@@ -28,9 +31,10 @@ plan-put n c p q u e = rw (← c .is) (put-then (put-then p q) (put-then u e))
 pub over-budget : {c : Case} {budget : ℕ} → 8 < budget → (t : List ℕ) → RefusedText (OverBudget 1) t → PlanReport c budget t
 over-budget h t e = none (OverBudget 1) (inl ((λ l. omega arith), itself (OverBudget 1))) e
 
-module _ {c : Case} {budget : ℕ} (h : budget ≤ 8) where
-  pub no-cover : (SomePlan (gridOf c) budget → ⊥) → (t : List ℕ) → RefusedText NoCover t → PlanReport c budget t
-  no-cover n t e = none NoCover (inr (h, inl (n, itself NoCover))) e
+-- what the search says, by its answer
+module _ (c : Case) (budget : ℕ) {r : Found} (h : budget ≤ 8) (is : FewestIs (gridOf c) budget r) where
+  pub no-cover : r ≡ Nothing → (t : List ℕ) → RefusedText NoCover t → PlanReport c budget t
+  no-cover e t i = none NoCover (inr (h, inl (rw e at is, itself NoCover))) i
 
-  pub fewest-found : {m : ℕ} → Fewest (gridOf c) budget m → (t : List ℕ) → PlanText (c .n) m t → PlanReport c budget t
-  fewest-found {m} f t e = found m (h, (fewest-some f, tt)) f e
+  pub fewest-found : {m : ℕ} → r ≡ Sites m → (t : List ℕ) → PlanText (c .n) (setOf m) t → PlanReport c budget t
+  fewest-found e t i = let f = rw e at is in found _ (h, (fewest-some f, tt)) f i

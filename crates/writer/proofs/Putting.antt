@@ -7,10 +7,8 @@ use native.Mathlib.Numerals.{add-one}
 use native.Mathlib.Omega.{arith}
 use lib.ListN.{length, set, getD, take, length-append}
 use lib.Seq.{sets, set-out, take-suc, take-all, length-sets}
-use mathlib.Core.Bool.{Bool, true, false}
-use Rattle.record.specs.Record.{letter}
 use Rattle.field.specs.Number.{numberText}
-use Rattle.field.proofs.Digits.{text-few, text-many}
+use Rattle.field.proofs.Digits.{text-few, text-many, text-length}
 use Rattle.writer.specs.Put.{Put}
 
 pub sets-append : (l t u : List ℕ) (i : ℕ) → sets (sets l i t) (i + length t) u ≡ sets l i (t ++ u)
@@ -37,6 +35,18 @@ put-then {l} {t} {m} {u} {n} {at} {r} {q} p o =
 
 pub put-same : {l t u m : List ℕ} {at r : ℕ} → t ≡ u → Put l at t m r → Put l at u m r
 put-same {l} {t} {u} {m} {at} {r} e p = rw (← e) p
+
+-- how far a text of at most b bytes reaches
+pub put-near : {l t m : List ℕ} {at r b : ℕ} → Put l at t m r → length t ≤ b → r ≤ at + b
+put-near p h = omega (arith, p .next)
+
+pub tagged-near : {l m : List ℕ} {at r : ℕ} (w : List ℕ) (n : ℕ) → Put l at (w ++ numberText n) m r → r ≤ at + length w + 4
+tagged-near w n p = omega (arith, p .next, length-append w (numberText n), text-length n)
+
+-- the text of r, in the arm k of a match on r
+module _ {A : Type 0} (f : A → List ℕ) where
+  pub put-arm : {r k : A} {l m : List ℕ} {at q : ℕ} → r ≡ k → Put l at (f k) m q → Put l at (f r) m q
+  put-arm e p = rw e p
 
 pub put-length : {l t m : List ℕ} {at r : ℕ} → Put l at t m r → length m ≡ length l
 put-length {l} {t} {m} {at} p = ap length (p .put) ∙ length-sets l at t
@@ -67,7 +77,3 @@ put-digit n h e p = put-same (ap (λ (x : ℕ). x ∷ []) e ∙ sym (text-few n 
 pub put-digits : {l m o : List ℕ} {at d r q : ℕ} (n : ℕ) → 10 ≤ n → n < 10000 → d ≡ 48 + n % 10 →
     Put l at (numberText (n / 10)) m r → Put m r (d ∷ []) o q → Put l at (numberText n) o q
 put-digits n h k e p w = put-same (ap (λ (x : ℕ). numberText (n / 10) ++ x ∷ []) e ∙ sym (text-many n h k)) (put-then p w)
-
-pub mark-length : (t : Bool) (p q : ℕ) → length (letter t p q) ≡ 1
-mark-length true p q = refl
-mark-length false p q = refl

@@ -2,7 +2,7 @@
 use mathlib.Core.Path.{_≡_, refl, sym, ap, _∙_}
 use mathlib.Core.Bool.{Bool, true, false, cond}
 use mathlib.Core.List.{List, [], _∷_, _++_, append-assoc}
-use Prim.Native.Nat.{ℕ, suc, _+_, _-_, _≤_, _<_}
+use Prim.Native.Nat.{ℕ, suc, _+_, _-_, _*_, _≤_, _<_}
 use native.Mathlib.Omega.{arith}
 use borrow.Author.Tests.{eq-eqb, ne-eqb}
 use lib.ListN.{length, length-append}
@@ -17,7 +17,7 @@ use Rattle.record.proofs.Lengths.{record-length}
 use Rattle.reader.specs.Writing.{has, busRecord, busRecords, members, lineRecords, linesText}
 use Rattle.reader.proofs.Lengths.{lines-length, members-length}
 use Rattle.writer.specs.Put.{Put, lineText}
-use Rattle.writer.proofs.Putting.{sets-append, put-length, put-same}
+use Rattle.writer.proofs.Putting.{sets-append, put-length}
 
 -- ---- what is left
 
@@ -61,92 +61,73 @@ pub lined-length : (t : Bool) (r : Record) → length (cond t (lineText r) []) �
 lined-length true r = line-length r
 lined-length false r = omega arith
 
--- ---- the buses
+-- ---- a turn for each bus from first to n: recs b m are the records of the m buses from b on, and a bus takes at most so many bytes
 
-unfoldable pub restBuses : ℕ → ℕ → ℕ → ℕ → List ℕ
-restBuses zeros sites n b = linesText (busRecords zeros sites b (n + 1 - b))
+-- the text of the buses from b on
+unfoldable pub rest : (ℕ → ℕ → List Record) → ℕ → ℕ → List ℕ
+rest recs n b = linesText (recs b (n + 1 - b))
 
-module _ (zeros sites n : ℕ) where
-  pub buses-first : restBuses zeros sites n 1 ≡ linesText (busRecords zeros sites 1 n)
-  unfolding restBuses
-  buses-first = let e : n + 1 - 1 ≡ n = omega arith in ap (λ (m : ℕ). linesText (busRecords zeros sites 1 m)) e
+pub record Turn (recs : ℕ → ℕ → List Record) (most first count n : ℕ) (l : List ℕ) (at end : ℕ) (m : List ℕ) (k b : ℕ) : Type 0 where
+  pub low : first ≤ b
+  pub high : b ≤ end
+  pub last : end ≡ n + 1
+  pub near : k ≤ at + most * b
+  pub left : Left l at (linesText (recs first count)) m k (rest recs n b)
 
-  pub buses-next : (b : ℕ) → b ≤ n → restBuses zeros sites n b ≡ lineText (busRecord zeros sites b) ++ restBuses zeros sites n (b + 1)
-  unfolding restBuses busRecords
-  buses-next b l =
-      let e : n + 1 - b ≡ suc (n - b) = omega arith in
-      let f : n - b ≡ n + 1 - (b + 1) = omega arith in
-      ap (λ (m : ℕ). linesText (busRecords zeros sites b m)) e ∙ lines-cons (busRecord zeros sites b) (busRecords zeros sites (b + 1) (n - b))
-      ∙ ap (λ (m : ℕ). lineText (busRecord zeros sites b) ++ linesText (busRecords zeros sites (b + 1) m)) f
+module _ {recs : ℕ → ℕ → List Record} {most first count n : ℕ} {l : List ℕ} {at : ℕ} where
+  pub turn-first : first ≤ n + 1 → n + 1 - first ≡ count → Turn recs most first count n l at (n + 1) l at first
+  unfolding rest
+  turn-first h e =
+      record { low = omega arith; high = h; last = refl; near = omega arith; left = left-none (ap (λ (x : ℕ). linesText (recs first x)) e) }
 
-  pub buses-all : (b : ℕ) → n < b → restBuses zeros sites n b ≡ []
-  unfolding restBuses busRecords linesText
-  buses-all b l = let e : n + 1 - b ≡ 0 = omega arith in ap (λ (m : ℕ). linesText (busRecords zeros sites b m)) e
+  pub turn-next : {end k b q : ℕ} {m t o : List ℕ} → Turn recs most first count n l at end m k b → b < end →
+      linesText (recs b (suc (n - b))) ≡ t ++ linesText (recs (b + 1) (n - b)) → length t ≤ most → Put m k t o q → Turn recs most first count n l at end o q (b + 1)
+  unfolding rest
+  turn-next {end} {k} {b} {q} {m} {t} {o} w h e s p =
+      let i : n + 1 - b ≡ suc (n - b) = omega arith in
+      let j : n - b ≡ n + 1 - (b + 1) = omega arith in
+      record {
+        low = omega (arith, w .low);
+        high = omega arith;
+        last = w .last;
+        near = omega (arith, w .near, p .next);
+        left = left-more (w .left) (ap (λ (x : ℕ). linesText (recs b x)) i ∙ e ∙ ap (λ (x : ℕ). t ++ linesText (recs (b + 1) x)) j) p;
+      }
 
--- ---- a record for each bus of a set
-
-unfoldable pub restMembers : (ℕ → Record) → ℕ → ℕ → ℕ → List ℕ
-restMembers f s n b = linesText (members f s b (n + 1 - b))
-
-module _ (f : ℕ → Record) (s n : ℕ) where
-  pub members-first : (b m : ℕ) → n + 1 - b ≡ m → restMembers f s n b ≡ linesText (members f s b m)
-  unfolding restMembers
-  members-first b m e = ap (λ (x : ℕ). linesText (members f s b x)) e
-
-  taken : (t : Bool) (r : Record) (rs : List Record) → linesText (cond t (r ∷ rs) rs) ≡ cond t (lineText r) [] ++ linesText rs
-  taken true r rs = lines-cons r rs
-  taken false r rs = refl
-
-  pub members-next : (b : ℕ) (t : Bool) → b ≤ n → t ≡ has s b → restMembers f s n b ≡ cond t (lineText (f b)) [] ++ restMembers f s n (b + 1)
-  unfolding restMembers members
-  members-next b t l h =
-      let e : n + 1 - b ≡ suc (n - b) = omega arith in
-      let g : n - b ≡ n + 1 - (b + 1) = omega arith in
-      ap (λ (m : ℕ). linesText (members f s b m)) e ∙ taken (has s b) (f b) (members f s (b + 1) (n - b))
-      ∙ ap (λ (m : ℕ). cond (has s b) (lineText (f b)) [] ++ linesText (members f s (b + 1) m)) g
-      ∙ ap (λ (x : Bool). cond x (lineText (f b)) [] ++ restMembers f s n (b + 1)) (sym h)
-
-  pub members-all : (b : ℕ) → n < b → restMembers f s n b ≡ []
-  unfolding restMembers members linesText
-  members-all b l = let e : n + 1 - b ≡ 0 = omega arith in ap (λ (m : ℕ). linesText (members f s b m)) e
+  pub turn-all : {end k b : ℕ} {m : List ℕ} → Turn recs most first count n l at end m k b → end ≤ b → recs b 0 ≡ [] → Put l at (linesText (recs first count)) m k
+  unfolding rest linesText
+  turn-all {end} {k} {b} w h e =
+      let i : n + 1 - b ≡ 0 = omega arith in
+      left-all (w .left) (ap (λ (x : ℕ). linesText (recs b x)) i ∙ ap linesText e)
 
 -- what a set's test says
 pub has-is : (s b : ℕ) (r : Bool) → Decides (In s b) r → r ≡ has s b
 has-is s b true d = sym (eq-eqb (bit s b) 1 (d .yes refl))
 has-is s b false d = sym (ne-eqb (bit s b) 1 (refutes d refl))
 
--- ---- the lines, row after row
+-- ---- one turn more: the record of a bus, its line where it is in a set, its row
 
-unfoldable pub rowText : (ℕ → ℕ) → ℕ → ℕ → List ℕ
-rowText nbr n a = linesText (members (Line a) (nbr a) (a + 1) (n - a))
+module _ {first count n : ℕ} {l m o : List ℕ} {at end k b q : ℕ} where
+  pub turn-bus : (zeros sites : ℕ) → Turn (busRecords zeros sites) 15 first count n l at end m k b → b < end →
+      Put m k (lineText (busRecord zeros sites b)) o q → Turn (busRecords zeros sites) 15 first count n l at end o q (b + 1)
+  unfolding busRecords
+  turn-bus zeros sites w h p = turn-next w h (lines-cons _ _) (line-length _) p
 
-unfoldable pub restLines : (ℕ → ℕ) → ℕ → ℕ → List ℕ
-restLines nbr n a = linesText (lineRecords nbr a (n + 1 - a))
+  pub turn-member : (f : ℕ → Record) (s : ℕ) {t : Bool} → Turn (members f s) 15 first count n l at end m k b → b < end → Decides (In s b) t →
+      Put m k (cond t (lineText (f b)) []) o q → Turn (members f s) 15 first count n l at end o q (b + 1)
+  unfolding members
+  turn-member f s {t} w h d p = turn-next w h (rw (← has-is s b t d) (taken t _)) (lined-length t (f b)) p
+    where
+      taken : (t : Bool) (rs : List Record) → linesText (cond t (f b ∷ rs) rs) ≡ cond t (lineText (f b)) [] ++ linesText rs
+      taken true rs = lines-cons _ _
+      taken false rs = refl
 
-module _ (nbr : ℕ → ℕ) (n : ℕ) where
-  pub row-length : (a : ℕ) → n ≤ 64 → length (rowText nbr n a) ≤ 960
-  unfolding rowText
-  row-length a l = omega (arith, lines-length (members (Line a) (nbr a) (a + 1) (n - a)), members-length (Line a) (nbr a) (a + 1) (n - a))
-
-  pub row-put : {l m : List ℕ} {at k : ℕ} (a s : ℕ) → s ≡ nbr a → Put l at (linesText (members (Line a) s (a + 1) (n - a))) m k → Put l at (rowText nbr n a) m k
-  unfolding rowText
-  row-put a s e p = put-same (ap (λ (x : ℕ). linesText (members (Line a) x (a + 1) (n - a))) e) p
-
-  pub lines-first : restLines nbr n 1 ≡ linesText (lineRecords nbr 1 n)
-  unfolding restLines
-  lines-first = let e : n + 1 - 1 ≡ n = omega arith in ap (λ (m : ℕ). linesText (lineRecords nbr 1 m)) e
-
-  pub lines-next : (a : ℕ) → a ≤ n → restLines nbr n a ≡ rowText nbr n a ++ restLines nbr n (a + 1)
-  unfolding restLines rowText lineRecords
-  lines-next a l =
-      let e : n + 1 - a ≡ suc (n - a) = omega arith in
-      let g : n - a ≡ n + 1 - (a + 1) = omega arith in
-      ap (λ (m : ℕ). linesText (lineRecords nbr a m)) e ∙ lines-append (members (Line a) (nbr a) (a + 1) (n - a)) (lineRecords nbr (a + 1) (n - a))
-      ∙ ap (λ (m : ℕ). linesText (members (Line a) (nbr a) (a + 1) (n - a)) ++ linesText (lineRecords nbr (a + 1) m)) g
-
-  pub lines-all : (a : ℕ) → n < a → restLines nbr n a ≡ []
-  unfolding restLines lineRecords linesText
-  lines-all a l = let e : n + 1 - a ≡ 0 = omega arith in ap (λ (m : ℕ). linesText (lineRecords nbr a m)) e
+  pub turn-row : (nbr : ℕ → ℕ) {s : ℕ} → Turn (lineRecords nbr) 960 first count n l at end m k b → b < end → n ≤ 64 → s ≡ nbr b →
+      Put m k (linesText (members (Line b) s (b + 1) (n - b))) o q → Turn (lineRecords nbr) 960 first count n l at end o q (b + 1)
+  unfolding lineRecords
+  turn-row nbr w h c e p =
+      let rs = members (Line b) (nbr b) (b + 1) (n - b) in
+      turn-next w h (lines-append rs _) (omega (arith, lines-length rs, members-length (Line b) (nbr b) (b + 1) (n - b))) (rw e at p)
 
 -- ---- the whole
 

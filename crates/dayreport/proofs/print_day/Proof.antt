@@ -1,4 +1,3 @@
-use mathlib.Core.Path.{refl}
 use Rattle.writer.proofs.Printed.{put-printed, not-printed}
 use borrow.Author.Needs.{needs}
 use Rattle.dayreport.proofs.print_day.Statement.{statement}
@@ -11,7 +10,7 @@ put-day-requires : tie.Need-put-day-requires
 put-day-requires c κs = search needs
 
 returns : tie.Need-returns
-returns c = not-printed refl (c .before .before .put-day .ensures) (c .if1 .taken)
+returns c = search not-printed
 
 put-day-requires-2 : tie.Need-put-day-requires-2
 put-day-requires-2 c κs = search needs
@@ -20,11 +19,7 @@ same-length : tie.Need-same-length
 same-length c = search needs
 
 returns-2 : tie.Need-returns-2
-returns-2 c =
-    let at-put-day2 = c .before .before in
-    let at-if1 = at-put-day2 .before .before in
-    let at-put-day = at-if1 .before .before in
-    put-printed refl (at-put-day .put-day .ensures) (at-if1 .if1 .left) (at-put-day2 .put-day2 .ensures)
+returns-2 c = search put-printed
 
 pub print-day-spec : {M : Type 1} → statement M
 print-day-spec =

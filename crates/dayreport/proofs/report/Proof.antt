@@ -23,14 +23,7 @@ same-length : tie.Need-same-length
 same-length c = search needs
 
 returns : tie.Need-returns
-returns c =
-    let at-print-day = c .before .before in
-    let at-count = at-print-day .before in
-    let at-unconfirmed = at-count .before .before in
-    let at-derive = at-unconfirmed .before .before in
-    let at-args = at-derive .before .before .before in
-    printed-by (reported _ (at-derive .derive .ensures) (at-unconfirmed .unconfirmed .ensures) (at-count .count .ensures))
-    (at-args .args .out .now) (at-print-day .print-day .last .0) (at-print-day .print-day .result) (at-print-day .print-day .ensures)
+returns c = search (printed-by, reported)
 
 pub report-spec : {M : Type 1} → statement M
 report-spec =

@@ -1,4 +1,3 @@
-use mathlib.Core.Path.{refl}
 use native.Mathlib.Omega.{arith}
 use Rattle.writer.proofs.Printed.{printed-by}
 use Rattle.planreport.proofs.Inputs.{asked-valid, asked-placed, plan-by}
@@ -13,9 +12,7 @@ enum-told : tie.Need-enum-told
 enum-told c = search needs
 
 report-requires : tie.Need-report-requires
-report-requires c κs =
-    let at-enum-told = c .before .before in
-    asked-valid _ (at-enum-told .before .before .before .read-plan .ensures) (at-enum-told .enum-told .given .1) refl
+report-requires c κs = search asked-valid
 
 enum-known-answer : tie.Need-enum-known-answer
 enum-known-answer c = search needs
@@ -29,19 +26,13 @@ same-length : tie.Need-same-length
 same-length c = search needs
 
 returns : tie.Need-returns
-returns c =
-    let at-report = c .before .before in
-    let at-enum-told = at-report .before .before .before in
-    printed-by (plan-by _ (at-enum-told .before .before .before .read-plan .ensures) (at-enum-told .enum-told .given .1)) _ _ (at-report .report .result) (at-report .report .ensures)
+returns c = search (printed-by, plan-by)
 
 same-length-2 : tie.Need-same-length-2
 same-length-2 c = search needs
 
 returns-2 : tie.Need-returns-2
-returns-2 c =
-    let at-print-refused = c .before .before in
-    let at-answer = at-print-refused .before .before .before in
-    printed-by (plan-by _ (at-answer .before .before .before .read-plan .ensures) (at-answer .answer .given .1)) _ _ (at-print-refused .print-refused .result) (at-print-refused .print-refused .ensures)
+returns-2 c = search (printed-by, plan-by)
 
 pub plan-report-spec : {M : Type 1} → statement M
 plan-report-spec =

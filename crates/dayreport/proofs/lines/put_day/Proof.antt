@@ -1,6 +1,7 @@
+use Prim.Native.Nat.{_≤_}
 use Rattle.field.specs.Split.{join}
 use native.Mathlib.Omega.{arith}
-use Rattle.writer.proofs.Putting.{put-then}
+use Rattle.writer.proofs.Putting.{put-then, put-near}
 use Rattle.dayreport.proofs.Texts.{observed-put, list-length, verdict-length}
 use borrow.Author.Needs.{needs}
 use Rattle.dayreport.proofs.lines.put_day.Statement.{statement}
@@ -9,25 +10,19 @@ use Rattle.dayreport.proofs.lines.put_day.Tie as tie
 put-observed-requires : tie.Need-put-observed-requires
 put-observed-requires c κs = search needs
 
-put-steps-requires : tie.Need-put-steps-requires
-put-steps-requires c κs =
-    let at-put-observed = c .before .before .before in
+after-steps : (c : tie.After-put-steps) → c .put-steps .result ≤ 851
+after-steps c =
+    let at-put-observed = c .before .before .before .before in
     let at-args = at-put-observed .before .before .before in
-    (omega (arith, observed-put _ _ (at-put-observed .put-observed .ensures)), at-args .pre .1)
+    omega (arith, observed-put _ _ (at-put-observed .put-observed .ensures), put-near (c .put-steps .ensures) (list-length (at-args .args .list) (at-args .pre .1)))
+
+put-steps-requires : tie.Need-put-steps-requires
+put-steps-requires c κs = (omega (arith, observed-put _ _ (c .before .before .before .put-observed .ensures)), c .before .before .before .before .before .before .pre .1)
 
 put-verdict-requires : tie.Need-put-verdict-requires
 put-verdict-requires c κs =
     let at-put-steps = c .before .before .before in
-    let at-put-observed = at-put-steps .before .before .before .before in
-    let at-args = at-put-observed .before .before .before in (
-      omega (
-        arith,
-        observed-put _ _ (at-put-observed .put-observed .ensures),
-        at-put-steps .put-steps .ensures .next,
-        list-length (at-args .args .list) (at-args .pre .1),
-      ),
-      at-args .pre .2,
-    )
+    (omega (arith, after-steps at-put-steps), at-put-steps .before .before .before .before .before .before .before .pre .2)
 
 slice-aggregate-put-all : tie.Need-slice-aggregate-put-all
 slice-aggregate-put-all c = search needs
@@ -36,28 +31,15 @@ put-all-requires : tie.Need-put-all-requires
 put-all-requires c κs =
     let at-put-verdict = c .before .before .before .before in
     let at-put-steps = at-put-verdict .before .before .before .before in
-    let at-put-observed = at-put-steps .before .before .before .before in
-    let at-args = at-put-observed .before .before .before in
-    omega (
-      arith,
-      observed-put _ _ (at-put-observed .put-observed .ensures),
-      at-put-steps .put-steps .ensures .next,
-      list-length (at-args .args .list) (at-args .pre .1),
-      at-put-verdict .put-verdict .ensures .next,
-      verdict-length (at-args .args .alone) (at-args .pre .2),
-    )
+    let at-args = at-put-steps .before .before .before .before .before .before .before in
+    omega (arith, after-steps at-put-steps, put-near (at-put-verdict .put-verdict .ensures) (verdict-length (at-args .args .alone) (at-args .pre .2)))
 
 same-length : tie.Need-same-length
 same-length c = search needs
 
 returns : tie.Need-returns
 unfolding join
-returns c =
-    let at-put-all = c .before .before in
-    let at-put-verdict = at-put-all .before .before .before .before .before in
-    let at-put-steps = at-put-verdict .before .before .before .before in
-    let at-put-observed = at-put-steps .before .before .before .before in
-    put-then (at-put-observed .put-observed .ensures) (put-then (at-put-steps .put-steps .ensures) (put-then (at-put-verdict .put-verdict .ensures) (at-put-all .put-all .ensures)))
+returns c = search put-then
 
 pub put-day-spec : {M : Type 1} → statement M
 put-day-spec =

@@ -1,6 +1,9 @@
-use mathlib.Core.Path.{_∙_}
-use borrow.Author.Tests.{not-true, not-false}
-use Rattle.planreport.proofs.Inputs.{budget-other, budget-is}
+use mathlib.Core.Bool.{cond}
+use Rattle.field.specs.Split.{same, bytes}
+use Rattle.field.specs.declared.Numeral.the-variants.{Wrong}
+use Rattle.record.proofs.Answers.{stop, pass}
+use Rattle.record.proofs.Fields.{by-first}
+use Rattle.planreport.specs.Plan.{planFields, budgetOf}
 use borrow.Author.Needs.{needs}
 use Rattle.planreport.proofs.asking.budget_of.Statement.{statement}
 use Rattle.planreport.proofs.asking.budget_of.Tie as tie
@@ -24,20 +27,15 @@ is-same-requires : tie.Need-is-same-requires
 is-same-requires c κs = search needs
 
 returns : tie.Need-returns
-returns c =
-    let at-is-same = c .before in
-    let at-piece-end = at-is-same .before .before .before in
-    budget-other (at-piece-end .piece-end .ensures) (at-is-same .is-same .ensures) (not-true _ (c .if1 .taken))
+unfolding budgetOf
+returns c = search (by-first (λ w fs. cond (same w (bytes "plan")) (planFields fs) Wrong), stop)
 
 plan-fields-requires : tie.Need-plan-fields-requires
 plan-fields-requires c κs = search needs
 
 returns-2 : tie.Need-returns-2
-returns-2 c =
-    let at-if1 = c .before in
-    let at-is-same = at-if1 .before in
-    let at-piece-end = at-is-same .before .before .before in
-    c .plan-fields .ensures ∙ budget-is (at-piece-end .piece-end .ensures) (at-is-same .is-same .ensures) (not-false _ (at-if1 .if1 .left))
+unfolding budgetOf
+returns-2 c = search (by-first (λ w fs. cond (same w (bytes "plan")) (planFields fs) Wrong), pass)
 
 pub budget-of-spec : {M : Type 1} → statement M
 budget-of-spec =

@@ -1,11 +1,14 @@
 use mathlib.Core.Path.{_∙_}
-use Rattle.planreport.proofs.Inputs.{fields-none, fields-some}
+use Rattle.record.proofs.Fields.{by-none}
+use Rattle.planreport.specs.Plan.{planFields}
+use Rattle.planreport.proofs.Inputs.{fields-some}
 use borrow.Author.Needs.{needs}
 use Rattle.planreport.proofs.asking.plan_fields.Statement.{statement}
 use Rattle.planreport.proofs.asking.plan_fields.Tie as tie
 
 returns : tie.Need-returns
-returns c = fields-none _ _ (c .if1 .taken)
+unfolding planFields
+returns c = search (by-none planFields)
 
 one-number-requires : tie.Need-one-number-requires
 one-number-requires c κs = search needs

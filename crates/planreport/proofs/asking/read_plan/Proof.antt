@@ -18,11 +18,7 @@ not-asked-requires-2 : tie.Need-not-asked-requires-2
 not-asked-requires-2 c κs = search needs
 
 returns-2 : tie.Need-returns-2
-returns-2 c =
-    let at-if2 = c .before in
-    let at-piece-end = at-if2 .before in
-    let at-if1 = at-piece-end .before in
-    c .not-asked2 .ensures ∙ no-feed (at-if1 .if1 .left) (at-piece-end .piece-end .ensures) (at-if2 .if2 .taken)
+returns-2 c = search no-feed
 
 sub-budget-of : tie.Need-sub-budget-of
 sub-budget-of c = search needs
@@ -52,24 +48,10 @@ not-asked-requires-3 : tie.Need-not-asked-requires-3
 not-asked-requires-3 c κs = search needs
 
 returns-3 : tie.Need-returns-3
-returns-3 c =
-    let at-budget = c .before .before in
-    let at-budget-of = at-budget .before .before in
-    let at-if2 = at-budget-of .before .before in
-    let at-piece-end = at-if2 .before in
-    let at-if1 = at-piece-end .before in
-    rw (c .read-text .ensures) (asked-by (at-if1 .if1 .left) (at-piece-end .piece-end .ensures) (at-if2 .if2 .left)
-    (at-budget-of .budget-of .ensures) (at-budget .budget .given .1))
+returns-3 c = rw (c .read-text .ensures) (search asked-by)
 
 returns-4 : tie.Need-returns-4
-returns-4 c =
-    let at-enum-told = c .before in
-    let at-budget-of = at-enum-told .before .before in
-    let at-if2 = at-budget-of .before .before in
-    let at-piece-end = at-if2 .before in
-    let at-if1 = at-piece-end .before in
-    c .not-asked3 .ensures ∙ asked-by (at-if1 .if1 .left) (at-piece-end .piece-end .ensures) (at-if2 .if2 .left) (at-budget-of .budget-of .ensures)
-    (at-enum-told .enum-told .given .1)
+returns-4 c = search asked-by
 
 pub read-plan-spec : {M : Type 1} → statement M
 read-plan-spec =

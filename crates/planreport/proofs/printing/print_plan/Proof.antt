@@ -1,4 +1,3 @@
-use mathlib.Core.Path.{refl}
 use Rattle.writer.proofs.Printed.{put-printed, not-printed}
 use borrow.Author.Needs.{needs}
 use Rattle.planreport.proofs.printing.print_plan.Statement.{statement}
@@ -11,7 +10,7 @@ put-plan-requires : tie.Need-put-plan-requires
 put-plan-requires c κs = search needs
 
 returns : tie.Need-returns
-returns c = not-printed refl (c .before .before .put-plan .ensures) (c .if1 .taken)
+returns c = search not-printed
 
 put-plan-requires-2 : tie.Need-put-plan-requires-2
 put-plan-requires-2 c κs = search needs
@@ -20,11 +19,7 @@ same-length : tie.Need-same-length
 same-length c = search needs
 
 returns-2 : tie.Need-returns-2
-returns-2 c =
-    let at-put-plan2 = c .before .before in
-    let at-if1 = at-put-plan2 .before .before in
-    let at-put-plan = at-if1 .before .before in
-    put-printed refl (at-put-plan .put-plan .ensures) (at-if1 .if1 .left) (at-put-plan2 .put-plan2 .ensures)
+returns-2 c = search put-printed
 
 pub print-plan-spec : {M : Type 1} → statement M
 print-plan-spec =

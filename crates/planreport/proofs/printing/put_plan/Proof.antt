@@ -1,10 +1,10 @@
+use Prim.Native.Nat.{_≤_}
 use native.Mathlib.Omega.{arith}
-use Rattle.busset.specs.Sets.{setOf}
 use Rattle.field.specs.Split.{join}
 use Rattle.field.proofs.Digits.{text-length}
-use Rattle.record.specs.declared.Record.the-variants.{Pmu}
 use Rattle.reader.proofs.Lengths.{members-most}
 use Rattle.planreport.proofs.Reports.{plan-put}
+use Rattle.writer.proofs.Putting.{put-near}
 use borrow.Author.Needs.{needs}
 use Rattle.planreport.proofs.printing.put_plan.Statement.{statement}
 use Rattle.planreport.proofs.printing.put_plan.Tie as tie
@@ -18,16 +18,16 @@ count-requires c κs = search needs
 put-tagged-requires : tie.Need-put-tagged-requires
 put-tagged-requires c κs = search needs
 
+after-tagged : (c : tie.After-put-tagged) → c .put-tagged .result ≤ 11
+after-tagged c = omega (arith, c .put-tagged .ensures .next, text-length (c .before .count .result))
+
 put-byte-requires : tie.Need-put-byte-requires
-put-byte-requires c κs =
-    let at-put-tagged = c .before .before .before in
-    omega (arith, at-put-tagged .put-tagged .ensures .next, text-length (at-put-tagged .before .count .result))
+put-byte-requires c κs = omega (arith, after-tagged (c .before .before .before))
 
 put-units-requires : tie.Need-put-units-requires
 put-units-requires c κs =
     let at-put-byte = c .before .before .before in
-    let at-put-tagged = at-put-byte .before .before .before .before in
-    (omega (arith, at-put-byte .put-byte .ensures .next, at-put-tagged .put-tagged .ensures .next, text-length (at-put-tagged .before .count .result)), search needs)
+    (omega (arith, at-put-byte .put-byte .ensures .next, after-tagged (at-put-byte .before .before .before .before)), search needs)
 
 slice-aggregate-put-all : tie.Need-slice-aggregate-put-all
 slice-aggregate-put-all c = search needs
@@ -37,15 +37,12 @@ put-all-requires c κs =
     let at-put-units = c .before .before .before .before in
     let at-put-byte = at-put-units .before .before .before .before in
     let at-put-tagged = at-put-byte .before .before .before .before in
-    let at-count = at-put-tagged .before in
-    let at-args = at-count .before .before .before .before in (
+    let at-args = at-put-tagged .before .before .before .before .before in (
       omega (
         arith,
-        at-put-units .put-units .ensures .next,
-        members-most (at-args .args .n) (at-args .pre) Pmu (setOf (at-args .args .sites)),
+        put-near (at-put-units .put-units .ensures) (members-most _ (at-args .pre) _ _),
         at-put-byte .put-byte .ensures .next,
-        at-put-tagged .put-tagged .ensures .next,
-        text-length (at-count .count .result),
+        after-tagged at-put-tagged,
       ),
       omega arith,
     )
@@ -55,13 +52,7 @@ same-length c = search needs
 
 returns : tie.Need-returns
 unfolding join
-returns c =
-    let at-put-all = c .before .before in
-    let at-put-units = at-put-all .before .before .before .before .before in
-    let at-put-byte = at-put-units .before .before .before .before in
-    let at-put-tagged = at-put-byte .before .before .before .before in
-    plan-put _ (at-put-tagged .before .count .ensures) (at-put-tagged .put-tagged .ensures) (at-put-byte .put-byte .ensures) (at-put-units .put-units .ensures)
-    (at-put-all .put-all .ensures)
+returns c = search plan-put
 
 pub put-plan-spec : {M : Type 1} → statement M
 put-plan-spec =

@@ -1,72 +1,39 @@
+use Prim.Native.Nat.{_≤_}
 use native.Mathlib.Omega.{arith}
-use Rattle.busset.specs.Sets.{setOf}
-use Rattle.grid.specs.Cases.{neighbours}
-use Rattle.record.specs.declared.Record.the-variants.{Grid, Pmu}
 use Rattle.reader.proofs.Lengths.{buses-most, rows-most, members-most}
-use Rattle.writer.proofs.Putting.{put-then, put-same}
 use Rattle.writer.proofs.Turns.{line-length, whole}
+use Rattle.writer.proofs.Putting.{put-then, put-same, put-near}
 use borrow.Author.Needs.{needs}
 use Rattle.writer.proofs.cases.put_case.Statement.{statement}
 use Rattle.writer.proofs.cases.put_case.Tie as tie
+
+-- how far the first parts of the text reach
+after-line : (c : tie.After-put-line) → c .put-line .result ≤ 15
+after-line c = put-near (c .put-line .ensures) (line-length _)
+
+after-buses : (c : tie.After-put-buses) → c .put-buses .result ≤ 975
+after-buses c = omega (arith, after-line (c .before .before .before .before), put-near (c .put-buses .ensures) (buses-most _ (search needs) _ _))
+
+after-lines : (c : tie.After-put-lines) → c .put-lines .result ≤ 62415
+after-lines c = omega (arith, after-buses (c .before .before .before .before .before), put-near (c .put-lines .ensures) (rows-most _ (search needs) _))
+
+after-units : (c : tie.After-put-units) → c .put-units .result ≤ 63375
+after-units c = omega (arith, after-lines (c .before .before .before .before), put-near (c .put-units .ensures) (members-most _ (search needs) _ _))
 
 put-line-requires : tie.Need-put-line-requires
 put-line-requires c κs = search needs
 
 put-buses-requires : tie.Need-put-buses-requires
-put-buses-requires c κs =
-    let at-put-line = c .before .before .before in
-    let at-args = at-put-line .before .before .before .before in
-    omega (arith, at-put-line .put-line .ensures .next, line-length (Grid (at-args .args .case .n)))
+put-buses-requires c κs = omega (arith, after-line (c .before .before .before))
 
 put-lines-requires : tie.Need-put-lines-requires
-put-lines-requires c κs =
-    let at-put-buses = c .before .before .before .before in
-    let at-put-line = at-put-buses .before .before .before .before in
-    let at-args = at-put-line .before .before .before .before in
-    omega (
-      arith,
-      at-put-line .put-line .ensures .next,
-      line-length (Grid (at-args .args .case .n)),
-      at-put-buses .put-buses .ensures .next,
-      buses-most (at-args .args .case .n) (at-args .pre) (setOf (at-args .args .case .zero)) (setOf (at-args .args .case .site)),
-    )
+put-lines-requires c κs = omega (arith, after-buses (c .before .before .before .before))
 
 put-units-requires : tie.Need-put-units-requires
-put-units-requires c κs =
-    let at-put-lines = c .before .before .before in
-    let at-put-buses = at-put-lines .before .before .before .before .before in
-    let at-put-line = at-put-buses .before .before .before .before in
-    let at-args = at-put-line .before .before .before .before in
-    omega (
-      arith,
-      at-put-line .put-line .ensures .next,
-      line-length (Grid (at-args .args .case .n)),
-      at-put-buses .put-buses .ensures .next,
-      buses-most (at-args .args .case .n) (at-args .pre) (setOf (at-args .args .case .zero)) (setOf (at-args .args .case .site)),
-      at-put-lines .put-lines .ensures .next,
-      rows-most (at-args .args .case .n) (at-args .pre) (neighbours (at-args .args .case .nbr)),
-    )
+put-units-requires c κs = omega (arith, after-lines (c .before .before .before))
 
 put-line-requires-2 : tie.Need-put-line-requires-2
-put-line-requires-2 c κs =
-    let at-put-units = c .before .before .before in
-    let at-put-lines = at-put-units .before .before .before .before in
-    let at-put-buses = at-put-lines .before .before .before .before .before in
-    let at-put-line = at-put-buses .before .before .before .before in
-    let at-args = at-put-line .before .before .before .before in (
-      omega (
-        arith,
-        at-put-line .put-line .ensures .next,
-        line-length (Grid (at-args .args .case .n)),
-        at-put-buses .put-buses .ensures .next,
-        buses-most (at-args .args .case .n) (at-args .pre) (setOf (at-args .args .case .zero)) (setOf (at-args .args .case .site)),
-        at-put-lines .put-lines .ensures .next,
-        rows-most (at-args .args .case .n) (at-args .pre) (neighbours (at-args .args .case .nbr)),
-        at-put-units .put-units .ensures .next,
-        members-most (at-args .args .case .n) (at-args .pre) Pmu (setOf (at-args .args .case .units)),
-      ),
-      tt,
-    )
+put-line-requires-2 c κs = (omega (arith, after-units (c .before .before .before)), tt)
 
 same-length : tie.Need-same-length
 same-length c = search needs

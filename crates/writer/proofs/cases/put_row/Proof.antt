@@ -1,16 +1,16 @@
-use borrow.Author.Needs.{needs}
-use Prim.Native.Nat.{_+_, _-_, _*_, _≤_}
-use mathlib.Core.Path.{_≡_, refl}
+use mathlib.Core.Path.{refl}
+use Prim.Native.Nat.{_+_, _-_}
 use native.Mathlib.Omega.{arith}
 use Rattle.busset.specs.Sets.{setOf}
 use Rattle.record.specs.declared.Record.the-variants.{Line}
-use Rattle.reader.specs.Writing.{members, linesText}
-use Rattle.writer.proofs.Turns.{Left, left-none, left-more, left-all, restMembers, members-first, members-next, members-all, has-is, lined-length}
+use Rattle.reader.specs.Writing.{members}
+use Rattle.writer.proofs.Turns.{Turn, turn-first, turn-member, turn-all}
+use borrow.Author.Needs.{needs}
 use Rattle.writer.proofs.cases.put_row.Statement.{statement}
 use Rattle.writer.proofs.cases.put_row.Tie as tie
 
 abbrev Inv-loop : tie.InvT-loop
-Inv-loop out₀ at n row a k₀ b₀ b-end out k b = (a + 1 ≤ b) × (b ≤ b-end) × (b-end ≡ n + 1) × (k ≤ at + 15 * b) × Left out₀ at (linesText (members (Line a) (setOf row) (a + 1) (n - a))) out k (restMembers (Line a) (setOf row) n b)
+Inv-loop out₀ at n row a k₀ b₀ b-end out k b = Turn (members (Line a) (setOf row)) 15 (a + 1) (n - a) n out₀ at b-end out k b
 
 abbrev μ-loop : tie.MeasureT-loop
 μ-loop out₀ at n row a k₀ b₀ b-end out k b = b-end - b
@@ -22,7 +22,7 @@ add-b-end : tie.Need-add-b-end Inv-loop μ-loop
 add-b-end c = search needs
 
 loop-holds : tie.Need-loop-holds Inv-loop μ-loop
-loop-holds c = (search needs, search needs, refl, search needs, left-none (members-first _ _ _ _ _ (omega arith)))
+loop-holds c = turn-first (omega arith) (omega arith)
 
 has-requires : tie.Need-has-requires Inv-loop μ-loop
 has-requires c κs = search needs
@@ -37,29 +37,14 @@ loop-less : tie.Need-loop-less Inv-loop μ-loop
 loop-less c = search needs
 
 loop-again : tie.Need-loop-again Inv-loop μ-loop
-loop-again c =
-    let at-put-if = c .before .before in
-    let at-has = at-put-if .before in
-    let at-loop = at-has .before .before .before in
-    let at-args = at-loop .before .before in (
-      search needs,
-      search needs,
-      refl,
-      omega (
-        arith,
-        at-put-if .put-if .ensures .next,
-        lined-length (at-has .has .result) (Line (at-args .args .a)
-            (at-loop .loop .b)),
-      ),
-      left-more (at-loop .loop .inv .4) (members-next _ _ _ _ _ (search needs) (has-is _ _ _ (at-has .has .ensures)))
-          (at-put-if .put-if .ensures),
-    )
+loop-again c = search turn-member
 
 same-length : tie.Need-same-length Inv-loop μ-loop
-same-length c = c .before .loop .inv .4 .size
+same-length c = c .before .loop .inv .left .size
 
 returns : tie.Need-returns Inv-loop μ-loop
-returns c = left-all (c .before .loop .inv .4) (members-all _ _ _ _ (search needs))
+unfolding members
+returns c = turn-all (c .before .loop .inv) (search needs) refl
 
 pub put-row-spec : {M : Type 1} → statement M
 put-row-spec =

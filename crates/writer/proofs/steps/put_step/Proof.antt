@@ -4,8 +4,8 @@ use native.Mathlib.Omega.{arith}
 use Rattle.busset.specs.Sets.{width}
 use Rattle.rules.specs.Steps.{ReasonNames}
 use Rattle.field.specs.Split.{join}
-use Rattle.field.proofs.Digits.{text-length}
 use Rattle.record.specs.StepLine.{stepText}
+use Rattle.field.proofs.Digits.{text-length}
 use Rattle.writer.proofs.Putting.{put-then}
 use borrow.Author.Needs.{needs}
 use Rattle.writer.proofs.steps.put_step.Statement.{statement}
