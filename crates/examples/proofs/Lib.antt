@@ -10,3 +10,5 @@ pub mod Observation
 pub mod Deriving
 pub mod Steps
 pub mod Weaving
+pub mod Confirming
+pub mod Placing

@@ -1,7 +1,7 @@
 -- The tables of steps and of the derivation.
 use mathlib.Core.Path.{_≡_, refl, sym, ap}
 use mathlib.Core.List.{List, [], _∷_}
-use Prim.Native.Nat.{ℕ, zero, suc}
+use Prim.Native.Nat.{ℕ}
 use native.Mathlib.Omega.{arith}
 use lib.Count.{ones, onesIn}
 use lib.ListN.{length, getD}
@@ -10,11 +10,10 @@ use Rattle.busset.specs.Sets.{add, lack, less, setOf}
 use Rattle.step.specs.declared.Reason.the-variants.{NeighbourOf}
 use Rattle.step.specs.declared.Step.{Step}
 use Rattle.rules.specs.Grids.{Grid, total}
-use Rattle.rules.specs.Steps.{Holds, Allowed}
-use Rattle.rules.specs.Derivation.{NextIs, Derivation}
+use Rattle.rules.specs.Derivation.{Derivation}
 use Rattle.rules.proofs.Reasons.{closed-reasoned}
 use Rattle.rules.proofs.Lists.{closed-finished}
-use Rattle.rules.proofs.Derivations.{next-unique, derived-unique, derived-accepted}
+use Rattle.rules.proofs.Derivations.{derived-unique, derived-accepted}
 use Rattle.rules.proofs.Tests.{gap, given, subTest, holdsTest}
 use Rattle.grid.specs.Cases.{neighbours}
 use Rattle.following.specs.declared.lists.StepList.{StepList}
