@@ -44,7 +44,7 @@ unfolding withinTest
 alone d s v w e = unconfirmed-passes (grid d) (valid-passes (caseOf d) v .proper) (setOf s) (λ b h. set-bus (d .n) b (omega arith) h) e
 
 -- the only unit is one of them
-itself : UnconfirmedSet (sevenGrid [] .nbr) (set (3 ∷ [])) (set (3 ∷ []))
+pub itself : UnconfirmedSet (sevenGrid [] .nbr) (set (3 ∷ [])) (set (3 ∷ []))
 unfolding validTest withinTest rowTest unconfirmedTest aloneTest confirmTest gap given total meet upTo neighbours setOf ones onesIn
 itself = alone (seven (3 ∷ [])) (wordOf (3 ∷ [])) refl refl refl
 

@@ -12,3 +12,4 @@ pub mod Steps
 pub mod Weaving
 pub mod Confirming
 pub mod Placing
+pub mod Replies

@@ -131,30 +131,33 @@ found : (c : Case) (budget : ℕ) (a : Sought) → validTest c ≡ 0 → smalles
 found c budget a v e =
     fewest-passes (gridOf c) (valid-passes c v .proper) (lack (gridOf c .site) (gridOf c .units)) (record { at = lack-at (gridOf c .site) (gridOf c .units) }) budget a e
 
+-- on the seven buses without units: none within 1, and 1, 4 within 2 or 3
+pub fewest1 : SomePlan (sevenGrid []) 1 → ⊥
+unfolding validTest withinTest rowTest leastTest acceptedTest holdsTest closedTest subTest isOne gap given total neighbours setOf upTo less lack meet add ones onesIn pick reasonFor reasonAt stepFor passFrom extended derive after judged judge orElse choose seek firstOf smallest
+fewest1 = found (caseOf (seven [])) 1 none refl refl
+
+pub fewest2 : Fewest (sevenGrid []) 2 (set (1 ∷ 4 ∷ []))
+unfolding validTest withinTest rowTest leastTest acceptedTest holdsTest closedTest subTest isOne gap given total neighbours setOf upTo less lack meet add ones onesIn pick reasonFor reasonAt stepFor passFrom extended derive after judged judge orElse choose seek firstOf smallest
+fewest2 = found (caseOf (seven [])) 2 (some (set (1 ∷ 4 ∷ []))) refl refl
+
 pub fewest-right : AllRight tables.fewest
 unfolding validTest withinTest rowTest leastTest acceptedTest holdsTest closedTest subTest isOne gap given total neighbours setOf upTo less lack meet add ones onesIn pick reasonFor reasonAt stepFor passFrom extended derive after judged judge orElse choose seek firstOf smallest
 fewest-right =
-    in2
-    & in3
-    & (λ h. omega (arith, fewest-set-unique in2 h))
-    & (λ h. omega (arith, fewest-set-unique in3 h))
-    & fewest-some in2
-    & in1
-    & (λ h. in1 (fewest-some h))
+    fewest2
+    & fewest3
+    & (λ h. omega (arith, fewest-set-unique fewest2 h))
+    & (λ h. omega (arith, fewest-set-unique fewest3 h))
+    & fewest-some fewest2
+    & fewest1
+    & (λ h. fewest1 (fewest-some h))
     & found (caseOf (seven (1 ∷ 4 ∷ []))) 0 (some (set [])) refl refl
     & found (caseOf (seven (4 ∷ []))) 1 (some (set (1 ∷ []))) refl refl
     & barred2
     & (λ h. omega (arith, fewest-set-unique barred2 h))
     & tt
   where
-    in1 : SomePlan (sevenGrid []) 1 → ⊥
-    in1 = found (caseOf (seven [])) 1 none refl refl
-
-    in2 : Fewest (sevenGrid []) 2 (set (1 ∷ 4 ∷ []))
-    in2 = found (caseOf (seven [])) 2 (some (set (1 ∷ 4 ∷ []))) refl refl
-
-    in3 : Fewest (sevenGrid []) 3 (set (1 ∷ 4 ∷ []))
-    in3 = found (caseOf (seven [])) 3 (some (set (1 ∷ 4 ∷ []))) refl refl
+    fewest3 : Fewest (sevenGrid []) 3 (set (1 ∷ 4 ∷ []))
+    fewest3 = found (caseOf (seven [])) 3 (some (set (1 ∷ 4 ∷ []))) refl refl
 
     barred2 : Fewest (barred []) 1 (set (2 ∷ []))
     barred2 = found (value 2 ((2 ∷ []) ∷ (1 ∷ []) ∷ []) [] (2 ∷ []) []) 1 (some (set (2 ∷ []))) refl refl
@@ -184,13 +187,13 @@ not-greedy : (g : Grid) (budget i : ℕ) (xs ys : List ℕ) → Greedy g budget 
 not-greedy g budget i xs ys h ne k = ne (ap (λ (zs : List ℕ). getD zs i 0) (greedy-unique g budget xs ys h k))
 
 -- 3 and 4 are added, and no site adds a bus where 1 and 4 have units
-in2 : Greedy (sevenGrid []) 2 (3 ∷ 4 ∷ [])
+pub greedy2 : Greedy (sevenGrid []) 2 (3 ∷ 4 ∷ [])
 unfolding validTest withinTest rowTest leastTest acceptedTest holdsTest closedTest subTest isOne gap given total neighbours setOf upTo less lack meet add ones onesIn pick reasonFor reasonAt stepFor passFrom extended derive noBetter bestTest noneTest greedyTest
-in2 = adds (caseOf (seven [])) 2 (3 ∷ 4 ∷ []) refl refl
+greedy2 = adds (caseOf (seven [])) 2 (3 ∷ 4 ∷ []) refl refl
 
-in3 : Greedy (sevenGrid []) 3 (3 ∷ 4 ∷ [])
+greedy3 : Greedy (sevenGrid []) 3 (3 ∷ 4 ∷ [])
 unfolding validTest withinTest rowTest leastTest acceptedTest holdsTest closedTest subTest isOne gap given total neighbours setOf upTo less lack meet add ones onesIn pick reasonFor reasonAt stepFor passFrom extended derive noBetter bestTest noneTest greedyTest
-in3 = adds (caseOf (seven [])) 3 (3 ∷ 4 ∷ []) refl refl
+greedy3 = adds (caseOf (seven [])) 3 (3 ∷ 4 ∷ []) refl refl
 
 covered : NoneAdds (sevenGrid (1 ∷ 4 ∷ []))
 unfolding validTest withinTest rowTest leastTest acceptedTest holdsTest closedTest subTest isOne gap given total neighbours setOf upTo less lack meet add ones onesIn pick reasonFor reasonAt stepFor passFrom extended derive noBetter bestTest noneTest greedyTest
@@ -199,8 +202,8 @@ covered = adds (caseOf (seven (1 ∷ 4 ∷ []))) 1 [] refl refl
 pub best-right : AllRight tables.best
 unfolding validTest withinTest rowTest leastTest acceptedTest holdsTest closedTest subTest isOne gap given total neighbours setOf upTo less lack meet add ones onesIn pick reasonFor reasonAt stepFor passFrom extended derive noBetter bestTest noneTest greedyTest
 best-right =
-    in2 .0
-    & (λ h. omega (arith, best-unique (in2 .0) h))
+    greedy2 .0
+    & (λ h. omega (arith, best-unique (greedy2 .0) h))
     & tie
     & (λ h. omega (arith, best-unique tie h))
     & adds (value 2 ((2 ∷ []) ∷ (1 ∷ []) ∷ []) [] (2 ∷ []) []) 1 (2 ∷ []) refl refl .0
@@ -214,14 +217,14 @@ best-right =
 
 pub greedy-right : AllRight tables.greedy
 greedy-right =
-    in2
-    & not-greedy (sevenGrid []) 2 0 (3 ∷ 4 ∷ []) (4 ∷ 3 ∷ []) in2 (λ e. omega arith)
-    & not-greedy (sevenGrid []) 2 0 (3 ∷ 4 ∷ []) (1 ∷ 4 ∷ []) in2 (λ e. omega arith)
-    & (in2 .0, tt)
+    greedy2
+    & not-greedy (sevenGrid []) 2 0 (3 ∷ 4 ∷ []) (4 ∷ 3 ∷ []) greedy2 (λ e. omega arith)
+    & not-greedy (sevenGrid []) 2 0 (3 ∷ 4 ∷ []) (1 ∷ 4 ∷ []) greedy2 (λ e. omega arith)
+    & (greedy2 .0, tt)
     & tt
     & (λ h. h .1)
-    & not-greedy (sevenGrid []) 2 1 (3 ∷ 4 ∷ []) (3 ∷ []) in2 (λ e. omega arith)
-    & in3
+    & not-greedy (sevenGrid []) 2 1 (3 ∷ 4 ∷ []) (3 ∷ []) greedy2 (λ e. omega arith)
+    & greedy3
     & covered
     & not-greedy (sevenGrid (1 ∷ 4 ∷ [])) 2 0 [] (2 ∷ []) covered (λ e. omega arith)
     & tt

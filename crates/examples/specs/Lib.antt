@@ -16,3 +16,4 @@ pub mod Weaving
 pub mod Figures
 pub mod Confirming
 pub mod Placing
+pub mod Replies
