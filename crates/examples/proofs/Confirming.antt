@@ -43,7 +43,11 @@ alone : (d : Drawing) (s : ℕ) → validTest (caseOf d) ≡ 0 → withinTest (d
 unfolding withinTest
 alone d s v w e = unconfirmed-passes (grid d) (valid-passes (caseOf d) v .proper) (setOf s) (λ b h. set-bus (d .n) b (omega arith) h) e
 
--- the only unit is one of them
+-- no units, and a unit alone
+pub nobody : UnconfirmedSet (sevenGrid [] .nbr) (set []) (set [])
+unfolding validTest withinTest rowTest unconfirmedTest aloneTest confirmTest gap given total meet upTo neighbours setOf ones onesIn
+nobody = alone (seven []) (wordOf []) refl refl refl
+
 pub itself : UnconfirmedSet (sevenGrid [] .nbr) (set (3 ∷ [])) (set (3 ∷ []))
 unfolding validTest withinTest rowTest unconfirmedTest aloneTest confirmTest gap given total meet upTo neighbours setOf ones onesIn
 itself = alone (seven (3 ∷ [])) (wordOf (3 ∷ [])) refl refl refl
@@ -59,7 +63,7 @@ unconfirmed-right =
 pub sets-right : AllRight tables.sets
 unfolding validTest withinTest rowTest unconfirmedTest aloneTest confirmTest gap given total meet upTo neighbours setOf ones onesIn
 sets-right =
-    alone (seven []) (wordOf []) refl refl refl
+    nobody
     & itself
     & joined34
     & alone (seven (2 ∷ 4 ∷ [])) (wordOf []) refl refl refl

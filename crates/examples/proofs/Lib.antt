@@ -13,3 +13,4 @@ pub mod Weaving
 pub mod Confirming
 pub mod Placing
 pub mod Replies
+pub mod Programs

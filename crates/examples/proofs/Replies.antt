@@ -1,7 +1,6 @@
 -- The tables of what each call answers.
 use mathlib.Core.Path.{_≡_, refl, ap}
 use mathlib.Core.List.{List, [], _∷_}
-use mathlib.Core.Logic.{_⊎_, inl, inr}
 use Prim.Native.Nat.{ℕ, suc, _+_, _-_, _≤_}
 use native.Mathlib.Omega.{arith}
 use lib.Count.{ones, onesIn}
@@ -26,10 +25,9 @@ use Rattle.rules.proofs.Ordering.{fewest-some}
 use Rattle.rules.proofs.Reasons.{allowed-names}
 use Rattle.rules.proofs.Tests.{gap}
 use Rattle.grid.specs.declared.Case.{Case}
-use Rattle.grid.specs.declared.refusal.Refusal.{Refusal}
 use Rattle.grid.specs.declared.refusal.Refusal.the-variants.{InvalidCase, NoSuchBus, ReasonFails, OverBudget, NoCover}
 use Rattle.grid.specs.Cases.{neighbours, gridOf, Valid}
-use Rattle.grid.specs.Refusals.{Passed, Failed, Is, numberOf}
+use Rattle.grid.specs.Refusals.{Passed, Failed, numberOf}
 use Rattle.grid.proofs.Orders.{itself, failed-or-passed, failed-unique}
 use Rattle.grid.proofs.Drawn.{withinTest, rowTest, validTest, valid-passes}
 use Rattle.reader.specs.Writing.{busRecords, members, lineRecords, linesText}
@@ -38,7 +36,7 @@ use Rattle.following.specs.Replies.{replayChecks}
 use Rattle.following.specs.declared.Task.the-variants.{Replay}
 use Rattle.wozgrzyt.specs.Replies.{observedChecks}
 use Rattle.wozgrzyt.specs.SitingReplies.{fewestChecks}
-use Rattle.examples.proofs.Rows.{_&_}
+use Rattle.examples.proofs.Rows.{_&_, _then_, stop}
 use Rattle.examples.proofs.Computed.{known}
 use Rattle.examples.proofs.Deriving.{reasonTest, allowedTest, allowed-passes}
 use Rattle.examples.proofs.Steps.{is-derivation}
@@ -49,19 +47,8 @@ use Rattle.examples.specs.Drawings.{set, own, near, zeroAt, sevenGrid, v
 use Rattle.examples.specs.Steps.{derivation}
 use Rattle.examples.specs.Replies as tables
 
--- ---- checks, one after another
-
-infixr 4 _then_
--- this check passes, and one of the later fails
-abbrev _then_ : {A B C : Type 0} → A → C → B ⊎ (A × C)
-p then f = inr (p, f)
-
--- this check fails
-abbrev stop : {A B : Type 0} {number place : ℕ} {r : Refusal} → (A → ⊥) → Is number place r → ((A → ⊥) × Is number place r) ⊎ B
-stop f is = inl (f, is)
-
 -- the bad case value has no bus
-invalid : Valid tables.bad → ⊥
+pub invalid : Valid tables.bad → ⊥
 invalid v = omega (arith, v .buses .some)
 
 -- b is a bus 1 to n, and a step names such
@@ -72,7 +59,7 @@ bus n b e = record { some = omega arith; most = omega arith }
 named3 : Names 7 (own 3)
 named3 = record { bus = bus 7 3 refl; reason = tt }
 
-named12 : Names 7 (zeroAt 1 2)
+pub named12 : Names 7 (zeroAt 1 2)
 named12 = record { bus = bus 7 1 refl; reason = bus 7 2 refl }
 
 named23 : Names 7 (near 2 3)

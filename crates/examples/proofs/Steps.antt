@@ -93,6 +93,11 @@ pub is-derivation : Derivation (sevenGrid (3 ∷ [])) steps.derivation
 unfolding derivedTest nextTest noSooner noReason noUnit noZero allowedTest reasonTest holdsTest subTest given gap total neighbours add lack less setOf ones onesIn
 is-derivation = derived-passes (sevenGrid (3 ∷ [])) (known .at3 .valid .proper) (set []) steps.derivation refl
 
+-- and that of no units
+pub no-steps : Derivation (sevenGrid []) []
+unfolding derivedTest noReason noUnit noZero holdsTest subTest given total neighbours less lack setOf
+no-steps = derived-passes (sevenGrid []) (known .none .valid .proper) (set []) [] refl
+
 pub accepted-right : AllRight steps.accepted
 unfolding reasonTest allowedTest gap neighbours lack add setOf ones onesIn
 accepted-right =
@@ -161,7 +166,7 @@ derivations-right =
     & other (sevenGrid (3 ∷ [])) 0 _ _ is-derivation (λ l e. omega arith)
     & other (sevenGrid (3 ∷ [])) 2 _ _ is-derivation (λ l e. omega arith)
     & other (sevenGrid (3 ∷ [])) 0 _ _ is-derivation (λ l e. omega arith)
-    & derived-passes (sevenGrid []) (known .none .valid .proper) (set []) [] refl
+    & no-steps
     & sweeping
     & other (grid sweep) 0 _ _ sweeping (λ l e. omega arith)
     & record { steps = steps.derivation; derived = is-derivation; is = refl }

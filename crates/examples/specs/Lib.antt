@@ -17,3 +17,4 @@ pub mod Figures
 pub mod Confirming
 pub mod Placing
 pub mod Replies
+pub mod Programs
