@@ -10,3 +10,7 @@ pub mod Observation
 pub mod Deriving
 pub mod Steps
 pub mod Weaving
+pub mod Confirming
+pub mod Placing
+pub mod Replies
+pub mod Programs

@@ -1,7 +1,7 @@
 -- The tables of steps and of the derivation.
 use mathlib.Core.Path.{_≡_, refl, sym, ap}
 use mathlib.Core.List.{List, [], _∷_}
-use Prim.Native.Nat.{ℕ, zero, suc}
+use Prim.Native.Nat.{ℕ}
 use native.Mathlib.Omega.{arith}
 use lib.Count.{ones, onesIn}
 use lib.ListN.{length, getD}
@@ -10,11 +10,10 @@ use Rattle.busset.specs.Sets.{add, lack, less, setOf}
 use Rattle.step.specs.declared.Reason.the-variants.{NeighbourOf}
 use Rattle.step.specs.declared.Step.{Step}
 use Rattle.rules.specs.Grids.{Grid, total}
-use Rattle.rules.specs.Steps.{Holds, Allowed}
-use Rattle.rules.specs.Derivation.{NextIs, Derivation}
+use Rattle.rules.specs.Derivation.{Derivation}
 use Rattle.rules.proofs.Reasons.{closed-reasoned}
 use Rattle.rules.proofs.Lists.{closed-finished}
-use Rattle.rules.proofs.Derivations.{next-unique, derived-unique, derived-accepted}
+use Rattle.rules.proofs.Derivations.{derived-unique, derived-accepted}
 use Rattle.rules.proofs.Tests.{gap, given, subTest, holdsTest}
 use Rattle.grid.specs.Cases.{neighbours}
 use Rattle.following.specs.declared.lists.StepList.{StepList}
@@ -94,6 +93,11 @@ pub is-derivation : Derivation (sevenGrid (3 ∷ [])) steps.derivation
 unfolding derivedTest nextTest noSooner noReason noUnit noZero allowedTest reasonTest holdsTest subTest given gap total neighbours add lack less setOf ones onesIn
 is-derivation = derived-passes (sevenGrid (3 ∷ [])) (known .at3 .valid .proper) (set []) steps.derivation refl
 
+-- and that of no units
+pub no-steps : Derivation (sevenGrid []) []
+unfolding derivedTest noReason noUnit noZero holdsTest subTest given total neighbours less lack setOf
+no-steps = derived-passes (sevenGrid []) (known .none .valid .proper) (set []) [] refl
+
 pub accepted-right : AllRight steps.accepted
 unfolding reasonTest allowedTest gap neighbours lack add setOf ones onesIn
 accepted-right =
@@ -162,7 +166,7 @@ derivations-right =
     & other (sevenGrid (3 ∷ [])) 0 _ _ is-derivation (λ l e. omega arith)
     & other (sevenGrid (3 ∷ [])) 2 _ _ is-derivation (λ l e. omega arith)
     & other (sevenGrid (3 ∷ [])) 0 _ _ is-derivation (λ l e. omega arith)
-    & derived-passes (sevenGrid []) (known .none .valid .proper) (set []) [] refl
+    & no-steps
     & sweeping
     & other (grid sweep) 0 _ _ sweeping (λ l e. omega arith)
     & record { steps = steps.derivation; derived = is-derivation; is = refl }

@@ -1,8 +1,8 @@
 -- The tables of weaving and of the firing figure.
-use mathlib.Core.Path.{_≡_, refl, ap}
+use mathlib.Core.Path.{refl, ap}
 use mathlib.Core.List.{List, [], _∷_}
 use mathlib.Core.Logic.{_⊎_, inl, inr, ⊎-elim}
-use Prim.Native.Nat.{ℕ, _≤_}
+use Prim.Native.Nat.{_≤_}
 use native.Mathlib.Omega.{arith}
 use lib.Count.{ones, onesIn}
 use lib.ListN.{length}
@@ -18,7 +18,7 @@ use Rattle.grid.specs.Cases.{neighbours}
 use Rattle.examples.proofs.Rows.{_&_}
 use Rattle.examples.proofs.Deriving.{reasonTest, allowedTest, allowed-passes}
 use Rattle.examples.specs.Tables.{AllRight}
-use Rattle.examples.specs.Drawings.{set, own, near, zeroAt, sevenGrid}
+use Rattle.examples.specs.Drawings.{set, own, near, sevenGrid}
 use Rattle.examples.specs.Weaving as weaving
 use Rattle.examples.specs.Figures as figures
 

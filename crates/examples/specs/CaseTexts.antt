@@ -21,9 +21,9 @@ use Rattle.examples.specs.Tables.{Right, Reads, block}
 
 -- ---- whole texts
 
--- document 01's input of the day report
-abbrev pub input : List String
-input =
+-- document 01's input of the day report, up to its lines
+abbrev pub sevenLines : List String
+sevenLines =
     "grid 7"
     ∷ "bus 1 I Y"
     ∷ "bus 2 Z Y"
@@ -38,9 +38,15 @@ input =
     ∷ "line 3 7"
     ∷ "line 4 5"
     ∷ "line 5 6"
-    ∷ "pmu 3"
-    ∷ "end"
     ∷ []
+
+-- and all of it
+abbrev pub input : List String
+input = sevenLines ++ "pmu 3" ∷ "end" ∷ []
+
+-- the same grid with no units
+abbrev pub bareInput : List String
+bareInput = sevenLines ++ "end" ∷ []
 
 -- the path 1-2-3-4-5, only 3 is Z, units at 1 and 5
 abbrev pub pathInput : List String
@@ -60,6 +66,7 @@ oneCase = record { n = 1; nbr = replicate 64 0; zero = 1; site = 0; units = 1 }
 abbrev pub cases : List (List ℕ × CaseRead)
 cases =
     (block input, got (caseOf (seven (3 ∷ []))))
+    ∷ (block bareInput, got (caseOf (seven [])))
     ∷ (block pathInput, got (caseOf path))
     ∷ (block oneInput, got oneCase)
     ∷ []

@@ -63,3 +63,11 @@ lone = record { n = 2; lines = []; zeros = 1 ∷ 2 ∷ []; units = 1 ∷ [] }
 -- bus 1 and bus 4, each joined to the Z buses 2 and 3, with these units
 abbrev pub ring : List ℕ → Drawing
 ring units = record { n = 4; lines = (1, 2) ∷ (1, 3) ∷ (2, 4) ∷ (3, 4) ∷ []; zeros = 2 ∷ 3 ∷ []; units = units }
+
+-- three buses, 1 joined to 2, with these units
+abbrev pub apart : List ℕ → Drawing
+apart units = record { n = 3; lines = (1, 2) ∷ []; zeros = []; units = units }
+
+-- two buses, joined, of which 1 has site N, with these units
+abbrev pub barred : List ℕ → Grid
+barred units = gridOf (value 2 ((2 ∷ []) ∷ (1 ∷ []) ∷ []) [] (2 ∷ []) units)

@@ -14,3 +14,7 @@ pub mod Steps
 pub mod Derivation
 pub mod Weaving
 pub mod Figures
+pub mod Confirming
+pub mod Placing
+pub mod Replies
+pub mod Programs
