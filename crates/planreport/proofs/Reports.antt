@@ -13,9 +13,9 @@ use Rattle.grid.specs.Cases.{gridOf}
 use Rattle.grid.specs.declared.Case.{Case}
 use Rattle.grid.specs.declared.refusal.Refusal.the-variants.{OverBudget, NoCover}
 use Rattle.grid.proofs.Orders.{itself}
-use Rattle.place.specs.Answers.{FewestIs}
-use Rattle.place.specs.declared.fewest.Found.{Found}
-use Rattle.place.specs.declared.fewest.Found.the-variants.{Sites, Nothing}
+use Rattle.fewest.specs.Answers.{FewestIs}
+use Rattle.fewest.specs.declared.Found.{Found}
+use Rattle.fewest.specs.declared.Found.the-variants.{Sites, Nothing}
 use Rattle.reader.specs.Writing.{members, linesText}
 use Rattle.writer.specs.Put.{Put}
 use Rattle.writer.specs.Printing.{printed, RefusedText}
