@@ -29,42 +29,6 @@ pub fn long_row() -> Case {
     c
 }
 
-// 64 buses with lines from each to the four that follow it, while there are any: 246 lines.
-pub fn band() -> Case {
-    let mut c = blank(64);
-    for a in 1..=64 {
-        c = joined(
-            joined(joined(joined(c, a, a + 1), a, a + 2), a, a + 3),
-            a,
-            a + 4,
-        );
-    }
-    c
-}
-
-// The band with ten lines more, from bus 1 to 10 .. 19: 256 lines.
-pub fn full() -> Case {
-    let mut c = band();
-    for b in 10..20 {
-        c = joined(c, 1, b);
-    }
-    c
-}
-
-// Two grids apart, 1-2-3 and 5-6, and bus 4 with no line.
-pub fn apart() -> Case {
-    joined(joined(joined(blank(6), 1, 2), 2, 3), 5, 6)
-}
-
-// 64 buses: bus 1 joined to each of the others.
-pub fn star() -> Case {
-    let mut c = blank(64);
-    for b in 2..=64 {
-        c = joined(c, 1, b);
-    }
-    c
-}
-
 // Twelve buses in a ring, each second one Z, with units at 1 and 7.
 pub fn ring() -> Case {
     let mut c = joined(blank(12), 12, 1);
