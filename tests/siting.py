@@ -87,7 +87,7 @@ def say(name, answer):
 
 
 def ask(name, text, budget=0, room=0, end="#"):
-    print("%s\n%d\n%d\n%s" % (name, budget, room, text), end=end)
+    print("%s\t%d\t%d\t%s\n%s" % (name[0], budget, room, name, text), end=end)
 
 
 def verdict(name, g):

@@ -1,6 +1,12 @@
 #!/usr/bin/env python3
-"""Prints what crates/try_grids must print, by the reference: tests/try_grids.py | diff - crates/try_grids/stdout"""
-from reference import blank, drawn, firing_figure, observed_set, test_step
+"""Prints what crates/try_grids must print, by the reference, and what it is asked.
+
+    tests/try_grids.py                prints crates/try_grids/stdout
+    tests/try_grids.py --questions    prints crates/try_grids/stdin: the same questions, as the program reads them
+"""
+import reference
+from asked import ASKING, draw, line
+from reference import blank, drawn
 
 
 def say(name, answer):
@@ -15,6 +21,26 @@ def say(name, answer):
     print(name + ":" + text)
 
 
+def asked(name, case, stated, answer, letter, a=0, b=0):
+    if ASKING:
+        draw(case, stated)
+        line(letter, a, b, name)
+    else:
+        say(name, answer)
+
+
+def observed_set(name, case):
+    asked(name, case, (), reference.observed_set(case), "o")
+
+
+def firing_figure(name, case, stated, i, j):
+    asked(name, case, stated, reference.firing_figure(case, stated, i, j), "f", i, j)
+
+
+def test_step(name, case, stated, bus, reason):
+    asked(name, case, stated, reference.test_step(case, stated, bus, reason), reason[0], bus, *reason[1:])
+
+
 seven = drawn(blank(7), lines=[(1, 2), (2, 3), (3, 4), (3, 7), (4, 5), (5, 6)], zero=[2, 3, 5])
 path = drawn(blank(5), lines=[(1, 2), (2, 3), (3, 4), (4, 5)], zero=[3], units=[1, 5])
 row = drawn(blank(64), lines=[(b, b + 1) for b in range(1, 64)], zero=range(1, 65))
@@ -24,27 +50,27 @@ apart = drawn(blank(6), lines=[(1, 2), (2, 3), (5, 6)])
 star = drawn(blank(64), lines=[(1, b) for b in range(2, 65)])
 
 for name, units in (("no unit", []), ("unit at 2", [2]), ("unit at 3", [3]), ("unit at 4", [4]), ("units at 1 and 4", [1, 4])):
-    say("seven, " + name, observed_set(drawn(seven, units=units)))
-say("path", observed_set(path))
+    observed_set("seven, " + name, drawn(seven, units=units))
+observed_set("path", path)
 for u in (1, 32, 64):
-    say("row of 64 Z, unit at %d" % u, observed_set(drawn(row, units=[u])))
-say("apart, unit at 1", observed_set(drawn(apart, units=[1])))
-say("apart, unit at 4, which has no line", observed_set(drawn(apart, units=[4])))
-say("apart, 4 is Z with no line", observed_set(drawn(apart, units=[4], zero=[4])))
-say("apart, unit at 5", observed_set(drawn(apart, units=[5])))
-say("256 lines, unit at 1", observed_set(drawn(full, units=[1])))
-say("257 lines, unit at 1", observed_set(drawn(full, units=[1], lines=[(1, 20)])))
+    observed_set("row of 64 Z, unit at %d" % u, drawn(row, units=[u]))
+observed_set("apart, unit at 1", drawn(apart, units=[1]))
+observed_set("apart, unit at 4, which has no line", drawn(apart, units=[4]))
+observed_set("apart, 4 is Z with no line", drawn(apart, units=[4], zero=[4]))
+observed_set("apart, unit at 5", drawn(apart, units=[5]))
+observed_set("256 lines, unit at 1", drawn(full, units=[1]))
+observed_set("257 lines, unit at 1", drawn(full, units=[1], lines=[(1, 20)]))
 
 s = {1, 2, 3}
 for i, j in ((3, 7), (3, 2), (2, 1)):
-    say("figure %d to %d" % (i, j), firing_figure(seven, s, i, j))
-say("figure 2 to 1, buses above 7 stated too", firing_figure(seven, s | {8}, 2, 1))
-say("star of 64, figure 1 to 2, none stated", firing_figure(star, set(), 1, 2))
-say("star of 64, figure 1 to 2, all stated", firing_figure(star, set(range(1, 65)), 1, 2))
-say("star of 64, figure 2 to 1, none stated", firing_figure(star, set(), 2, 1))
+    firing_figure("figure %d to %d" % (i, j), seven, s, i, j)
+firing_figure("figure 2 to 1, buses above 7 stated too", seven, s | {8}, 2, 1)
+firing_figure("star of 64, figure 1 to 2, none stated", star, set(), 1, 2)
+firing_figure("star of 64, figure 1 to 2, all stated", star, set(range(1, 65)), 1, 2)
+firing_figure("star of 64, figure 2 to 1, none stated", star, set(), 2, 1)
 for i, j in ((0, 1), (1, 8), (8, 8), (1, 1), (1, 3)):
-    say("figure %d to %d" % (i, j), firing_figure(seven, set(), i, j))
-say("figure 8 to 1 of an invalid case", firing_figure(drawn(seven, lines=[(8, 1)]), set(), 8, 1))
+    firing_figure("figure %d to %d" % (i, j), seven, set(), i, j)
+firing_figure("figure 8 to 1 of an invalid case", drawn(seven, lines=[(8, 1)]), set(), 8, 1)
 
 c = drawn(seven, units=[3])
 most = {2, 3, 4, 7}
@@ -57,27 +83,27 @@ for name, stated, bus, reason in (
     ("8 O in 3 8", {3, 8}, 8, ("O",)), ("64 N 3 in 3", {3}, 64, ("N", 3)),
     ("2 N 3 in 3 8, where 8 is ignored", {3, 8}, 2, ("N", 3)),
 ):
-    say(name, test_step(c, stated, bus, reason))
-say("0 O of an invalid case", test_step(drawn(c, half=[(1, 7)]), {3}, 0, ("O",)))
+    test_step(name, c, stated, bus, reason)
+test_step("0 O of an invalid case", drawn(c, half=[(1, 7)]), {3}, 0, ("O",))
 
 six = blank(6)
-say("6 buses, unit at 6", observed_set(drawn(six, units=[6])))
-say("6 buses, Z at 6", observed_set(drawn(six, zero=[6])))
-say("6 buses, line 1 to 6", observed_set(drawn(six, lines=[(1, 6)])))
-say("6 buses, line 6 to 6", observed_set(drawn(six, lines=[(6, 6)])))
-say("6 buses, line 1 to 6 seen from 1 alone", observed_set(drawn(six, half=[(1, 6)])))
-say("6 buses, line 1 to 6 seen from 6 alone", observed_set(drawn(six, half=[(6, 1)])))
-say("0 buses", observed_set(blank(0)))
-say("1 bus", observed_set(drawn(blank(1), units=[1])))
-say("64 buses, unit at 64", observed_set(drawn(blank(64), units=[64])))
-say("65 buses", observed_set(blank(65)))
+observed_set("6 buses, unit at 6", drawn(six, units=[6]))
+observed_set("6 buses, Z at 6", drawn(six, zero=[6]))
+observed_set("6 buses, line 1 to 6", drawn(six, lines=[(1, 6)]))
+observed_set("6 buses, line 6 to 6", drawn(six, lines=[(6, 6)]))
+observed_set("6 buses, line 1 to 6 seen from 1 alone", drawn(six, half=[(1, 6)]))
+observed_set("6 buses, line 1 to 6 seen from 6 alone", drawn(six, half=[(6, 1)]))
+observed_set("0 buses", blank(0))
+observed_set("1 bus", drawn(blank(1), units=[1]))
+observed_set("64 buses, unit at 64", drawn(blank(64), units=[64]))
+observed_set("65 buses", blank(65))
 for b in (7, 64):
-    say("6 buses, unit at %d" % b, observed_set(drawn(six, units=[b])))
+    observed_set("6 buses, unit at %d" % b, drawn(six, units=[b]))
 for b in (7, 64):
-    say("6 buses, Z at %d" % b, observed_set(drawn(six, zero=[b])))
+    observed_set("6 buses, Z at %d" % b, drawn(six, zero=[b]))
 for b in (7, 64):
-    say("6 buses, site Y at %d" % b, observed_set(drawn(six, site=[b])))
-say("6 buses, line 1 to 7", observed_set(drawn(six, lines=[(1, 7)])))
-say("6 buses, line 7 to 64", observed_set(drawn(six, lines=[(7, 64)])))
-say("6 buses, line 7 to 1 seen from 7 alone", observed_set(drawn(six, half=[(7, 1)])))
-say("63 buses, unit at 64", observed_set(drawn(blank(63), units=[64])))
+    observed_set("6 buses, site Y at %d" % b, drawn(six, site=[b]))
+observed_set("6 buses, line 1 to 7", drawn(six, lines=[(1, 7)]))
+observed_set("6 buses, line 7 to 64", drawn(six, lines=[(7, 64)]))
+observed_set("6 buses, line 7 to 1 seen from 7 alone", drawn(six, half=[(7, 1)]))
+observed_set("63 buses, unit at 64", drawn(blank(63), units=[64]))

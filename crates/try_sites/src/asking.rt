@@ -52,7 +52,7 @@ fn greedy(case: Case, budget: usize, count: usize) {
     greedy_into_first(case, budget, &mut room, count);
 }
 
-// The calls that the first letter of the name says: v, g or f, or any other for all three.
+// The calls that the letter says: v, g or f, or any other for all three.
 fn ask(letter: u8, case: Case, budget: usize, room: usize) {
     if letter != b'g' && letter != b'f' {
         verdict(case);
@@ -66,12 +66,10 @@ fn ask(letter: u8, case: Case, budget: usize, room: usize) {
 }
 
 // What is asked of the case of a text; of a text that says none, the case value is one with no buses.
-pub fn answer(name: &[u8], budget: usize, room: usize, case: &[u8]) {
+pub fn answer(name: &[u8], letter: u8, budget: usize, room: usize, case: &[u8]) {
     let r = wozgrzyt::texts::read_case(case);
     text(name);
     text(b":");
-    if 0 < name.len() {
-        ask(name[0], r.case, budget, room);
-    }
+    ask(letter, r.case, budget, room);
     text(b"\n");
 }

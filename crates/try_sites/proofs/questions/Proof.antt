@@ -1,15 +1,14 @@
 use borrow.Author.Needs.{needs}
 use Prim.Native.Nat.{_-_, _≤_}
-use native.Mathlib.Omega.{arith}
 use lib.ListN.{length}
 use Rattle.try_sites.proofs.questions.Statement.{statement}
 use Rattle.try_sites.proofs.questions.Tie as tie
 
 abbrev Inv-loop : tie.InvT-loop
-Inv-loop text a₀ a = a ≤ length text
+Inv-loop text at₀ at = at ≤ length text
 
 abbrev μ-loop : tie.MeasureT-loop
-μ-loop text a₀ a = length text - a
+μ-loop text at₀ at = length text - at
 
 loop-holds : tie.Need-loop-holds Inv-loop μ-loop
 loop-holds c = search needs
@@ -18,7 +17,7 @@ question-requires : tie.Need-question-requires Inv-loop μ-loop
 question-requires c κs = search needs
 
 loop-less : tie.Need-loop-less Inv-loop μ-loop
-loop-less c = omega (arith, c .question .ensures .some (c .before .loop-test .taken))
+loop-less c = search needs
 
 loop-again : tie.Need-loop-again Inv-loop μ-loop
 loop-again c = search needs
