@@ -33,7 +33,6 @@ use Rattle.reader.specs.declared.ReadAnswer.{ReadAnswer}
 use Rattle.reader.specs.declared.ReadAnswer.the-variants.{Read, Refused}
 use Rattle.reader.proofs.Refusing.{read-place}
 use Rattle.inverse.proofs.Inverse.{read-valid}
-use Rattle.writer.specs.Printing.{RefusedText}
 use Rattle.dayreport.specs.Day.{dayText, IsDay, DayReport, DayFor, Day}
 use Rattle.dayreport.specs.Listing.{Named}
 

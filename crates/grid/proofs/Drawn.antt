@@ -1,17 +1,17 @@
 -- A test, which the checker computes, that a case value that is written out is valid: 0 where it passes.
-use mathlib.Core.Path.{_≡_, sym, ap, _∙_}
+use mathlib.Core.Path.{_≡_, ap}
 use mathlib.Core.Logic.{⊎-elim}
 use Prim.Native.Nat.{ℕ, zero, suc, _+_, _-_, _^_, _≤_, _<_}
 use native.Mathlib.Omega.{arith}
 use lib.ListN.{length}
-use Rattle.busset.specs.Sets.{Bus, bit, In, Within, empty, setOf}
+use Rattle.busset.specs.Sets.{Bus, bit, In, Within, setOf}
 use Rattle.busset.proofs.Tests.{below-or}
 use Rattle.busset.proofs.Digits.{bit-in, bit-zero}
 use Rattle.busset.proofs.Words.{set-bus}
-use Rattle.rules.specs.Grids.{Grid, Line, Proper, total, lineCount}
+use Rattle.rules.specs.Grids.{total, lineCount}
 use Rattle.rules.proofs.Tests.{gap, gap-none, total-none}
 use Rattle.grid.specs.declared.Case.{Case}
-use Rattle.grid.specs.Cases.{mostBuses, mostLines, neighbours, gridOf, Valid}
+use Rattle.grid.specs.Cases.{mostBuses, mostLines, neighbours, Valid}
 use Rattle.grid.proofs.Rows.{row-zero, row-past, row-bus}
 
 -- the buses of the word are 1 to n

@@ -1,9 +1,8 @@
 -- The case value: the grid that it says, and when it is valid.
-use mathlib.Core.Path.{_≡_}
 use mathlib.Core.List.{List, _∷_}
 use Prim.Native.Nat.{ℕ, _≤_}
 use lib.ListN.{getD}
-use Rattle.busset.specs.Sets.{Bus, In, Within, setOf}
+use Rattle.busset.specs.Sets.{Bus, In, setOf}
 use Rattle.rules.specs.Grids.{Grid, Line, Proper, lineCount}
 use Rattle.grid.specs.declared.Case.{Case}
 

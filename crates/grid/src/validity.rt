@@ -1,9 +1,9 @@
 // Whether a case value is valid: what refusal 5 does not refuse.
 ghost use mathlib.Core.Path.{_≡_};
-ghost use Prim.Native.Nat.{ℕ, _≤_};
+ghost use Prim.Native.Nat.{_≤_};
 ghost use lib.ListN.{length};
 ghost use Rattle.busset.specs.Deciding.{Decides};
-ghost use Rattle.busset.specs.Sets.{Bus, In, width};
+ghost use Rattle.busset.specs.Sets.{Bus, width};
 ghost use Rattle.rules.specs.Grids.{Line, lineCount};
 ghost use Rattle.grid.specs.Cases.{neighbours, Valid, Lines, LinesAt};
 use crate::Case;

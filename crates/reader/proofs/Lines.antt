@@ -9,7 +9,7 @@ use borrow.Author.Tests.{lt-ltb, le-ltb}
 use lib.Dec.{eqb}
 use lib.ListN.{length, getD, drop, drop-of-length-le}
 use lib.Seq.{drop-cons}
-use Rattle.field.specs.Split.{split, part, after, PieceEnd}
+use Rattle.field.specs.Split.{split, part, PieceEnd}
 use Rattle.field.proofs.Cutting.{after-none, after-some}
 use Rattle.record.specs.Record.{recordOf}
 use Rattle.record.specs.declared.Record.{Record}

@@ -3,7 +3,7 @@ ghost use mathlib.Core.Path.{_≡_};
 ghost use Prim.Native.Nat.{_+_, _<_, _≤_};
 ghost use lib.ListN.{length, drop};
 ghost use Rattle.field.specs.Split.{split};
-ghost use Rattle.reader.specs.Reading.{mostBytes, next, caseOf, refused, closed, readText, readCase};
+ghost use Rattle.reader.specs.Reading.{mostBytes, caseOf, refused, closed, readText, readCase};
 
 pub mod building;
 pub mod judging;

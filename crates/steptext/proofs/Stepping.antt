@@ -7,7 +7,7 @@ use native.Mathlib.Numerals.{add-one}
 use native.Mathlib.Omega.{arith}
 use borrow.Author.Tests.{lt-ltb, le-ltb}
 use lib.ListN.{length, drop}
-use Rattle.field.specs.Split.{split, part, after, PieceEnd}
+use Rattle.field.specs.Split.{split, part, PieceEnd}
 use Rattle.field.proofs.Cutting.{after-none, after-some}
 use Rattle.step.specs.declared.Step.{Step}
 use Rattle.record.specs.StepLine.{stepLineOf}

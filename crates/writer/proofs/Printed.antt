@@ -30,6 +30,14 @@ not-printed {t = t} asked p more = record { text = t; asked = asked; more = omeg
 pub printed-within : {P : List ℕ → Type 0} {lent left : List ℕ} {k : ℕ} → Printed P lent left k → k ≤ length left
 printed-within {lent = lent} p = omega (arith, p .count, ap length (p .written), length-append (p .text) (drop (length (p .text)) lent))
 
+-- a reply by its variant; and where there is room for every text that P asks for, it is no refusal
+module _ {P : List ℕ → Type 0} (lent left : List ℕ) {r : Written} where
+  pub in-bytes : {k : ℕ} → r ≡ Bytes k → PrintedReply P lent left r → Printed P lent left k
+  in-bytes e p = rw e at p
+
+  pub no-refusal : {A : Type 0} {q : Refusal} → r ≡ Refused q → PrintedReply P lent left r → ((t : List ℕ) → P t → length t ≤ length lent) → A
+  no-refusal e p fits = let n = rw e at p in absurd (omega (arith, n .more, fits (n .text) (n .asked)))
+
 -- where Q asks for every text that P asks for
 pub printed-by : {P Q : List ℕ → Type 0} → ((t : List ℕ) → P t → Q t) → (lent left : List ℕ) (r : Written) → PrintedReply P lent left r → PrintedReply Q lent left r
 printed-by f lent left (Bytes k) p = record { text = p .text; asked = f (p .text) (p .asked); room = p .room; count = p .count; written = p .written }

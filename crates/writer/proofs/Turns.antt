@@ -48,7 +48,7 @@ lines-cons : (r : Record) (rs : List Record) → linesText (r ∷ rs) ≡ lineTe
 unfolding linesText lineText
 lines-cons r rs = sym (append-assoc (recordText r) (10 ∷ []) (linesText rs))
 
-pub lines-append : (rs qs : List Record) → linesText (rs ++ qs) ≡ linesText rs ++ linesText qs
+lines-append : (rs qs : List Record) → linesText (rs ++ qs) ≡ linesText rs ++ linesText qs
 unfolding linesText
 lines-append [] qs = refl
 lines-append (r ∷ rs) qs = ap (λ (t : List ℕ). recordText r ++ 10 ∷ t) (lines-append rs qs) ∙ sym (append-assoc (recordText r) (10 ∷ linesText rs) (linesText qs))
@@ -57,7 +57,7 @@ pub line-length : (r : Record) → length (lineText r) ≤ 15
 unfolding lineText
 line-length r = simp length-append (omega (arith, record-length r))
 
-pub lined-length : (t : Bool) (r : Record) → length (cond t (lineText r) []) ≤ 15
+lined-length : (t : Bool) (r : Record) → length (cond t (lineText r) []) ≤ 15
 lined-length true r = line-length r
 lined-length false r = omega arith
 
@@ -67,6 +67,7 @@ lined-length false r = omega arith
 unfoldable pub rest : (ℕ → ℕ → List Record) → ℕ → ℕ → List ℕ
 rest recs n b = linesText (recs b (n + 1 - b))
 
+-- before the turn of bus b: the text from b on is left, and k is no further than the buses below b can reach
 pub record Turn (recs : ℕ → ℕ → List Record) (most first count n : ℕ) (l : List ℕ) (at end : ℕ) (m : List ℕ) (k b : ℕ) : Type 0 where
   pub low : first ≤ b
   pub high : b ≤ end
@@ -80,7 +81,7 @@ module _ {recs : ℕ → ℕ → List Record} {most first count n : ℕ} {l : Li
   turn-first h e =
       record { low = omega arith; high = h; last = refl; near = omega arith; left = left-none (ap (λ (x : ℕ). linesText (recs first x)) e) }
 
-  pub turn-next : {end k b q : ℕ} {m t o : List ℕ} → Turn recs most first count n l at end m k b → b < end →
+  turn-next : {end k b q : ℕ} {m t o : List ℕ} → Turn recs most first count n l at end m k b → b < end →
       linesText (recs b (suc (n - b))) ≡ t ++ linesText (recs (b + 1) (n - b)) → length t ≤ most → Put m k t o q → Turn recs most first count n l at end o q (b + 1)
   unfolding rest
   turn-next {end} {k} {b} {q} {m} {t} {o} w h e s p =
@@ -137,9 +138,4 @@ lines-last e = refl
 
 pub whole : (r e : Record) (B L U : List Record) →
     lineText r ++ (linesText B ++ (linesText L ++ (linesText U ++ lineText e))) ≡ linesText (r ∷ (B ++ (L ++ (U ++ e ∷ []))))
-whole r e B L U =
-    sym
-    (lines-cons r (B ++ (L ++ (U ++ e ∷ []))) ∙ ap (λ (t : List ℕ). lineText r ++ t)
-    (lines-append B (L ++ (U ++ e ∷ [])) ∙ ap (λ (t : List ℕ). linesText B ++ t)
-    (lines-append L (U ++ e ∷ []) ∙ ap (λ (t : List ℕ). linesText L ++ t)
-    (lines-append U (e ∷ []) ∙ ap (λ (t : List ℕ). linesText U ++ t) (lines-last e)))))
+whole r e B L U = rw (lines-cons r, lines-append B, lines-append L, lines-append U, lines-last)

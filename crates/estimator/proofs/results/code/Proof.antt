@@ -14,7 +14,7 @@ number-requires : tie.Need-number-requires
 number-requires c κs = search needs
 
 mul-result : tie.Need-mul-result
-mul-result c = omega (arith, code-small (c .before .before .args .q) (c .before .before .pre))
+mul-result c = search needs
 
 add-result : tie.Need-add-result
 add-result c = omega (arith, code-small (c .before .before .args .q) (c .before .before .pre))

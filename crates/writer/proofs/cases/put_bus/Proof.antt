@@ -10,7 +10,7 @@ has-requires-2 : tie.Need-has-requires-2
 has-requires-2 c κs = search needs
 
 put-line-requires : tie.Need-put-line-requires
-put-line-requires c κs = (search needs, search needs)
+put-line-requires c κs = search needs
 
 same-length : tie.Need-same-length
 same-length c = search needs
