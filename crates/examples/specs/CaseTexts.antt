@@ -18,12 +18,13 @@ use Rattle.reader.specs.declared.Verdict.{Verdict}
 use Rattle.reader.specs.declared.Verdict.the-variants.{Next, Last, Form, Range, Order}
 use Rattle.starred.specs.Table.{caseOf, seven, path}
 use Rattle.examples.specs.Tables.{Right, Reads, block}
+use Rattle.examples.specs.Drawings.{value}
 
 -- ---- whole texts
 
--- document 01's input of the day report, up to its lines
-abbrev pub sevenLines : List String
-sevenLines =
+-- document 01's input of the day report: `grid` and every `bus`
+abbrev pub sevenBuses : List String
+sevenBuses =
     "grid 7"
     ∷ "bus 1 I Y"
     ∷ "bus 2 Z Y"
@@ -32,21 +33,19 @@ sevenLines =
     ∷ "bus 5 Z Y"
     ∷ "bus 6 I Y"
     ∷ "bus 7 I Y"
-    ∷ "line 1 2"
-    ∷ "line 2 3"
-    ∷ "line 3 4"
-    ∷ "line 3 7"
-    ∷ "line 4 5"
-    ∷ "line 5 6"
     ∷ []
+
+-- every `line`
+abbrev pub sevenLines : List String
+sevenLines = "line 1 2" ∷ "line 2 3" ∷ "line 3 4" ∷ "line 3 7" ∷ "line 4 5" ∷ "line 5 6" ∷ []
 
 -- and all of it
 abbrev pub input : List String
-input = sevenLines ++ "pmu 3" ∷ "end" ∷ []
+input = sevenBuses ++ (sevenLines ++ "pmu 3" ∷ "end" ∷ [])
 
 -- the same grid with no units
 abbrev pub bareInput : List String
-bareInput = sevenLines ++ "end" ∷ []
+bareInput = sevenBuses ++ (sevenLines ++ "end" ∷ [])
 
 -- the path 1-2-3-4-5, only 3 is Z, units at 1 and 5
 abbrev pub pathInput : List String
@@ -60,7 +59,7 @@ oneInput = "grid 1" ∷ "bus 1 Z N" ∷ "pmu 1" ∷ "end" ∷ []
 
 -- its case
 abbrev pub oneCase : Case
-oneCase = record { n = 1; nbr = replicate 64 0; zero = 1; site = 0; units = 1 }
+oneCase = value 1 [] (1 ∷ []) [] (1 ∷ [])
 
 -- texts, and the case that each gives
 abbrev pub cases : List (List ℕ × CaseRead)
@@ -69,6 +68,8 @@ cases =
     ∷ (block bareInput, got (caseOf (seven [])))
     ∷ (block pathInput, got (caseOf path))
     ∷ (block oneInput, got oneCase)
+    -- a refusal has no case beside it
+    ∷ (bytes "", record { answer = Refused (WrongForm 1); case = value 0 [] [] [] [] })
     ∷ []
 
 -- every row is right
@@ -118,11 +119,7 @@ whole =
 abbrev pub WholeRight : Type 0
 WholeRight = Reads (λ s. readCase s .answer) whole
 
--- the seven-bus grid's first eight lines, `grid` and every `bus`
-abbrev pub buses : List ℕ
-buses = block ("grid 7" ∷ "bus 1 I Y" ∷ "bus 2 Z Y" ∷ "bus 3 Z Y" ∷ "bus 4 I Y" ∷ "bus 5 Z Y" ∷ "bus 6 I Y" ∷ "bus 7 I Y" ∷ [])
-
--- how a text goes on after them, from line 9 on
+-- how a text goes on after the seven-bus grid's `grid` and every `bus`, from line 9 on
 abbrev pub later : List (String × ReadAnswer)
 later =
     ("end\n", Read)
@@ -160,7 +157,7 @@ later =
 
 -- every row is right
 abbrev pub LaterRight : Type 0
-LaterRight = Right (λ s. readCase (buses ++ bytes s) .answer) later
+LaterRight = Right (λ s. readCase (block sevenBuses ++ bytes s) .answer) later
 
 -- line feeds alone: 8,192 of them are 2 at line 1, one more is 1
 abbrev pub limits : List (ℕ × ReadAnswer)
