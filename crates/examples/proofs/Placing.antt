@@ -25,7 +25,7 @@ use Rattle.starred.specs.Table.{caseOf, seven}
 use Rattle.examples.proofs.Rows.{_&_}
 use Rattle.examples.proofs.Computed.{known}
 use Rattle.examples.specs.Tables.{AllRight}
-use Rattle.examples.specs.Drawings.{set, grid, sevenGrid, value, apart, barred}
+use Rattle.examples.specs.Drawings.{set, grid, sevenGrid, value, apart, barred, trio, hub}
 use Rattle.examples.specs.Placing as tables
 
 -- ---- additions
@@ -140,6 +140,7 @@ pub record Placed : Type 0 where
   pub fewest1 : SomePlan (sevenGrid []) 1 → ⊥
   pub fewest2 : Fewest (sevenGrid []) 2 (set (1 ∷ 4 ∷ []))
   pub fewest3 : Fewest (sevenGrid []) 3 (set (1 ∷ 4 ∷ []))
+  pub hub4 : Fewest (grid hub) 3 (set (4 ∷ []))
   pub beside14 : Fewest (sevenGrid (1 ∷ 4 ∷ [])) 0 (set [])
   pub beside4 : Fewest (sevenGrid (4 ∷ [])) 1 (set (1 ∷ []))
   pub barred2 : Fewest (barred []) 1 (set (2 ∷ []))
@@ -147,6 +148,7 @@ pub record Placed : Type 0 where
   pub greedy3 : Greedy (sevenGrid []) 3 (3 ∷ 4 ∷ [])
   pub covered : NoneAdds (sevenGrid (1 ∷ 4 ∷ []))
   pub tie : Greedy (grid (apart [])) 1 (1 ∷ [])
+  pub observed2 : Greedy (grid (trio (1 ∷ []))) 1 (2 ∷ [])
   pub greedyBarred : Greedy (barred []) 1 (2 ∷ [])
 
 pub known-places : Placed
@@ -155,6 +157,7 @@ known-places = record {
   fewest1 = found (caseOf (seven [])) 1 none refl refl;
   fewest2 = found (caseOf (seven [])) 2 (some (set (1 ∷ 4 ∷ []))) refl refl;
   fewest3 = found (caseOf (seven [])) 3 (some (set (1 ∷ 4 ∷ []))) refl refl;
+  hub4 = found (caseOf hub) 3 (some (set (4 ∷ []))) refl refl;
   beside14 = found (caseOf (seven (1 ∷ 4 ∷ []))) 0 (some (set [])) refl refl;
   beside4 = found (caseOf (seven (4 ∷ []))) 1 (some (set (1 ∷ []))) refl refl;
   barred2 = found (value 2 ((2 ∷ []) ∷ (1 ∷ []) ∷ []) [] (2 ∷ []) []) 1 (some (set (2 ∷ []))) refl refl;
@@ -162,6 +165,7 @@ known-places = record {
   greedy3 = adds (caseOf (seven [])) 3 (3 ∷ 4 ∷ []) refl refl;
   covered = adds (caseOf (seven (1 ∷ 4 ∷ []))) 1 [] refl refl;
   tie = adds (caseOf (apart [])) 1 (1 ∷ []) refl refl;
+  observed2 = adds (caseOf (trio (1 ∷ []))) 1 (2 ∷ []) refl refl;
   greedyBarred = adds (value 2 ((2 ∷ []) ∷ (1 ∷ []) ∷ []) [] (2 ∷ []) []) 1 (2 ∷ []) refl refl;
 }
 
@@ -177,6 +181,8 @@ fewest-right =
     & fewest-some (known-places .fewest2)
     & known-places .fewest1
     & (λ h. known-places .fewest1 (fewest-some h))
+    & known-places .hub4
+    & (λ h. omega (arith, fewest-set-unique (known-places .hub4) h))
     & known-places .beside14
     & known-places .beside4
     & known-places .barred2
@@ -206,6 +212,7 @@ best-right =
     & (λ h. omega (arith, best-unique (known-places .greedy2 .0) h))
     & known-places .tie .0
     & (λ h. omega (arith, best-unique (known-places .tie .0) h))
+    & known-places .observed2 .0
     & known-places .greedyBarred .0
     & (λ h. omega (arith, known-places .covered 2 (h .before) (h .after) (h .observed) (h .with), h .adds))
     & known-places .covered
