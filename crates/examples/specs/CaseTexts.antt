@@ -8,7 +8,9 @@ use Rattle.record.specs.declared.Record.{Record}
 use Rattle.record.specs.declared.Record.the-variants.{Grid, Line, Pmu, End, Wrong}
 use Rattle.grid.specs.declared.Case.{Case}
 use Rattle.grid.specs.declared.refusal.Refusal.the-variants.{TextTooLong, WrongForm, OutOfRange, OutOfOrder}
-use Rattle.reader.specs.Reading.{verdict, readCase, got}
+use Rattle.reader.specs.Building.{withLine}
+use Rattle.reader.specs.Reading.{start, verdict, readCase, got}
+use Rattle.inverse.specs.Grammar as grammar
 use Rattle.reader.specs.Writing.{caseText}
 use Rattle.reader.specs.declared.CaseRead.{CaseRead}
 use Rattle.reader.specs.declared.Place.{Place}
@@ -17,7 +19,7 @@ use Rattle.reader.specs.declared.ReadAnswer.the-variants.{Read, Refused}
 use Rattle.reader.specs.declared.Verdict.{Verdict}
 use Rattle.reader.specs.declared.Verdict.the-variants.{Next, Last, Form, Range, Order}
 use Rattle.starred.specs.Table.{caseOf, seven, path}
-use Rattle.examples.specs.Tables.{Right, Reads, block}
+use Rattle.examples.specs.Tables.{Right, Reads, Row, holds, fails, block}
 use Rattle.examples.specs.Drawings.{value}
 
 -- ---- whole texts
@@ -83,6 +85,22 @@ texts = (caseOf (seven (3 ∷ [])), block input) ∷ (caseOf path, block pathInp
 -- every row is right
 abbrev pub TextsRight : Type 0
 TextsRight = Right caseText texts
+
+-- the texts that the order of records allows from the start on, and texts that it does not
+abbrev pub allowed : List Row
+allowed =
+    holds (grammar.Reads start (block oneInput) oneCase)
+    ∷ fails (grammar.Reads start (bytes "end\n") (value 0 [] [] [] []))
+    ∷ fails (grammar.Reads start (block ("grid 1" ∷ "pmu 1" ∷ "bus 1 Z N" ∷ "end" ∷ [])) oneCase)
+    ∷ []
+
+-- a line of three buses, and the rows with it: each end has the other
+abbrev pub wired : List ((ℕ × ℕ) × List ℕ)
+wired = ((1, 3), 4 ∷ 0 ∷ 1 ∷ []) ∷ ((1, 2), 2 ∷ 1 ∷ 0 ∷ []) ∷ []
+
+-- every row is right
+abbrev pub WiredRight : Type 0
+WiredRight = Right (λ q. withLine (0 ∷ 0 ∷ 0 ∷ []) (q .0) (q .1)) wired
 
 -- ---- refusals
 
