@@ -17,7 +17,7 @@ use Rattle.examples.specs.Tables.{AllRight}
 use Rattle.examples.specs.Grids.{crowd, most}
 
 -- a number below 2 ^ k has its ones among the lowest k digits
-ones-in : (k n : ℕ) → n < 2 ^ k → size n ≡ onesIn k n
+pub ones-in : (k n : ℕ) → n < 2 ^ k → size n ≡ onesIn k n
 unfolding onesIn
 ones-in zero n l = ap size (let e : n ≡ 0 = omega arith in e) ∙ size-empty
 ones-in (suc k) n l = ones-step n ∙ ap (λ (x : ℕ). n % 2 + x) (ones-in k (n / 2) (half-lt k l))

@@ -58,6 +58,7 @@ valid-right =
     & (λ v. omega (arith, v .proper .lines 1 2 refl .back))
     & (λ v. v .proper .lines 1 1 refl .differ refl)
     & (λ v. omega (arith, v .proper .lines 1 3 refl .to .most))
+    & (λ v. omega (arith, v .proper .lines 3 4 refl .from .most))
     & (λ v. omega (arith, v .proper .units 3 refl .most))
     & (λ v. omega (arith, v .proper .zeros 3 refl .most))
     & (λ v. omega (arith, v .proper .sites 3 refl .most))

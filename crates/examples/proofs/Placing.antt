@@ -6,12 +6,12 @@ use Prim.Native.Nat.{ℕ, _+_, _≤_, _<_}
 use native.Mathlib.Omega.{arith}
 use lib.Count.{ones, onesIn}
 use lib.ListN.{getD}
-use Rattle.busset.specs.Sets.{add, lack, less, meet, upTo, setOf}
+use Rattle.busset.specs.Sets.{add, lack, less, upTo, setOf}
 use Rattle.busset.proofs.Members.{lack-at}
 use Rattle.busset.proofs.Words.{all-law}
 use Rattle.rules.specs.Grids.{Grid, total}
 use Rattle.rules.specs.Placing.{Full, Covers, Free, placed, Plan, Before, Earlier, Fewest, SomePlan}
-use Rattle.rules.specs.Choosing.{With, Best, NoneAdds, Greedy}
+use Rattle.rules.specs.Choosing.{With, NoneAdds, Greedy}
 use Rattle.rules.proofs.Choices.{best-unique, greedy-unique}
 use Rattle.rules.proofs.Covering.{covers-full, full-covers}
 use Rattle.rules.proofs.Leasts.{least-unique}
@@ -25,7 +25,7 @@ use Rattle.starred.specs.Table.{caseOf, seven}
 use Rattle.examples.proofs.Rows.{_&_}
 use Rattle.examples.proofs.Computed.{known}
 use Rattle.examples.specs.Tables.{AllRight}
-use Rattle.examples.specs.Drawings.{set, grid, sevenGrid, value, apart, barred}
+use Rattle.examples.specs.Drawings.{set, grid, sevenGrid, value, apart, barred, trio, hub}
 use Rattle.examples.specs.Placing as tables
 
 -- ---- additions
@@ -124,43 +124,70 @@ earlier-right =
     & inr (refl, inr (refl, inr (refl, tt)))
     & tt
 
--- ---- the fewest
+-- ---- the fewest and greedy, computed
 
 -- what the search finds on a valid case
 found : (c : Case) (budget : ℕ) (a : Sought) → validTest c ≡ 0 → smallest (gridOf c) (lack (gridOf c .site) (gridOf c .units)) (budget + 1) 0 ≡ a → PlanIs (gridOf c) budget a
 found c budget a v e =
     fewest-passes (gridOf c) (valid-passes c v .proper) (lack (gridOf c .site) (gridOf c .units)) (record { at = lack-at (gridOf c .site) (gridOf c .units) }) budget a e
 
--- on the seven buses without units: none within 1, and 1, 4 within 2 or 3
-pub fewest1 : SomePlan (sevenGrid []) 1 → ⊥
-unfolding validTest withinTest rowTest leastTest acceptedTest holdsTest closedTest subTest isOne gap given total neighbours setOf upTo less lack meet add ones onesIn pick reasonFor reasonAt stepFor passFrom extended derive after judged judge orElse choose seek firstOf smallest
-fewest1 = found (caseOf (seven [])) 1 none refl refl
+-- what greedy adds on a valid case
+adds : (c : Case) (budget : ℕ) (xs : List ℕ) → validTest c ≡ 0 → greedyTest (gridOf c) budget xs ≡ 0 → Greedy (gridOf c) budget xs
+adds c budget xs v e = greedy-passes (gridOf c) budget xs (valid-passes c v .proper) e
 
-pub fewest2 : Fewest (sevenGrid []) 2 (set (1 ∷ 4 ∷ []))
-unfolding validTest withinTest rowTest leastTest acceptedTest holdsTest closedTest subTest isOne gap given total neighbours setOf upTo less lack meet add ones onesIn pick reasonFor reasonAt stepFor passFrom extended derive after judged judge orElse choose seek firstOf smallest
-fewest2 = found (caseOf (seven [])) 2 (some (set (1 ∷ 4 ∷ []))) refl refl
+-- those that the tables speak of
+pub record Placed : Type 0 where
+  pub fewest1 : SomePlan (sevenGrid []) 1 → ⊥
+  pub fewest2 : Fewest (sevenGrid []) 2 (set (1 ∷ 4 ∷ []))
+  pub fewest3 : Fewest (sevenGrid []) 3 (set (1 ∷ 4 ∷ []))
+  pub hub4 : Fewest (grid hub) 3 (set (4 ∷ []))
+  pub beside14 : Fewest (sevenGrid (1 ∷ 4 ∷ [])) 0 (set [])
+  pub beside4 : Fewest (sevenGrid (4 ∷ [])) 1 (set (1 ∷ []))
+  pub barred2 : Fewest (barred []) 1 (set (2 ∷ []))
+  pub greedy2 : Greedy (sevenGrid []) 2 (3 ∷ 4 ∷ [])
+  pub greedy3 : Greedy (sevenGrid []) 3 (3 ∷ 4 ∷ [])
+  pub covered : NoneAdds (sevenGrid (1 ∷ 4 ∷ []))
+  pub tie : Greedy (grid (apart [])) 1 (1 ∷ [])
+  pub observed2 : Greedy (grid (trio (1 ∷ []))) 1 (2 ∷ [])
+  pub greedyBarred : Greedy (barred []) 1 (2 ∷ [])
+
+pub known-places : Placed
+unfolding validTest withinTest rowTest leastTest acceptedTest holdsTest closedTest subTest isOne gap given total neighbours setOf upTo less lack add ones onesIn pick reasonFor reasonAt stepFor passFrom extended derive after judged judge orElse choose seek firstOf smallest noBetter bestTest noneTest greedyTest
+known-places = record {
+  fewest1 = found (caseOf (seven [])) 1 none refl refl;
+  fewest2 = found (caseOf (seven [])) 2 (some (set (1 ∷ 4 ∷ []))) refl refl;
+  fewest3 = found (caseOf (seven [])) 3 (some (set (1 ∷ 4 ∷ []))) refl refl;
+  hub4 = found (caseOf hub) 3 (some (set (4 ∷ []))) refl refl;
+  beside14 = found (caseOf (seven (1 ∷ 4 ∷ []))) 0 (some (set [])) refl refl;
+  beside4 = found (caseOf (seven (4 ∷ []))) 1 (some (set (1 ∷ []))) refl refl;
+  barred2 = found (value 2 ((2 ∷ []) ∷ (1 ∷ []) ∷ []) [] (2 ∷ []) []) 1 (some (set (2 ∷ []))) refl refl;
+  greedy2 = adds (caseOf (seven [])) 2 (3 ∷ 4 ∷ []) refl refl;
+  greedy3 = adds (caseOf (seven [])) 3 (3 ∷ 4 ∷ []) refl refl;
+  covered = adds (caseOf (seven (1 ∷ 4 ∷ []))) 1 [] refl refl;
+  tie = adds (caseOf (apart [])) 1 (1 ∷ []) refl refl;
+  observed2 = adds (caseOf (trio (1 ∷ []))) 1 (2 ∷ []) refl refl;
+  greedyBarred = adds (value 2 ((2 ∷ []) ∷ (1 ∷ []) ∷ []) [] (2 ∷ []) []) 1 (2 ∷ []) refl refl;
+}
+
+-- ---- the fewest
 
 pub fewest-right : AllRight tables.fewest
-unfolding validTest withinTest rowTest leastTest acceptedTest holdsTest closedTest subTest isOne gap given total neighbours setOf upTo less lack meet add ones onesIn pick reasonFor reasonAt stepFor passFrom extended derive after judged judge orElse choose seek firstOf smallest
+unfolding setOf
 fewest-right =
-    fewest2
-    & fewest3
-    & (λ h. omega (arith, fewest-set-unique fewest2 h))
-    & (λ h. omega (arith, fewest-set-unique fewest3 h))
-    & fewest-some fewest2
-    & fewest1
-    & (λ h. fewest1 (fewest-some h))
-    & found (caseOf (seven (1 ∷ 4 ∷ []))) 0 (some (set [])) refl refl
-    & found (caseOf (seven (4 ∷ []))) 1 (some (set (1 ∷ []))) refl refl
-    & barred2
-    & (λ h. omega (arith, fewest-set-unique barred2 h))
+    known-places .fewest2
+    & known-places .fewest3
+    & (λ h. omega (arith, fewest-set-unique (known-places .fewest2) h))
+    & (λ h. omega (arith, fewest-set-unique (known-places .fewest3) h))
+    & fewest-some (known-places .fewest2)
+    & known-places .fewest1
+    & (λ h. known-places .fewest1 (fewest-some h))
+    & known-places .hub4
+    & (λ h. omega (arith, fewest-set-unique (known-places .hub4) h))
+    & known-places .beside14
+    & known-places .beside4
+    & known-places .barred2
+    & (λ h. omega (arith, fewest-set-unique (known-places .barred2) h))
     & tt
-  where
-    fewest3 : Fewest (sevenGrid []) 3 (set (1 ∷ 4 ∷ []))
-    fewest3 = found (caseOf (seven [])) 3 (some (set (1 ∷ 4 ∷ []))) refl refl
-
-    barred2 : Fewest (barred []) 1 (set (2 ∷ []))
-    barred2 = found (value 2 ((2 ∷ []) ∷ (1 ∷ []) ∷ []) [] (2 ∷ []) []) 1 (some (set (2 ∷ []))) refl refl
 
 -- ---- greedy
 
@@ -178,53 +205,34 @@ with-right =
     & (λ h. omega (arith, h .free .site))
     & tt
 
--- what greedy adds on a valid case
-adds : (c : Case) (budget : ℕ) (xs : List ℕ) → validTest c ≡ 0 → greedyTest (gridOf c) budget xs ≡ 0 → Greedy (gridOf c) budget xs
-adds c budget xs v e = greedy-passes (gridOf c) budget xs (valid-passes c v .proper) e
+pub best-right : AllRight tables.best
+unfolding setOf ones onesIn
+best-right =
+    known-places .greedy2 .0
+    & (λ h. omega (arith, best-unique (known-places .greedy2 .0) h))
+    & known-places .tie .0
+    & (λ h. omega (arith, best-unique (known-places .tie .0) h))
+    & known-places .observed2 .0
+    & known-places .greedyBarred .0
+    & (λ h. omega (arith, known-places .covered 2 (h .before) (h .after) (h .observed) (h .with), h .adds))
+    & known-places .covered
+    & (λ h. omega (arith, h 3 _ _ (known .none .least) with3))
+    & tt
 
 -- of two lists that differ at some place, greedy adds only one
 not-greedy : (g : Grid) (budget i : ℕ) (xs ys : List ℕ) → Greedy g budget xs → (getD xs i 0 ≡ getD ys i 0 → ⊥) → Greedy g budget ys → ⊥
 not-greedy g budget i xs ys h ne k = ne (ap (λ (zs : List ℕ). getD zs i 0) (greedy-unique g budget xs ys h k))
 
--- 3 and 4 are added, and no site adds a bus where 1 and 4 have units
-pub greedy2 : Greedy (sevenGrid []) 2 (3 ∷ 4 ∷ [])
-unfolding validTest withinTest rowTest leastTest acceptedTest holdsTest closedTest subTest isOne gap given total neighbours setOf upTo less lack meet add ones onesIn pick reasonFor reasonAt stepFor passFrom extended derive noBetter bestTest noneTest greedyTest
-greedy2 = adds (caseOf (seven [])) 2 (3 ∷ 4 ∷ []) refl refl
-
-greedy3 : Greedy (sevenGrid []) 3 (3 ∷ 4 ∷ [])
-unfolding validTest withinTest rowTest leastTest acceptedTest holdsTest closedTest subTest isOne gap given total neighbours setOf upTo less lack meet add ones onesIn pick reasonFor reasonAt stepFor passFrom extended derive noBetter bestTest noneTest greedyTest
-greedy3 = adds (caseOf (seven [])) 3 (3 ∷ 4 ∷ []) refl refl
-
-covered : NoneAdds (sevenGrid (1 ∷ 4 ∷ []))
-unfolding validTest withinTest rowTest leastTest acceptedTest holdsTest closedTest subTest isOne gap given total neighbours setOf upTo less lack meet add ones onesIn pick reasonFor reasonAt stepFor passFrom extended derive noBetter bestTest noneTest greedyTest
-covered = adds (caseOf (seven (1 ∷ 4 ∷ []))) 1 [] refl refl
-
-pub best-right : AllRight tables.best
-unfolding validTest withinTest rowTest leastTest acceptedTest holdsTest closedTest subTest isOne gap given total neighbours setOf upTo less lack meet add ones onesIn pick reasonFor reasonAt stepFor passFrom extended derive noBetter bestTest noneTest greedyTest
-best-right =
-    greedy2 .0
-    & (λ h. omega (arith, best-unique (greedy2 .0) h))
-    & tie
-    & (λ h. omega (arith, best-unique tie h))
-    & adds (value 2 ((2 ∷ []) ∷ (1 ∷ []) ∷ []) [] (2 ∷ []) []) 1 (2 ∷ []) refl refl .0
-    & (λ h. omega (arith, covered 2 (h .before) (h .after) (h .observed) (h .with), h .adds))
-    & covered
-    & (λ h. omega (arith, h 3 _ _ (known .none .least) with3))
-    & tt
-  where
-    tie : Best (grid (apart [])) 1
-    tie = adds (caseOf (apart [])) 1 (1 ∷ []) refl refl .0
-
 pub greedy-right : AllRight tables.greedy
 greedy-right =
-    greedy2
-    & not-greedy (sevenGrid []) 2 0 (3 ∷ 4 ∷ []) (4 ∷ 3 ∷ []) greedy2 (λ e. omega arith)
-    & not-greedy (sevenGrid []) 2 0 (3 ∷ 4 ∷ []) (1 ∷ 4 ∷ []) greedy2 (λ e. omega arith)
-    & (greedy2 .0, tt)
+    known-places .greedy2
+    & not-greedy (sevenGrid []) 2 0 (3 ∷ 4 ∷ []) (4 ∷ 3 ∷ []) (known-places .greedy2) (λ e. omega arith)
+    & not-greedy (sevenGrid []) 2 0 (3 ∷ 4 ∷ []) (1 ∷ 4 ∷ []) (known-places .greedy2) (λ e. omega arith)
+    & (known-places .greedy2 .0, tt)
     & tt
     & (λ h. h .1)
-    & not-greedy (sevenGrid []) 2 1 (3 ∷ 4 ∷ []) (3 ∷ []) greedy2 (λ e. omega arith)
-    & greedy3
-    & covered
-    & not-greedy (sevenGrid (1 ∷ 4 ∷ [])) 2 0 [] (2 ∷ []) covered (λ e. omega arith)
+    & not-greedy (sevenGrid []) 2 1 (3 ∷ 4 ∷ []) (3 ∷ []) (known-places .greedy2) (λ e. omega arith)
+    & known-places .greedy3
+    & known-places .covered
+    & not-greedy (sevenGrid (1 ∷ 4 ∷ [])) 2 0 [] (2 ∷ []) (known-places .covered) (λ e. omega arith)
     & tt

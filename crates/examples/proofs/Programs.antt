@@ -41,7 +41,7 @@ use Rattle.examples.proofs.Steps.{is-derivation, no-steps}
 use Rattle.examples.proofs.Confirming as confirming
 use Rattle.examples.proofs.Replies.{invalid, named12}
 use Rattle.examples.proofs.Replies as replies
-use Rattle.examples.proofs.Placing.{fewest1, fewest2}
+use Rattle.examples.proofs.Placing.{known-places}
 use Rattle.examples.specs.Tables.{AllRight, block}
 use Rattle.examples.specs.Drawings.{set}
 use Rattle.examples.specs.CaseTexts.{input, bareInput}
@@ -49,40 +49,14 @@ use Rattle.examples.specs.Reports.{output}
 use Rattle.examples.specs.Steps.{derivation}
 use Rattle.examples.specs.Programs as tables
 
--- ---- the day report
+-- ---- the two programs
 
--- document 01's input and output
-day : Day (block input) (block output)
-unfolding readCase readText readLines verdict isBus isAfter pastBuses recordOf wordOf lineFields busFields markOf one none split same isDigit takes numberFrom numberOf held.hold held.wordOf add setOf stepsText stepText join digits ones onesIn
-day = record {
-  observed = set (1 ∷ 2 ∷ 3 ∷ 4 ∷ 7 ∷ []);
-  least = known .at3 .least;
-  steps = derivation;
-  derived = is-derivation;
-  unconfirmed = set (3 ∷ []);
-  verdict = confirming.itself;
-  is = refl;
-}
-
--- the same grid with no units
-day-none : Day (block bareInput) (bytes "observed\t0\t7\nxv\tyes\nend\n")
-unfolding readCase readText readLines verdict isBus isAfter pastBuses recordOf wordOf lineFields busFields markOf one none split same isDigit takes numberFrom numberOf held.hold held.wordOf add setOf stepsText stepText join digits ones onesIn
-day-none = record {
-  observed = set [];
-  least = known .none .least;
-  steps = [];
-  derived = no-steps;
-  unconfirmed = set [];
-  verdict = confirming.nobody;
-  is = refl;
-}
-
--- texts that differ at some byte are not both printed
+-- texts that differ at some byte are two
 other : (i : ℕ) (s t : List ℕ) → s ≡ t → (getD s i 0 ≡ getD t i 0 → ⊥) → ⊥
 other i s t e ne = ne (ap (λ (x : List ℕ). getD x i 0) e)
 
 pub days-right : AllRight tables.days
-unfolding readCase readText readLines verdict isBus isAfter pastBuses recordOf wordOf lineFields busFields markOf one none split same isDigit takes numberFrom numberOf held.hold held.wordOf add setOf refusedText join digits
+unfolding readCase readText readLines verdict isBus isAfter pastBuses recordOf wordOf lineFields busFields markOf one none split same isDigit takes numberFrom numberOf held.hold held.wordOf add setOf stepsText stepText refusedText join digits ones onesIn
 days-right =
     day
     & day-none
@@ -91,24 +65,42 @@ days-right =
     & (λ h. other 8 _ _ h (λ e. omega arith))
     & (λ h. other 0 _ _ (day-unique (block input) _ _ day h) (λ e. omega arith))
     & tt
+  where
+    day : Day (block input) (block output)
+    day = record {
+      observed = set (1 ∷ 2 ∷ 3 ∷ 4 ∷ 7 ∷ []);
+      least = known .at3 .least;
+      steps = derivation;
+      derived = is-derivation;
+      unconfirmed = set (3 ∷ []);
+      verdict = confirming.itself;
+      is = refl;
+    }
 
--- ---- the planning program
-
--- a budget above 8
-over : Plan (block ("plan 9" ∷ bareInput)) (bytes "refused\t10\t1\n")
-unfolding readPlan planLines budgetOf planFields readCase readText readLines verdict isBus isAfter pastBuses recordOf wordOf lineFields busFields markOf one none split same isDigit takes numberFrom numberOf held.hold held.wordOf add setOf refusedText join digits
-over = no-plan (OverBudget 1) (stop (λ h. omega arith) (itself _)) refl
+    day-none : Day (block bareInput) (bytes "observed\t0\t7\nxv\tyes\nend\n")
+    day-none = record {
+      observed = set [];
+      least = known .none .least;
+      steps = [];
+      derived = no-steps;
+      unconfirmed = set [];
+      verdict = confirming.nobody;
+      is = refl;
+    }
 
 pub plans-right : AllRight tables.plans
 unfolding readPlan planLines budgetOf planFields readCase readText readLines verdict isBus isAfter pastBuses recordOf wordOf lineFields busFields markOf one none split same isDigit takes numberFrom numberOf held.hold held.wordOf add setOf refusedText members linesText recordText join digits ones onesIn
 plans-right =
-    found (set (1 ∷ 4 ∷ [])) (omega arith, (fewest-some fewest2, tt)) fewest2 refl
-    & no-plan NoCover (omega arith then stop fewest1 (itself _)) refl
+    found (set (1 ∷ 4 ∷ [])) (omega arith, (fewest-some (known-places .fewest2), tt)) (known-places .fewest2) refl
+    & no-plan NoCover (omega arith then stop (known-places .fewest1) (itself _)) refl
     & over
     & (λ h. other 11 _ _ (plan-unique (block ("plan 9" ∷ bareInput)) _ _ over h) (λ e. omega arith))
     & refl
     & refl
     & tt
+  where
+    over : Plan (block ("plan 9" ∷ bareInput)) (bytes "refused\t10\t1\n")
+    over = no-plan (OverBudget 1) (stop (λ h. omega arith) (itself _)) refl
 
 -- ---- step texts
 
@@ -165,7 +157,7 @@ calls-right =
     & gives tables.lent (Set 9) (says (fewest.Sites 9) (replies.fewests-right .0))
     & gives tables.lent (Set 79) (says (replayed.Reached 79 true) (replays-right .0))
     & gives tables.lent (Refused (WrongForm 1)) refl
-    & gives tables.lent (Refused NoCover) (says (fewest.Refused NoCover) (known .none .valid then omega arith then stop fewest1 (itself _)))
+    & gives tables.lent (Refused NoCover) (says (fewest.Refused NoCover) (known .none .valid then omega arith then stop (known-places .fewest1) (itself _)))
     & gives tables.lent (Refused (OverBudget 0)) (says (fewest.Refused (OverBudget 0)) (known .none .valid then stop (λ h. omega arith) (itself _)))
     & gives tables.lent (Refused (OutOfRange 1)) refl
     & gives tables.lent (Refused (OutOfRange 1)) refl

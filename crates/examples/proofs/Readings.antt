@@ -1,20 +1,29 @@
 -- The tables of case texts, step texts and printed texts: each is computed.
-use mathlib.Core.Path.{refl}
+use mathlib.Core.Path.{refl, ap}
+use mathlib.Core.List.{List}
+use native.Mathlib.Omega.{arith}
 use lib.Count.{ones, onesIn}
+use lib.ListN.{length, getD}
 use Rattle.busset.specs.Sets.{add, setOf}
 use Rattle.busset.specs.Held as held
-use Rattle.field.specs.Split.{split, join, same}
+use Rattle.step.specs.Records.{noStep}
+use Rattle.step.specs.declared.Step.{Step}
+use Rattle.field.specs.Split.{split, join, same, lineFeed}
 use Rattle.field.specs.Number.{isDigit, takes, numberFrom, numberOf, digits}
 use Rattle.record.specs.Fields.{markOf, one, none}
 use Rattle.record.specs.Record.{wordOf, lineFields, busFields, recordOf, recordText}
 use Rattle.record.specs.StepLine.{letterOf, stepWordOf, reasonFields, stepFields, stepLineOf, stepText}
 use Rattle.grid.specs.Cases.{neighbours}
-use Rattle.reader.specs.Reading.{isBus, isAfter, pastBuses, verdict, readLines, readText, readCase}
+use Rattle.inverse.proofs.Grammars.{reads-read, not-got, read-reads}
+use Rattle.reader.specs.Reading.{start, isBus, isAfter, pastBuses, verdict, readLines, readText, readCase}
 use Rattle.reader.specs.Writing.{busRecords, members, lineRecords, linesText}
 use Rattle.steptext.specs.Steps.{stepInRange, stepLines, readSteps, stepsIn, stepsFrom}
+use Rattle.writer.specs.Put.{lineText}
 use Rattle.writer.specs.Printing.{refusedText}
 use Rattle.dayreport.specs.Day.{stepsText}
 use Rattle.planreport.specs.Plan.{planFields, budgetOf, planLines, readPlan}
+use Rattle.examples.proofs.Rows.{_&_}
+use Rattle.examples.specs.Tables.{AllRight, block}
 use Rattle.examples.specs.CaseTexts as case
 use Rattle.examples.specs.StepTexts as steps
 use Rattle.examples.specs.Reports as reports
@@ -28,6 +37,18 @@ cases-right = refl
 pub texts-right : case.TextsRight
 unfolding busRecords members lineRecords linesText recordText join digits neighbours setOf
 texts-right = refl
+
+pub allowed-right : AllRight case.allowed
+unfolding readLines verdict isBus isAfter pastBuses recordOf wordOf lineFields busFields markOf one none split join same isDigit takes numberFrom numberOf held.hold held.wordOf add setOf
+allowed-right =
+    read-reads (split lineFeed (block case.oneInput) .rest) start 1 (split lineFeed (block case.oneInput) .first) case.oneCase refl
+    & (λ h. not-got _ (reads-read start _ _ 1 (omega arith) h))
+    & (λ h. not-got _ (reads-read start _ _ 1 (omega arith) h))
+    & tt
+
+pub wired-right : case.WiredRight
+unfolding held.hold held.wordOf add setOf
+wired-right = refl
 
 pub whole-right : case.WholeRight
 unfolding readCase readText readLines verdict isBus isAfter pastBuses recordOf wordOf lineFields busFields markOf one none split same isDigit takes numberFrom numberOf
@@ -67,6 +88,19 @@ pub lists-right : steps.ListsRight
 unfolding stepsFrom stepsIn stepLineOf stepWordOf letterOf reasonFields stepFields one none split same isDigit takes numberFrom numberOf
 lists-right = refl
 
+pub found-right : AllRight steps.found
+unfolding stepsFrom stepsIn stepLineOf stepWordOf letterOf reasonFields stepFields one none split same isDigit takes numberFrom numberOf
+found-right =
+    (record { bus = record { some = omega arith; most = omega arith }; reason = tt }, (record { bus = record { some = omega arith; most = omega arith }; reason = record { some = omega arith; most = omega arith } }, tt))
+    & (λ h. omega (arith, h .1 .0 .reason .most))
+    & record { steps = refl; later = omega arith; high = omega arith }
+    & refl
+    & (λ h. omega (arith, ap length h))
+    & (λ h. omega (arith, ap (λ (xs : List Step). getD xs 0 noStep .bus) (h .steps)))
+    & record { step = refl; rest = refl }
+    & (λ h. omega (arith, ap length (h .rest)))
+    & tt
+
 pub rooms-right : steps.RoomsRight
 rooms-right = refl
 
@@ -78,6 +112,10 @@ lefts-right = refl
 pub refusals-right : reports.RefusalsRight
 unfolding refusedText join digits
 refusals-right = refl
+
+pub lines-right : reports.LinesRight
+unfolding lineText recordText join digits
+lines-right = refl
 
 pub days-right : reports.DaysRight
 unfolding stepsText stepText join digits

@@ -8,7 +8,7 @@ use lib.Signed.{mag}
 use lib.ListN.{length, getD}
 use Rattle.busset.specs.Sets.{Bus, add, meet, lack, less, upTo, setOf, empty}
 use Rattle.busset.proofs.Tests.{decides-yes, decides-no, refutes}
-use Rattle.field.specs.Split.{join}
+use Rattle.field.specs.Split.{split, join, same}
 use Rattle.field.specs.Number.{digits}
 use Rattle.step.specs.Records.{noStep}
 use Rattle.step.specs.declared.Step.{Step}
@@ -30,6 +30,10 @@ use Rattle.grid.specs.Cases.{neighbours, gridOf, Valid}
 use Rattle.grid.specs.Refusals.{Passed, Failed, numberOf}
 use Rattle.grid.proofs.Orders.{itself, failed-or-passed, failed-unique}
 use Rattle.grid.proofs.Drawn.{withinTest, rowTest, validTest, valid-passes}
+use Rattle.record.specs.Fields.{none}
+use Rattle.record.specs.StepLine.{stepWordOf, stepLineOf}
+use Rattle.steptext.specs.Steps.{countOf, stepLines, readSteps}
+use Rattle.reader.specs.Reading.{readLines, readText, readCase}
 use Rattle.reader.specs.Writing.{busRecords, members, lineRecords, linesText}
 use Rattle.following.specs.Following.{checksFrom}
 use Rattle.following.specs.Replies.{replayChecks}
@@ -41,7 +45,7 @@ use Rattle.examples.proofs.Computed.{known}
 use Rattle.examples.proofs.Deriving.{reasonTest, allowedTest, allowed-passes}
 use Rattle.examples.proofs.Steps.{is-derivation}
 use Rattle.examples.proofs.Confirming as confirming
-use Rattle.examples.proofs.Placing.{fewest1, fewest2, greedy2}
+use Rattle.examples.proofs.Placing.{known-places}
 use Rattle.examples.specs.Tables.{AllRight}
 use Rattle.examples.specs.Drawings.{set, own, near, zeroAt, sevenGrid, value}
 use Rattle.examples.specs.Steps.{derivation}
@@ -169,10 +173,10 @@ roomy budget k xs g l ys h = omega (arith, ap length (greedy-unique (sevenGrid [
 
 pub greedies-right : AllRight tables.greedies
 greedies-right =
-    ((v, (omega arith, (roomy 2 3 (3 ∷ 4 ∷ []) greedy2 (omega arith), tt))), record { list = 3 ∷ 4 ∷ []; greedy = greedy2; count = refl; written = refl })
+    ((v, (omega arith, (roomy 2 3 (3 ∷ 4 ∷ []) (known-places .greedy2) (omega arith), tt))), record { list = 3 ∷ 4 ∷ []; greedy = known-places .greedy2; count = refl; written = refl })
     & (stop invalid (itself _), refl)
     & (v then stop (λ h. omega arith) (itself _), refl)
-    & (v then omega arith then stop (λ h. omega (arith, h (3 ∷ 4 ∷ []) greedy2)) (itself _), refl)
+    & (v then omega arith then stop (λ h. omega (arith, h (3 ∷ 4 ∷ []) (known-places .greedy2))) (itself _), refl)
     & (λ h. omega (arith, ap (λ (xs : List ℕ). getD xs 0 0) (h .1)))
     & ((v, (omega arith, (roomy 0 0 [] tt (omega arith), tt))), record { list = []; greedy = tt; count = refl; written = refl })
     & tt
@@ -182,10 +186,10 @@ greedies-right =
 
 pub fewests-right : AllRight tables.fewests
 fewests-right =
-    ((v, (omega arith, (fewest-some fewest2, tt))), fewest2)
+    ((v, (omega arith, (fewest-some (known-places .fewest2), tt))), known-places .fewest2)
     & stop invalid (itself _)
     & over
-    & v then omega arith then stop fewest1 (itself _)
+    & v then omega arith then stop (known-places .fewest1) (itself _)
     & (λ h. omega (arith, ap numberOf (failed-unique (fewestChecks (tables.case []) 9) (OverBudget 0) NoCover over h)))
     & tt
   where
@@ -196,9 +200,12 @@ fewests-right =
     over = v then stop (λ h. omega arith) (itself _)
 
 pub texts-right : AllRight tables.texts
-unfolding validTest withinTest rowTest gap total upTo busRecords members lineRecords linesText recordText join digits neighbours setOf ones onesIn
+unfolding readCase readText readLines readSteps stepLines stepLineOf stepWordOf none split same validTest withinTest rowTest gap total upTo busRecords members lineRecords linesText recordText join digits neighbours setOf ones onesIn
 texts-right =
-    (stop invalid (itself _), refl)
+    refl
+    & refl
+    & (λ h. omega (arith, ap countOf h))
+    & (stop invalid (itself _), refl)
     & (v then stop (λ h. omega arith) (itself _), refl)
     & (λ h. omega (arith, ap (λ (xs : List ℕ). getD xs 0 0) (h .1)))
     & ((v, (omega arith, tt)), refl, refl)

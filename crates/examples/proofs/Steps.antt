@@ -40,6 +40,12 @@ listings-right = refl
 pub writings-right : steps.WritingsRight
 writings-right = refl
 
+pub puttings-right : steps.PuttingsRight
+puttings-right = refl
+
+pub places-right : steps.PlacesRight
+places-right = refl
+
 -- ---- one step
 
 pub reasons-right : AllRight steps.reasons

@@ -1,20 +1,30 @@
 -- The tables of weaving and of the firing figure.
-use mathlib.Core.Path.{refl, ap}
+use mathlib.Core.Path.{_≡_, refl, ap, ap₂}
 use mathlib.Core.List.{List, [], _∷_}
 use mathlib.Core.Logic.{_⊎_, inl, inr, ⊎-elim}
-use Prim.Native.Nat.{_≤_}
+use Prim.Native.Nat.{ℕ, _-_, _^_, _≤_, _<_}
 use native.Mathlib.Omega.{arith}
+use lib.Dec.{lit≤}
+use lib.IntN.{pos, negsuc, _+ℤ_, _-ℤ_}
 use lib.Count.{ones, onesIn}
-use lib.ListN.{length}
+use lib.ListN.{length, getD}
 use lib.Signed.{leZ-yes}
-use Rattle.busset.specs.Sets.{In, add, meet, lack, less, upTo, setOf}
+use Rattle.busset.specs.Sets.{bit, In, size, add, meet, lack, less, upTo, setOf}
+use Rattle.step.specs.Records.{noStep}
 use Rattle.step.specs.declared.Step.{Step}
-use Rattle.rules.specs.Steps.{reached, Accepted}
-use Rattle.rules.specs.Weaving.{Taken, here, there, Shuffle, none, next}
+use Rattle.rules.specs.Grids.{total}
+use Rattle.rules.specs.Steps.{Names, reached, Accepted}
+use Rattle.rules.specs.Weaving.{Each, Taken, here, there, Shuffle, none, next}
 use Rattle.rules.specs.Figures.{figure}
 use Rattle.rules.proofs.Tests.{gap}
 use Rattle.rules.proofs.Shuffles.{weaving-shuffles}
-use Rattle.grid.specs.Cases.{neighbours}
+use Rattle.grid.specs.Cases.{neighbours, gridOf}
+use Rattle.grid.proofs.Drawn.{withinTest, rowTest, validTest, valid-passes}
+use Rattle.following.specs.declared.Wove.the-variants as wove
+use Rattle.wozgrzyt.proofs.Demands.{demand-3}
+use Rattle.starred.specs.Table.{wordOf, caseOf, seven}
+use Rattle.examples.proofs.Crowded.{ones-in}
+use Rattle.examples.proofs.Computed.{known}
 use Rattle.examples.proofs.Rows.{_&_}
 use Rattle.examples.proofs.Deriving.{reasonTest, allowedTest, allowed-passes}
 use Rattle.examples.specs.Tables.{AllRight}
@@ -47,6 +57,25 @@ runs-right =
     & record { low = leZ-yes tt; high = leZ-yes tt }
     & (λ h. h .high .le)
     & tt
+
+-- the figure where i has so many neighbours, and so many of them other than j are observed
+figure-from : (nbr : ℕ → ℕ) (s i j a b : ℕ) → size (nbr i) ≡ a → size (less (meet (nbr i) s) j) ≡ b → figure nbr s i j ≡ pos 1 -ℤ pos a +ℤ pos (bit s i) +ℤ pos b
+unfolding figure
+figure-from nbr s i j a b p q = ap₂ (λ (x y : ℕ). pos 1 -ℤ pos x +ℤ pos (bit s i) +ℤ pos y) p q
+
+-- the star's figure of 1 towards 2, with the digits counted
+star-figure : (s : ℕ) → less (meet (gridOf figures.star .nbr 1) s) 2 < 2 ^ 65
+    → figure (gridOf figures.star .nbr) s 1 2 ≡ pos 1 -ℤ pos 63 +ℤ pos (bit s 1) +ℤ pos (onesIn 65 (less (meet (gridOf figures.star .nbr 1) s) 2))
+unfolding neighbours setOf onesIn
+star-figure s l = figure-from (gridOf figures.star .nbr) s 1 2 63 (onesIn 65 (less (meet (gridOf figures.star .nbr 1) s) 2)) (ones-in 65 (gridOf figures.star .nbr 1) (lit≤ tt)) (ones-in 65 (less (meet (gridOf figures.star .nbr 1) s) 2) l)
+
+star-ends : (figure (gridOf figures.star .nbr) (set []) 1 2 ≡ negsuc 61) × (figure (gridOf figures.star .nbr) (setOf (2 ^ 64 - 1)) 1 2 ≡ pos 1)
+unfolding meet less lack neighbours setOf onesIn
+star-ends = (star-figure (set []) (lit≤ tt), star-figure (setOf (2 ^ 64 - 1)) (lit≤ tt))
+
+pub ends-right : AllRight figures.ends
+unfolding validTest withinTest rowTest gap total upTo neighbours setOf ones onesIn
+ends-right = valid-passes figures.star refl & star-ends .0 & star-ends .1 & tt
 
 -- ---- weaving
 
@@ -113,13 +142,33 @@ shuffles-right =
 
 -- ---- demand 3
 
-pub demand-right : AllRight weaving.demand
+-- each desk's list is accepted
+accepted : Each (Accepted (sevenGrid (3 ∷ []))) weaving.desks
 unfolding reasonTest allowedTest gap neighbours add lack setOf ones onesIn
+accepted = (
+  (allowed-passes (sevenGrid (3 ∷ [])) (set []) (near 2 3) refl, (allowed-passes (sevenGrid (3 ∷ [])) (set (2 ∷ [])) (own 3) refl, tt)),
+  ((allowed-passes (sevenGrid (3 ∷ [])) (set []) (own 3) refl, tt), tt),
+)
+
+pub demand-right : AllRight weaving.demand
+unfolding add
 demand-right =
-    weaving-shuffles (sevenGrid (3 ∷ [])) weaving.desks (own 3 ∷ near 2 3 ∷ own 3 ∷ []) (accepted, ((allowed-passes (sevenGrid (3 ∷ [])) (set []) (own 3) refl, tt), tt)) shuffled
+    weaving-shuffles (sevenGrid (3 ∷ [])) weaving.desks (own 3 ∷ near 2 3 ∷ own 3 ∷ []) accepted shuffled
     & (λ h. omega (arith, h .all 2 (inl refl)))
     & (λ h. ⊎-elim (λ (l : In (reached (near 2 3 ∷ own 3 ∷ [])) 4). omega arith) (λ (m : In (reached (own 3 ∷ [])) 4 ⊎ ⊥). ⊎-elim (λ (l : In (reached (own 3 ∷ [])) 4). omega arith) (λ (z : ⊥). z) m) (h .only 4 refl))
     & tt
+
+pub calls-right : AllRight weaving.calls
+unfolding neighbours add setOf
+calls-right =
+    demand-3 (caseOf (seven (3 ∷ []))) weaving.desks (own 3 ∷ near 2 3 ∷ own 3 ∷ []) (own 7 ∷ own 8 ∷ own 9 ∷ []) (own 3 ∷ near 2 3 ∷ own 9 ∷ []) (wove.Written 2 (wordOf (2 ∷ 3 ∷ []))) (known .at3 .valid) accepted shuffled (omega arith) (omega arith)
+    ((known .at3 .valid, (omega arith, (named3, ((λ o. refl), (named23, ((λ o. record { unit = refl; joined = refl }), (named3, ((λ o. refl), (omega arith, tt))))))))), refl, refl, refl)
+    & (λ h. let e = h .answers in let z : _≡_ {A = ℕ} 0 1 = cc in omega arith)
+    & (λ h. omega (arith, ap (λ (xs : List Step). getD xs 0 noStep .bus) (h .records)))
+    & tt
   where
-    accepted : Accepted (sevenGrid (3 ∷ [])) (near 2 3 ∷ own 3 ∷ [])
-    accepted = (allowed-passes (sevenGrid (3 ∷ [])) (set []) (near 2 3) refl, (allowed-passes (sevenGrid (3 ∷ [])) (set (2 ∷ [])) (own 3) refl, tt))
+    named3 : Names 7 (own 3)
+    named3 = record { bus = record { some = omega arith; most = omega arith }; reason = tt }
+
+    named23 : Names 7 (near 2 3)
+    named23 = record { bus = record { some = omega arith; most = omega arith }; reason = record { some = omega arith; most = omega arith } }

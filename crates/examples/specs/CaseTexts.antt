@@ -8,7 +8,9 @@ use Rattle.record.specs.declared.Record.{Record}
 use Rattle.record.specs.declared.Record.the-variants.{Grid, Line, Pmu, End, Wrong}
 use Rattle.grid.specs.declared.Case.{Case}
 use Rattle.grid.specs.declared.refusal.Refusal.the-variants.{TextTooLong, WrongForm, OutOfRange, OutOfOrder}
-use Rattle.reader.specs.Reading.{verdict, readCase, got}
+use Rattle.reader.specs.Building.{withLine}
+use Rattle.reader.specs.Reading.{start, verdict, readCase, got}
+use Rattle.inverse.specs.Grammar as grammar
 use Rattle.reader.specs.Writing.{caseText}
 use Rattle.reader.specs.declared.CaseRead.{CaseRead}
 use Rattle.reader.specs.declared.Place.{Place}
@@ -17,13 +19,14 @@ use Rattle.reader.specs.declared.ReadAnswer.the-variants.{Read, Refused}
 use Rattle.reader.specs.declared.Verdict.{Verdict}
 use Rattle.reader.specs.declared.Verdict.the-variants.{Next, Last, Form, Range, Order}
 use Rattle.starred.specs.Table.{caseOf, seven, path}
-use Rattle.examples.specs.Tables.{Right, Reads, block}
+use Rattle.examples.specs.Tables.{Right, Reads, Row, holds, fails, block}
+use Rattle.examples.specs.Drawings.{value}
 
 -- ---- whole texts
 
--- document 01's input of the day report, up to its lines
-abbrev pub sevenLines : List String
-sevenLines =
+-- document 01's input of the day report: `grid` and every `bus`
+abbrev pub sevenBuses : List String
+sevenBuses =
     "grid 7"
     ∷ "bus 1 I Y"
     ∷ "bus 2 Z Y"
@@ -32,21 +35,19 @@ sevenLines =
     ∷ "bus 5 Z Y"
     ∷ "bus 6 I Y"
     ∷ "bus 7 I Y"
-    ∷ "line 1 2"
-    ∷ "line 2 3"
-    ∷ "line 3 4"
-    ∷ "line 3 7"
-    ∷ "line 4 5"
-    ∷ "line 5 6"
     ∷ []
+
+-- every `line`
+abbrev pub sevenLines : List String
+sevenLines = "line 1 2" ∷ "line 2 3" ∷ "line 3 4" ∷ "line 3 7" ∷ "line 4 5" ∷ "line 5 6" ∷ []
 
 -- and all of it
 abbrev pub input : List String
-input = sevenLines ++ "pmu 3" ∷ "end" ∷ []
+input = sevenBuses ++ (sevenLines ++ "pmu 3" ∷ "end" ∷ [])
 
 -- the same grid with no units
 abbrev pub bareInput : List String
-bareInput = sevenLines ++ "end" ∷ []
+bareInput = sevenBuses ++ (sevenLines ++ "end" ∷ [])
 
 -- the path 1-2-3-4-5, only 3 is Z, units at 1 and 5
 abbrev pub pathInput : List String
@@ -60,7 +61,7 @@ oneInput = "grid 1" ∷ "bus 1 Z N" ∷ "pmu 1" ∷ "end" ∷ []
 
 -- its case
 abbrev pub oneCase : Case
-oneCase = record { n = 1; nbr = replicate 64 0; zero = 1; site = 0; units = 1 }
+oneCase = value 1 [] (1 ∷ []) [] (1 ∷ [])
 
 -- texts, and the case that each gives
 abbrev pub cases : List (List ℕ × CaseRead)
@@ -69,6 +70,8 @@ cases =
     ∷ (block bareInput, got (caseOf (seven [])))
     ∷ (block pathInput, got (caseOf path))
     ∷ (block oneInput, got oneCase)
+    -- a refusal has no case beside it
+    ∷ (bytes "", record { answer = Refused (WrongForm 1); case = value 0 [] [] [] [] })
     ∷ []
 
 -- every row is right
@@ -82,6 +85,22 @@ texts = (caseOf (seven (3 ∷ [])), block input) ∷ (caseOf path, block pathInp
 -- every row is right
 abbrev pub TextsRight : Type 0
 TextsRight = Right caseText texts
+
+-- the texts that the order of records allows from the start on, and texts that it does not
+abbrev pub allowed : List Row
+allowed =
+    holds (grammar.Reads start (block oneInput) oneCase)
+    ∷ fails (grammar.Reads start (bytes "end\n") (value 0 [] [] [] []))
+    ∷ fails (grammar.Reads start (block ("grid 1" ∷ "pmu 1" ∷ "bus 1 Z N" ∷ "end" ∷ [])) oneCase)
+    ∷ []
+
+-- a line of three buses, and the rows with it: each end has the other
+abbrev pub wired : List ((ℕ × ℕ) × List ℕ)
+wired = ((1, 3), 4 ∷ 0 ∷ 1 ∷ []) ∷ ((1, 2), 2 ∷ 1 ∷ 0 ∷ []) ∷ []
+
+-- every row is right
+abbrev pub WiredRight : Type 0
+WiredRight = Right (λ q. withLine (0 ∷ 0 ∷ 0 ∷ []) (q .0) (q .1)) wired
 
 -- ---- refusals
 
@@ -118,11 +137,7 @@ whole =
 abbrev pub WholeRight : Type 0
 WholeRight = Reads (λ s. readCase s .answer) whole
 
--- the seven-bus grid's first eight lines, `grid` and every `bus`
-abbrev pub buses : List ℕ
-buses = block ("grid 7" ∷ "bus 1 I Y" ∷ "bus 2 Z Y" ∷ "bus 3 Z Y" ∷ "bus 4 I Y" ∷ "bus 5 Z Y" ∷ "bus 6 I Y" ∷ "bus 7 I Y" ∷ [])
-
--- how a text goes on after them, from line 9 on
+-- how a text goes on after the seven-bus grid's `grid` and every `bus`, from line 9 on
 abbrev pub later : List (String × ReadAnswer)
 later =
     ("end\n", Read)
@@ -160,7 +175,7 @@ later =
 
 -- every row is right
 abbrev pub LaterRight : Type 0
-LaterRight = Right (λ s. readCase (buses ++ bytes s) .answer) later
+LaterRight = Right (λ s. readCase (block sevenBuses ++ bytes s) .answer) later
 
 -- line feeds alone: 8,192 of them are 2 at line 1, one more is 1
 abbrev pub limits : List (ℕ × ReadAnswer)

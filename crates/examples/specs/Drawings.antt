@@ -71,3 +71,11 @@ apart units = record { n = 3; lines = (1, 2) ∷ []; zeros = []; units = units }
 -- two buses, joined, of which 1 has site N, with these units
 abbrev pub barred : List ℕ → Grid
 barred units = gridOf (value 2 ((2 ∷ []) ∷ (1 ∷ []) ∷ []) [] (2 ∷ []) units)
+
+-- the path 1-2-3 with these units, where no bus is Z
+abbrev pub trio : List ℕ → Drawing
+trio units = record { n = 3; lines = (1, 2) ∷ (2, 3) ∷ []; zeros = []; units = units }
+
+-- four buses, of which 4 is joined to every other
+abbrev pub hub : Drawing
+hub = record { n = 4; lines = (1, 4) ∷ (2, 4) ∷ (3, 4) ∷ []; zeros = []; units = [] }

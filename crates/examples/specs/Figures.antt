@@ -1,8 +1,13 @@
 -- The firing figure.
 use mathlib.Core.List.{List, [], _∷_}
-use Prim.Native.Nat.{ℕ}
+use mathlib.Core.Path.{_≡_}
+use Prim.Native.Nat.{ℕ, _-_, _^_}
 use lib.IntN.{ℤ, pos, negsuc}
+use lib.ListN.{replicate}
+use Rattle.busset.specs.Sets.{setOf}
 use Rattle.rules.specs.Figures.{figure, Runs}
+use Rattle.grid.specs.declared.Case.{Case}
+use Rattle.grid.specs.Cases.{gridOf, Valid}
 use Rattle.starred.specs.Table.{wordOf, caseOf, seven}
 use Rattle.wozgrzyt.specs.Replies.{stated}
 use Rattle.examples.specs.Tables.{Right, Row, holds, fails}
@@ -31,6 +36,18 @@ figures =
 -- every row is right
 abbrev pub FiguresRight : Type 0
 FiguresRight = Right (λ q. figure (sevenGrid [] .nbr) (set (q .0)) (q .1) (q .2)) figures
+
+-- 64 buses, of which 1 is joined to every other
+abbrev pub star : Case
+star = record { n = 64; nbr = (2 ^ 64 - 2) ∷ replicate 63 1; zero = 0; site = 0; units = 0 }
+
+-- its figures of 1 towards 2 where no bus is observed, and where all are: the lowest and the highest that there are
+abbrev pub ends : List Row
+ends =
+    holds (Valid star)
+    ∷ holds (figure (gridOf star .nbr) (set []) 1 2 ≡ negsuc 61)
+    ∷ holds (figure (gridOf star .nbr) (setOf (2 ^ 64 - 1)) 1 2 ≡ pos 1)
+    ∷ []
 
 -- where the figure runs: from -62 to 1
 abbrev pub runs : List Row

@@ -100,6 +100,10 @@ looped = (1 ∷ []) ∷ [] ∷ []
 abbrev pub far : List (List ℕ)
 far = (3 ∷ []) ∷ [] ∷ (1 ∷ []) ∷ []
 
+-- four buses, 3 joined to 4
+abbrev pub high : List (List ℕ)
+high = [] ∷ [] ∷ (4 ∷ []) ∷ (3 ∷ []) ∷ []
+
 -- the neighbours where these are the rows
 abbrev pub near : List (List ℕ) → ℕ → ℕ
 near rows = neighbours (value 2 rows [] [] [] .nbr)
@@ -140,6 +144,7 @@ valid =
     ∷ fails (Valid (value 2 looped [] [] []))
     -- a line, unit, class Z or site Y at a bus above n
     ∷ fails (Valid (value 2 far [] [] []))
+    ∷ fails (Valid (value 2 high [] [] []))
     ∷ fails (Valid (value 2 pair [] [] (3 ∷ [])))
     ∷ fails (Valid (value 2 pair (3 ∷ []) [] []))
     ∷ fails (Valid (value 2 pair [] (3 ∷ []) []))

@@ -4,7 +4,7 @@ use Prim.Native.Nat.{ℕ, _≤_}
 use Rattle.rules.specs.Placing.{Full, Covers, Free, Rising, placed, Plan, Before, Earlier, Fewest, SomePlan}
 use Rattle.rules.specs.Choosing.{With, Best, NoneAdds, Greedy}
 use Rattle.examples.specs.Tables.{Right, Row, holds, fails}
-use Rattle.examples.specs.Drawings.{set, grid, sevenGrid, apart, barred}
+use Rattle.examples.specs.Drawings.{set, grid, sevenGrid, apart, barred, trio, hub}
 
 -- ---- additions
 
@@ -111,6 +111,9 @@ fewest =
     ∷ holds (SomePlan (sevenGrid []) 2)
     ∷ fails (SomePlan (sevenGrid []) 1)
     ∷ fails (Fewest (sevenGrid []) 1 (set (1 ∷ 4 ∷ [])))
+    -- one site, though the list 1, 2, 3 covers too and begins lower
+    ∷ holds (Fewest (grid hub) 3 (set (4 ∷ [])))
+    ∷ fails (Fewest (grid hub) 3 (set (1 ∷ 2 ∷ 3 ∷ [])))
     -- all are observed already
     ∷ holds (Fewest (sevenGrid (1 ∷ 4 ∷ [])) 0 (set []))
     -- installed units stay
@@ -138,6 +141,8 @@ best =
     ∷ fails (Best (sevenGrid []) 4)
     ∷ holds (Best (grid (apart [])) 1)
     ∷ fails (Best (grid (apart [])) 2)
+    -- also a bus that is observed already
+    ∷ holds (Best (grid (trio (1 ∷ []))) 2)
     ∷ holds (Best (barred []) 2)
     -- no site adds a bus
     ∷ fails (Best (sevenGrid (1 ∷ 4 ∷ [])) 2)

@@ -6,16 +6,18 @@ use lib.IntN.{pos}
 use lib.ListN.{replicate}
 use Rattle.field.specs.Split.{bytes}
 use Rattle.grid.specs.declared.Case.{Case}
-use Rattle.grid.specs.declared.refusal.Refusal.the-variants.{InvalidCase, NoRoom, NoSuchBus, AlreadyObserved, ReasonFails, OverBudget, NoCover, TooManySteps, NotJoined}
+use Rattle.grid.specs.declared.refusal.Refusal.the-variants.{WrongForm, InvalidCase, NoRoom, NoSuchBus, AlreadyObserved, ReasonFails, OverBudget, NoCover, TooManySteps, NotJoined}
 use Rattle.following.specs.Lists.{listOf}
 use Rattle.following.specs.Replies.{ReplayReply, WeaveReply}
 use Rattle.following.specs.declared.Replayed.the-variants as replayed
 use Rattle.following.specs.declared.Wove.the-variants as wove
+use Rattle.reader.specs.Reading.{refused}
+use Rattle.steptext.specs.declared.StepsRead.the-variants as steps
 use Rattle.writer.specs.declared.Written.the-variants as written
 use Rattle.wozgrzyt.specs.Replies.{ObservedReply, FigureReply, StepReply}
 use Rattle.wozgrzyt.specs.ListReplies.{DerivationReply}
 use Rattle.wozgrzyt.specs.SitingReplies.{VerdictReply, GreedyReply, FewestReply}
-use Rattle.wozgrzyt.specs.TextReplies.{CaseWrittenReply}
+use Rattle.wozgrzyt.specs.TextReplies.{CaseReadReply, CaseWrittenReply, StepsCheckedReply}
 use Rattle.wozgrzyt.specs.declared.Observed.the-variants as observed
 use Rattle.wozgrzyt.specs.declared.Figured.the-variants as figured
 use Rattle.wozgrzyt.specs.declared.Tested.the-variants as tested
@@ -64,7 +66,7 @@ tests =
     -- 8 before 9: the bus is observed, and the reason is false
     ∷ holds (StepReply (case (3 ∷ [])) (wordOf (1 ∷ [])) (zeroAt 1 2) (tested.Refused (AlreadyObserved 1)))
     ∷ holds (StepReply (case (3 ∷ [])) (wordOf []) (zeroAt 1 2) (tested.Refused (ReasonFails 1)))
-    -- a stated bus above n is ignored
+    -- 7 and not 8, where the bus is stated and above n
     ∷ holds (StepReply (case (3 ∷ [])) (wordOf (8 ∷ [])) (own 8) (tested.Refused (NoSuchBus 1)))
     ∷ []
 
@@ -143,10 +145,13 @@ fewests =
     ∷ fails (FewestReply (case []) 9 (fewest.Refused NoCover))
     ∷ []
 
--- a case's text written into bytes lent: 5, 6
+-- texts read; and a case's text written into bytes lent: 5, 6
 abbrev pub texts : List Row
 texts =
-    holds (CaseWrittenReply bad [] (written.Refused InvalidCase) [])
+    holds (CaseReadReply (bytes "") (refused (WrongForm 1)))
+    ∷ holds (StepsCheckedReply (bytes "end\n") (steps.Steps 0))
+    ∷ fails (StepsCheckedReply (bytes "end\n") (steps.Steps 1))
+    ∷ holds (CaseWrittenReply bad [] (written.Refused InvalidCase) [])
     ∷ holds (CaseWrittenReply (value 1 [] [] [] []) (7 ∷ []) (written.Refused NoRoom) (7 ∷ []))
     ∷ fails (CaseWrittenReply (value 1 [] [] [] []) (7 ∷ []) (written.Refused NoRoom) (103 ∷ []))
     ∷ holds (CaseWrittenReply (value 1 [] [] [] []) (replicate 23 7) (written.Bytes 21) (bytes "grid\t1\nbus\t1\tI\tN\nend\n" ++ 7 ∷ 7 ∷ []))

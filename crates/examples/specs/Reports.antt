@@ -13,6 +13,9 @@ use Rattle.grid.specs.declared.refusal.Refusal.the-variants.{TextTooLong, Wrong
 use Rattle.reader.specs.Reading.{got, refused}
 use Rattle.reader.specs.declared.ReadAnswer.{ReadAnswer}
 use Rattle.reader.specs.declared.ReadAnswer.the-variants.{Read, Refused}
+use Rattle.record.specs.declared.Record.{Record}
+use Rattle.record.specs.declared.Record.the-variants.{Pmu, End}
+use Rattle.writer.specs.Put.{lineText}
 use Rattle.writer.specs.Printing.{refusedText}
 use Rattle.dayreport.specs.Day.{verdictFields, dayText}
 use Rattle.planreport.specs.Plan.{budgetOf, readPlan, planText}
@@ -37,6 +40,14 @@ refusals =
 -- every row is right
 abbrev pub RefusalsRight : Type 0
 RefusalsRight = Writes refusedText refusals
+
+-- records, and the line of each, ended by a line feed
+abbrev pub lines : List (Record × String)
+lines = (Pmu 4, "pmu\t4\n") ∷ (End, "end\n") ∷ []
+
+-- every row is right
+abbrev pub LinesRight : Type 0
+LinesRight = Writes lineText lines
 
 -- ---- the day report
 

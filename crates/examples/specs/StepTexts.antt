@@ -7,10 +7,11 @@ use lib.ListN.{replicate}
 use Rattle.field.specs.Split.{bytes, split, lineFeed}
 use Rattle.step.specs.declared.Step.{Step}
 use Rattle.grid.specs.declared.refusal.Refusal.the-variants.{TextTooLong, WrongForm, OutOfRange, NoRoom, TooManySteps}
-use Rattle.steptext.specs.Steps.{stepInRange, stepLines, readSteps, stepsOf, withRoom, leaves}
+use Rattle.steptext.specs.Steps.{stepInRange, stepLines, readSteps, stepsOf, StepAt, AllNamed, withRoom, leaves, Takes}
+use Rattle.steptext.specs.declared.NextStep.the-variants.{At, Nothing}
 use Rattle.steptext.specs.declared.StepsRead.{StepsRead}
 use Rattle.steptext.specs.declared.StepsRead.the-variants.{Steps, Refused}
-use Rattle.examples.specs.Tables.{Right, Reads, block}
+use Rattle.examples.specs.Tables.{Right, Reads, Row, holds, fails, block}
 use Rattle.examples.specs.Drawings.{own, near, zeroAt}
 
 -- ---- one step
@@ -105,6 +106,19 @@ lists =
 -- every row is right
 abbrev pub ListsRight : Type 0
 ListsRight = Right stepsOf lists
+
+-- each step names buses 1 to 64; and the step that starts at an index, with the index of the line after it
+abbrev pub found : List Row
+found =
+    holds (AllNamed (own 1 ∷ near 64 1 ∷ []))
+    ∷ fails (AllNamed (own 1 ∷ near 64 65 ∷ []))
+    ∷ holds (StepAt (bytes "step\t3\tO\nend\n") 0 (At (own 3) 9))
+    ∷ holds (StepAt (bytes "step\t3\tO\nend\n") 9 Nothing)
+    ∷ fails (StepAt (bytes "step\t3\tO\nend\n") 0 Nothing)
+    ∷ fails (StepAt (bytes "step\t3\tO\nend\n") 0 (At (own 4) 9))
+    ∷ holds (Takes (bytes "step\t3\tO\nend\n") 0 (record { step = own 3; next = 9 }))
+    ∷ fails (Takes (bytes "step\t3\tO\nend\n") 0 (record { step = own 3; next = 0 }))
+    ∷ []
 
 -- ---- the records lent
 

@@ -1,13 +1,13 @@
 -- Steps: when a reason holds, when a step is allowed, and lists of steps.
 use mathlib.Core.List.{List, [], _∷_}
-use Prim.Native.Nat.{ℕ}
+use Prim.Native.Nat.{ℕ, _+_}
 use lib.ListN.{replicate}
-use Rattle.step.specs.Records.{noStep, written}
+use Rattle.step.specs.Records.{noStep, written, putFirst}
 use Rattle.step.specs.declared.Reason.{Reason}
 use Rattle.step.specs.declared.Reason.the-variants.{OwnUnit, NeighbourOf, ZeroInjection}
 use Rattle.step.specs.declared.Step.{Step}
 use Rattle.rules.specs.Steps.{Holds, Allowed, HasReasoned, ReasonNames, Names, AcceptedFrom, Accepted, reached, Finished}
-use Rattle.following.specs.Lists.{listed, listOf}
+use Rattle.following.specs.Lists.{listed, nthOf, listOf}
 use Rattle.following.specs.declared.lists.StepList.{StepList}
 use Rattle.examples.specs.Tables.{Right, Row, holds, fails}
 use Rattle.examples.specs.Drawings.{set, own, near, zeroAt, sevenGrid}
@@ -146,3 +146,19 @@ writings =
 -- every row is right
 abbrev pub WritingsRight : Type 0
 WritingsRight = Right (λ xs. written xs (own 7 ∷ own 8 ∷ own 9 ∷ [])) writings
+
+-- how many of the steps 1 O, 2 O, 3 O are put first into those records, and what they hold then
+abbrev pub puttings : List (ℕ × List Step)
+puttings = (0, own 7 ∷ own 8 ∷ own 9 ∷ []) ∷ (2, own 1 ∷ own 2 ∷ own 9 ∷ []) ∷ []
+
+-- every row is right
+abbrev pub PuttingsRight : Type 0
+PuttingsRight = Right (λ k. putFirst k (λ i. own (i + 1)) (own 7 ∷ own 8 ∷ own 9 ∷ [])) puttings
+
+-- a place from 0 in the derivation's list by value, and the step there
+abbrev pub places : List (ℕ × Step)
+places = (0, near 2 3) ∷ (4, near 7 3) ∷ (5, noStep) ∷ (64, noStep) ∷ []
+
+-- every row is right
+abbrev pub PlacesRight : Type 0
+PlacesRight = Right (nthOf (listOf derivation)) places

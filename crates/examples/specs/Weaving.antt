@@ -3,6 +3,10 @@ use mathlib.Core.List.{List, [], _∷_}
 use Prim.Native.Nat.{ℕ, _≤_}
 use Rattle.step.specs.declared.Step.{Step}
 use Rattle.rules.specs.Weaving.{woven, wovenFrom, WeavableFrom, Weavable, Each, Some, Taken, Shuffle, Woven}
+use Rattle.grid.specs.declared.refusal.Refusal.the-variants.{NoRoom}
+use Rattle.following.specs.declared.Wove.the-variants as wove
+use Rattle.wozgrzyt.specs.Demands.{Demand3}
+use Rattle.starred.specs.Table.{wordOf, caseOf, seven}
 use Rattle.examples.specs.Tables.{Right, Row, holds, fails}
 use Rattle.examples.specs.Drawings.{set, own, near, zeroAt, sevenGrid}
 use Rattle.examples.specs.Steps.{derivation}
@@ -83,4 +87,14 @@ demand =
     ∷ fails (Woven (sevenGrid (3 ∷ [])) desks (own 3 ∷ []))
     -- a bus that no desk observed is reached
     ∷ fails (Woven (sevenGrid (3 ∷ [])) desks (near 2 3 ∷ own 3 ∷ near 4 3 ∷ []))
+    ∷ []
+
+-- the same of the call, with the records before and after and the answer
+abbrev pub calls : List Row
+calls =
+    holds (Demand3 (caseOf (seven (3 ∷ []))) desks (own 3 ∷ near 2 3 ∷ own 3 ∷ []) (own 7 ∷ own 8 ∷ own 9 ∷ []) (own 3 ∷ near 2 3 ∷ own 9 ∷ []) (wove.Written 2 (wordOf (2 ∷ 3 ∷ []))))
+    -- it never refuses
+    ∷ fails (Demand3 (caseOf (seven (3 ∷ []))) desks (own 3 ∷ near 2 3 ∷ own 3 ∷ []) [] [] (wove.Refused NoRoom))
+    -- nothing is woven
+    ∷ fails (Demand3 (caseOf (seven (3 ∷ []))) desks (own 3 ∷ near 2 3 ∷ own 3 ∷ []) (own 7 ∷ own 8 ∷ []) (own 7 ∷ own 8 ∷ []) (wove.Written 0 0))
     ∷ []
