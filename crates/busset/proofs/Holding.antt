@@ -1,7 +1,7 @@
 -- A word with one bus more: what is in it, and that it is what `With` gives.
 use mathlib.Core.Path.{_≡_, refl, sym, ap, _∙_}
 use mathlib.Core.Bool.{Bool, true, false, cond}
-use Prim.Native.Nat.{ℕ, suc, _+_, _*_, _/_, _≤_, _<_}
+use Prim.Native.Nat.{ℕ, _≤_}
 use native.Mathlib.Omega.{arith}
 use Rattle.busset.specs.Sets.{bit, In, Out, add, setOf, With}
 use Rattle.busset.specs.Held.{wordOf, hold, holdIf}

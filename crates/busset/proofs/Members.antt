@@ -1,8 +1,8 @@
 -- Membership: what is in `add`, `meet`, `lack`, `less` and `upTo`, and in what `With` and `Without` give.
-use mathlib.Core.Path.{_≡_, sym, ap, _∙_, subst, subst⁻¹}
+use mathlib.Core.Path.{_≡_, sym, _∙_, subst, subst⁻¹}
 use mathlib.Core.Bool.{Bool}
 use mathlib.Core.Logic.{_⊎_, inl, inr, ⊎-elim}
-use Prim.Native.Nat.{ℕ, zero, suc, _+_, _-_, _^_, _≤_, _<_, max, min}
+use Prim.Native.Nat.{ℕ, zero, suc, _-_, _^_, _≤_, _<_, min}
 use native.Mathlib.Nat.{eq-zero-or-pos, le-antisymm}
 use native.Mathlib.Omega.{arith}
 use Rattle.busset.specs.Deciding.{Decides}

@@ -1,6 +1,5 @@
 -- The set that a word holds, and what each operation on the word does to it. Over any width k.
-use mathlib.Core.Path.{_≡_, refl, sym, ap, ap₂, _∙_, subst, subst⁻¹}
-use mathlib.Core.Logic.{⊎-elim}
+use mathlib.Core.Path.{_≡_, refl, sym, ap, ap₂, _∙_, subst⁻¹}
 use mathlib.Core.Bool.{Bool}
 use Prim.Native.Nat.{ℕ, zero, suc, _+_, _-_, _*_, _/_, _%_, _^_, _≤_, _<_, max, min}
 use native.Mathlib.Nat.{one-mul, mod-eq-of-lt}
@@ -11,9 +10,9 @@ use lib.Count.{trailingZeros, under}
 use lib.Dec.{eqb}
 use lib.Pow.{pow-lt, pow-pos, ones-lt}
 use Rattle.busset.specs.Deciding.{Decides}
-use Rattle.busset.specs.Sets.{Bus, bit, In, Out, Sub, empty, size, less, setOf, Union, Both, Minus, With, Without, Lowest, All}
-use Rattle.busset.proofs.Tests.{decides-eq, decides-by, same-or, below-or}
-use Rattle.busset.proofs.Digits.{bit-suc, bit-low, bit-or, bit-and, and-not, bit-in, bit-out, bit-zero, bit-ones, bit-one-same, bit-one-other, half-lt, ext}
+use Rattle.busset.specs.Sets.{Bus, bit, In, Out, Sub, empty, size, setOf, Union, Both, Minus, With, Without, Lowest, All}
+use Rattle.busset.proofs.Tests.{decides-eq, decides-by}
+use Rattle.busset.proofs.Digits.{bit-suc, bit-low, bit-or, bit-and, and-not, bit-in, bit-zero, bit-ones, bit-one-same, bit-one-other, half-lt}
 use Rattle.busset.proofs.Members.{empty-of}
 use Rattle.busset.proofs.Sizes.{one-more, size-double, size-most}
 

@@ -1,6 +1,6 @@
 -- Sets of buses. A set is a number of any length: bus b is in it when its digit at b is 1. `setOf` is the set that a machine word holds.
 use mathlib.Core.Path.{_≡_}
-use Prim.Native.Nat.{ℕ, zero, suc, _+_, _-_, _*_, _/_, _%_, _^_, _≤_, _<_, max, min}
+use Prim.Native.Nat.{ℕ, suc, _-_, _*_, _/_, _%_, _^_, _≤_, _<_, max, min}
 use lib.Bits.{bitAnd, bitOr}
 use lib.Count.{ones}
 

@@ -30,14 +30,14 @@ use Rattle.demands.specs.TextChecks.{NothingFollows, afterRecord, lineCh
 -- ---- one after another
 
 -- p comes before all that has turn t from place k on
-abbrev Before : ℕ → ℕ → Check → Type 0
-Before t k p = (turn p < t) ⊎ ((turn p ≡ t) × (p .place < k))
+abbrev Ahead : ℕ → ℕ → Check → Type 0
+Ahead t k p = (turn p < t) ⊎ ((turn p ≡ t) × (p .place < k))
 
-before-most : {t k : ℕ} (p : Check) → Before t k p → turn p ≤ t
+before-most : {t k : ℕ} (p : Check) → Ahead t k p → turn p ≤ t
 before-most p (inl h) = omega (arith, h)
 before-most p (inr h) = omega (arith, h .0)
 
-before-first : {t k : ℕ} (p : Check) (n : ℕ) → Before t k p → turn (check ⊥ n k) ≡ t → Precedes p (check ⊥ n k)
+before-first : {t k : ℕ} (p : Check) (n : ℕ) → Ahead t k p → turn (check ⊥ n k) ≡ t → Precedes p (check ⊥ n k)
 before-first p n (inl h) e = inl (omega (arith, h, e))
 before-first p n (inr h) e = inr (h .0 ∙ sym e, inl (h .1))
 
@@ -76,7 +76,7 @@ stepTurn = 6
 
 -- after p come the steps from k on, and then the rest, where the rest comes after any step
 steps-ordered : (task : Task) (c : Case) (rest : List Check) → ((q : Check) → turn q ≤ stepTurn → InOrder (q ∷ rest))
-    → (k s : ℕ) (xs : List Step) (p : Check) → Before stepTurn k p → InOrder (p ∷ checksFrom task c k s xs rest)
+    → (k s : ℕ) (xs : List Step) (p : Check) → Ahead stepTurn k p → InOrder (p ∷ checksFrom task c k s xs rest)
 steps-ordered task c rest later k s [] p before = later p (before-most p before)
 steps-ordered Replay c rest later k s (x ∷ xs) p before = (
   before-first p 7 before refl,
@@ -120,7 +120,7 @@ after-record P (Pmu b) end on p q = q
 after-record P End end on p q = p
 after-record P Wrong end on p q = q
 
-lines-ordered : (s : Reader) (k : ℕ) (l : List ℕ) (ms : List (List ℕ)) (p : Check) → Before lineTurn k p → InOrder (p ∷ lineChecks s k l ms)
+lines-ordered : (s : Reader) (k : ℕ) (l : List ℕ) (ms : List (List ℕ)) (p : Check) → Ahead lineTurn k p → InOrder (p ∷ lineChecks s k l ms)
 lines-ordered s k l [] p before = (before-first p 2 before refl, tt)
 lines-ordered s k l (m ∷ ms) p before =
     let fourth = check (inOrder (s .place) (recordOf l) ≡ true) 4 k in
@@ -170,7 +170,7 @@ after-step P (line.Step x) end on p q = q
 after-step P line.End end on p q = p
 after-step P line.Wrong end on p q = q
 
-step-lines-ordered : (k : ℕ) (l : List ℕ) (ms : List (List ℕ)) (p : Check) → 1 ≤ k → Before lineTurn k p → InOrder (p ∷ stepLineChecks k l ms)
+step-lines-ordered : (k : ℕ) (l : List ℕ) (ms : List (List ℕ)) (p : Check) → 1 ≤ k → Ahead lineTurn k p → InOrder (p ∷ stepLineChecks k l ms)
 step-lines-ordered k l [] p some before = (before-first p 2 before refl, tt)
 step-lines-ordered k l (m ∷ ms) p some before =
     let e = twelve-at-a-line k some in

@@ -11,7 +11,7 @@ use Rattle.step.specs.declared.Reason.the-variants.{OwnUnit, NeighbourOf, ZeroI
 use Rattle.step.specs.declared.Step.{Step}
 use Rattle.rules.specs.Grids.{Grid, Proper, total}
 use Rattle.rules.specs.Steps.{Holds, Allowed, ReasonNames, Finished}
-use Rattle.rules.specs.Derivation.{Before, NextIs, DerivedFrom, finished, next}
+use Rattle.rules.specs.Derivation.{TakenFirst, NextIs, DerivedFrom, finished, next}
 use Rattle.rules.proofs.Firing.{others-in}
 use Rattle.rules.proofs.Reasons.{holds-names, allowed-bus}
 use Rattle.rules.proofs.Tests.{total-none, gap, gap-none, given, holdsTest, holds-tests}
@@ -104,7 +104,7 @@ module _ (g : Grid) (v : Proper g) where
   finished-passes : (s : ℕ) → total (g .n) (noReason g s) ≡ 0 → Finished g s
   finished-passes s e x a = no-reason s (x .bus) (x .reason) (total-none (g .n) (noReason g s) e (x .bus) (allowed-bus v a)) (a .new) (a .holds)
 
-  first-passes : (s b : ℕ) (r q : Reason) → noSooner g s b r ≡ 0 → ReasonNames (g .n) q → Holds g s b q → Before r q
+  first-passes : (s b : ℕ) (r q : Reason) → noSooner g s b r ≡ 0 → ReasonNames (g .n) q → Holds g s b q → TakenFirst r q
   unfolding noSooner
   first-passes s b OwnUnit q e n h = tt
   first-passes s b (NeighbourOf p) OwnUnit e n h = no-own s b (omega arith) h

@@ -3,7 +3,7 @@ use mathlib.Core.List.{List, [], _∷_}
 use mathlib.Core.Path.{_≡_}
 use Rattle.step.specs.declared.Reason.the-variants.{OwnUnit, NeighbourOf, ZeroInjection}
 use Rattle.step.specs.declared.Step.{Step}
-use Rattle.rules.specs.Derivation.{Before, NextIs, Derivation}
+use Rattle.rules.specs.Derivation.{TakenFirst, NextIs, Derivation}
 use Rattle.following.specs.Lists.{listOf}
 use Rattle.following.specs.Deriving.{Derives}
 use Rattle.examples.specs.Tables.{Row, holds, fails}
@@ -13,16 +13,16 @@ use Rattle.examples.specs.Steps.{derivation}
 -- which reason is taken first: O, else N with the lowest p, else Z with the lowest w
 abbrev pub before : List Row
 before =
-    holds (Before OwnUnit (NeighbourOf 1))
-    ∷ fails (Before (NeighbourOf 1) OwnUnit)
-    ∷ holds (Before (NeighbourOf 1) (NeighbourOf 3))
-    ∷ fails (Before (NeighbourOf 3) (NeighbourOf 1))
-    ∷ holds (Before (NeighbourOf 3) (ZeroInjection 1))
-    ∷ fails (Before (ZeroInjection 1) (NeighbourOf 3))
-    ∷ holds (Before (ZeroInjection 2) (ZeroInjection 3))
-    ∷ fails (Before (ZeroInjection 3) (ZeroInjection 2))
-    ∷ fails (Before (ZeroInjection 1) OwnUnit)
-    ∷ holds (Before (ZeroInjection 2) (ZeroInjection 2))
+    holds (TakenFirst OwnUnit (NeighbourOf 1))
+    ∷ fails (TakenFirst (NeighbourOf 1) OwnUnit)
+    ∷ holds (TakenFirst (NeighbourOf 1) (NeighbourOf 3))
+    ∷ fails (TakenFirst (NeighbourOf 3) (NeighbourOf 1))
+    ∷ holds (TakenFirst (NeighbourOf 3) (ZeroInjection 1))
+    ∷ fails (TakenFirst (ZeroInjection 1) (NeighbourOf 3))
+    ∷ holds (TakenFirst (ZeroInjection 2) (ZeroInjection 3))
+    ∷ fails (TakenFirst (ZeroInjection 3) (ZeroInjection 2))
+    ∷ fails (TakenFirst (ZeroInjection 1) OwnUnit)
+    ∷ holds (TakenFirst (ZeroInjection 2) (ZeroInjection 2))
     ∷ []
 
 -- which step is next where these buses are observed

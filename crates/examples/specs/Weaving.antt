@@ -5,7 +5,7 @@ use Rattle.step.specs.declared.Step.{Step}
 use Rattle.rules.specs.Weaving.{woven, wovenFrom, WeavableFrom, Weavable, Each, Some, Taken, Shuffle, Woven}
 use Rattle.grid.specs.declared.refusal.Refusal.the-variants.{NoRoom}
 use Rattle.following.specs.declared.Wove.the-variants as wove
-use Rattle.wozgrzyt.specs.Demands.{Demand3}
+use Rattle.demands.specs.Demand3.{Demand3}
 use Rattle.starred.specs.Table.{wordOf, caseOf, seven}
 use Rattle.examples.specs.Tables.{Right, Row, holds, fails}
 use Rattle.examples.specs.Drawings.{set, own, near, zeroAt, sevenGrid}

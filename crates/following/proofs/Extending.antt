@@ -1,10 +1,10 @@
 -- The derivation, step after step.
-use mathlib.Core.Path.{_≡_, refl, sym, ap, _∙_, subst, subst⁻¹}
+use mathlib.Core.Path.{_≡_, sym, ap, _∙_, subst, subst⁻¹}
 use mathlib.Core.List.{List, [], _∷_, _++_, append-nil, append-assoc}
-use Prim.Native.Nat.{ℕ, suc, _+_, _≤_, _<_}
+use Prim.Native.Nat.{ℕ, _+_, _≤_, _<_}
 use native.Mathlib.Omega.{arith}
 use lib.ListN.{length, length-append}
-use Rattle.busset.specs.Sets.{Bus, bit, Within, With, empty, add, size, setOf}
+use Rattle.busset.specs.Sets.{Bus, bit, Within, With, empty, add, size}
 use Rattle.busset.proofs.Digits.{bit-zero}
 use Rattle.busset.proofs.Members.{with-add, add-of}
 use Rattle.busset.proofs.Sizes.{size-add, size-empty, size-most}

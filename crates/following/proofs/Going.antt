@@ -1,10 +1,10 @@
 -- One step further: each way that the next step can go, for replay and for weaving.
 use mathlib.Core.Path.{_≡_, refl, sym, ap, _∙_, subst, subst⁻¹}
-use mathlib.Core.List.{List, [], _∷_, _++_, append-nil}
+use mathlib.Core.List.{[], _++_, append-nil}
 use mathlib.Core.Logic.{inl, inr}
-use Prim.Native.Nat.{ℕ, zero, suc, _+_, _≤_, _<_}
+use Prim.Native.Nat.{ℕ, suc, _+_, _<_}
 use native.Mathlib.Omega.{arith}
-use Rattle.busset.specs.Sets.{Bus, bit, In, Out, Within, add, size, setOf}
+use Rattle.busset.specs.Sets.{Bus, In, Out, Within, add, size, setOf}
 use Rattle.busset.proofs.Members.{with-add, add-of, add-again}
 use Rattle.busset.proofs.Sizes.{size-add, size-most}
 use Rattle.step.specs.declared.Step.{Step}
@@ -16,12 +16,11 @@ use Rattle.grid.specs.declared.refusal.Refusal.the-variants.{NoSuchBus, Already
 use Rattle.grid.specs.Cases.{gridOf}
 use Rattle.grid.specs.Refusals.{Failed, Passed}
 use Rattle.grid.proofs.Orders.{itself}
-use Rattle.following.specs.Lists.{Listed, listed, Pushed}
-use Rattle.following.specs.Following.{checksAt, Ready, Taken, TakenOr, Further, Kept, seenBy, Grown}
+use Rattle.following.specs.Lists.{Listed, listed}
+use Rattle.following.specs.Following.{checksAt, Ready, TakenOr, Further, Kept, seenBy, Grown}
 use Rattle.following.specs.declared.Task.{Task}
 use Rattle.following.specs.declared.Task.the-variants.{Replay, Weave}
-use Rattle.following.specs.declared.Standing.{Standing}
-use Rattle.following.specs.declared.Standing.the-variants.{Good, Bad}
+use Rattle.following.specs.declared.Standing.the-variants.{Bad}
 use Rattle.following.specs.declared.Following.{Following}
 
 -- ---- a bad step

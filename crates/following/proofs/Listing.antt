@@ -6,7 +6,6 @@ use Prim.Native.Nat.{ℕ, suc, _+_, _-_, _<_, _≤_}
 use native.Mathlib.Numerals.{add-one}
 use native.Mathlib.Omega.{arith}
 use borrow.Author.Tests.{le-ltb, lt-ltb}
-use lib.Dec.{ltb}
 use lib.ListN.{length, take, set, getD, replicate, length-set, length-append}
 use lib.Seq.{take-suc-set, set-append-seam, append-snoc}
 use Rattle.step.specs.Records.{noStep}

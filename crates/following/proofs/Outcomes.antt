@@ -2,7 +2,7 @@
 use mathlib.Core.Path.{_≡_, refl, sym, ap, ap₂, _∙_, subst, subst⁻¹}
 use mathlib.Core.List.{List, [], _∷_, _++_, append-nil, append-assoc}
 use mathlib.Core.Logic.{inl, inr, ⊎-elim}
-use Prim.Native.Nat.{ℕ, zero, suc, _+_, _≤_, _<_}
+use Prim.Native.Nat.{ℕ, zero, suc, _+_, _≤_}
 use native.Mathlib.Omega.{arith}
 use lib.ListN.{length, take, drop, length-take}
 use Rattle.busset.specs.Deciding.{Decides}
@@ -20,14 +20,13 @@ use Rattle.grid.specs.declared.refusal.Refusal.{Refusal}
 use Rattle.grid.specs.Cases.{mostSteps, gridOf, Valid}
 use Rattle.grid.specs.Refusals.{Check, check, Passed, Failed}
 use Rattle.following.specs.Lists.{nthOf, Listed, listed}
-use Rattle.following.specs.Following.{checksAt, checksFrom, Ready, Taken, TakenOr, Further, AppliedTo, Applied, Follows, none, next, beginChecks, BegunAt, Begun}
+use Rattle.following.specs.Following.{checksAt, checksFrom, Taken, TakenOr, Further, AppliedTo, Applied, Follows, none, next, beginChecks, BegunAt, Begun}
 use Rattle.following.proofs.Listing.{nth-in}
 use Rattle.following.specs.declared.Task.{Task}
 use Rattle.following.specs.declared.Task.the-variants.{Replay, Weave}
 use Rattle.following.specs.declared.Standing.{Standing}
 use Rattle.following.specs.declared.Standing.the-variants.{Good, Bad}
 use Rattle.following.specs.declared.Following.{Following}
-use Rattle.following.specs.declared.lists.StepList.{StepList}
 use Rattle.following.specs.declared.Replayed.{Replayed}
 use Rattle.following.specs.declared.Replayed.the-variants as replayed
 use Rattle.following.specs.declared.Wove.{Wove}

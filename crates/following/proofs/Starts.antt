@@ -1,17 +1,17 @@
 -- Where a list begins, whether it is finished, and what is answered of it.
-use mathlib.Core.Path.{_≡_, refl, sym, ap, _∙_, subst, subst⁻¹}
+use mathlib.Core.Path.{_≡_, refl, subst⁻¹}
 use mathlib.Core.Bool.{Bool, false}
 use mathlib.Core.List.{[]}
 use mathlib.Core.Logic.{inl}
 use Prim.Native.Nat.{ℕ, _≤_, _<_}
 use native.Mathlib.Omega.{arith}
 use Rattle.busset.specs.Deciding.{Decides}
-use Rattle.busset.specs.Sets.{bit, In, Sub, setOf}
+use Rattle.busset.specs.Sets.{Sub, setOf}
 use Rattle.busset.proofs.Tests.{decides-by, decides-no}
 use Rattle.busset.proofs.Members.{sub-of, sub-antisym}
 use Rattle.step.specs.declared.Step.{Step}
 use Rattle.rules.specs.Grids.{Grid}
-use Rattle.rules.specs.Observation.{O1, Closed}
+use Rattle.rules.specs.Observation.{Closed}
 use Rattle.rules.specs.Steps.{Finished}
 use Rattle.rules.proofs.Lists.{finished-closed, closed-finished}
 use Rattle.grid.specs.declared.Case.{Case}

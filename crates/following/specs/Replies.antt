@@ -1,7 +1,6 @@
 -- What replay and weaving promise.
 use mathlib.Core.Path.{_≡_}
 use mathlib.Core.List.{List, [], _∷_}
-use mathlib.Core.Bool.{Bool}
 use Prim.Native.Nat.{ℕ, _≤_}
 use lib.ListN.{length}
 use Rattle.busset.specs.Deciding.{Decides}
@@ -11,7 +10,6 @@ use Rattle.step.specs.declared.Step.{Step}
 use Rattle.rules.specs.Steps.{reached, Finished}
 use Rattle.rules.specs.Weaving.{woven}
 use Rattle.grid.specs.declared.Case.{Case}
-use Rattle.grid.specs.declared.refusal.Refusal.{Refusal}
 use Rattle.grid.specs.Cases.{gridOf}
 use Rattle.grid.specs.Refusals.{Check, check, Passed, Failed}
 use Rattle.following.specs.Lists.{nthOf}

@@ -22,7 +22,6 @@ use Rattle.reader.specs.Building.{noRows}
 use Rattle.inverse.specs.Grammar.{Reads}
 use Rattle.inverse.specs.Grammar.Reads.{ends, goes}
 use Rattle.grid.specs.declared.Case.{Case}
-use Rattle.reader.specs.declared.CaseRead.{CaseRead}
 use Rattle.reader.specs.declared.Verdict.the-variants.{Next}
 use Rattle.grid.specs.declared.refusal.Refusal.the-variants.{TextTooLong}
 use Rattle.reader.proofs.Judged.{accepted-of, last-place, inside, apart}

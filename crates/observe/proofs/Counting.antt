@@ -1,6 +1,6 @@
 -- The unknown buses, counted one after another.
-use mathlib.Core.Path.{_≡_, ap, _∙_}
-use Prim.Native.Nat.{ℕ, suc, _+_, _≤_}
+use mathlib.Core.Path.{_≡_, ap}
+use Prim.Native.Nat.{ℕ, _+_, _≤_}
 use native.Mathlib.Omega.{arith}
 use Rattle.busset.specs.Sets.{empty, lack, size, In, Minus, Without}
 use Rattle.busset.proofs.Members.{minus-lack}

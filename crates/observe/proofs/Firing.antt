@@ -1,7 +1,7 @@
 -- One Z bus fires: of its neighbours m exactly one is not in s.
 use mathlib.Core.Path.{_≡_, ap}
 use mathlib.Core.Logic.{⊎-elim}
-use Prim.Native.Nat.{ℕ, max}
+use Prim.Native.Nat.{ℕ}
 use native.Mathlib.Omega.{arith}
 use native.Mathlib.Nat.{le-refl}
 use Rattle.busset.specs.Sets.{bit, In, Out, lack, size, Union}

@@ -1,13 +1,13 @@
 -- The test of one step, reason by reason.
-use mathlib.Core.Path.{_≡_, ap, subst, subst⁻¹}
+use mathlib.Core.Path.{_≡_, subst, subst⁻¹}
 use mathlib.Core.Logic.{⊎-elim}
 use mathlib.Core.Bool.{Bool}
-use Prim.Native.Nat.{ℕ, _≤_}
+use Prim.Native.Nat.{ℕ}
 use native.Mathlib.Omega.{arith}
 use Rattle.busset.specs.Deciding.{Decides}
-use Rattle.busset.specs.Sets.{Bus, bit, In, Out, Sub, With}
+use Rattle.busset.specs.Sets.{Bus, In, Sub, With}
 use Rattle.busset.proofs.Tests.{same-or, decides-by}
-use Rattle.busset.proofs.Members.{in-or, sub-of}
+use Rattle.busset.proofs.Members.{sub-of}
 use Rattle.step.specs.declared.Reason.{Reason}
 use Rattle.step.specs.declared.Step.{Step}
 use Rattle.rules.specs.Grids.{Grid}

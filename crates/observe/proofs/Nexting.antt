@@ -1,16 +1,16 @@
 -- The search for the next step: what the buses and reasons passed say, and each way it ends.
-use mathlib.Core.Path.{_≡_, sym, ap, _∙_, subst}
+use mathlib.Core.Path.{_≡_, subst}
 use mathlib.Core.Logic.{⊎-elim}
 use Prim.Native.Nat.{ℕ, _+_, _≤_, _<_}
 use native.Mathlib.Omega.{arith}
-use Rattle.busset.specs.Sets.{Bus, In, Out}
+use Rattle.busset.specs.Sets.{In, Out}
 use Rattle.busset.proofs.Tests.{same-or, below-or}
 use Rattle.step.specs.declared.Reason.{Reason}
 use Rattle.step.specs.declared.Reason.the-variants.{OwnUnit, NeighbourOf, ZeroInjection}
 use Rattle.step.specs.declared.Step.{Step}
 use Rattle.rules.specs.Grids.{Grid, Proper}
 use Rattle.rules.specs.Steps.{ByUnit, ByZero, Holds, Allowed, Finished}
-use Rattle.rules.specs.Derivation.{Before, NextIs}
+use Rattle.rules.specs.Derivation.{TakenFirst, NextIs}
 use Rattle.rules.proofs.Reasons.{allowed-bus}
 
 -- ---- numbers below k that lack something
@@ -63,23 +63,23 @@ finished-by {g} {s} v l h y a = let m = allowed-bus v a .most in omega (arith, h
 
 -- ---- the first reason that holds
 
-pub next-by : {g : Grid} {s b : ℕ} (r : Reason) → Clear g s b → Out s b → Holds g s b r → ((q : Reason) → Holds g s b q → Before r q) → NextIs g s (record { bus = b; reason = r })
+pub next-by : {g : Grid} {s b : ℕ} (r : Reason) → Clear g s b → Out s b → Holds g s b r → ((q : Reason) → Holds g s b q → TakenFirst r q) → NextIs g s (record { bus = b; reason = r })
 next-by {g} {s} {b} r c n h f = record {
   allowed = record { new = n; holds = h };
   lowest = λ y a. c .low y a;
   first = λ y a e. f (y .reason) (subst (λ (x : ℕ). Holds g s x (y .reason)) e (a .holds));
 }
 
-pub first-own : (g : Grid) (s b : ℕ) (q : Reason) → Holds g s b q → Before OwnUnit q
+pub first-own : (g : Grid) (s b : ℕ) (q : Reason) → Holds g s b q → TakenFirst OwnUnit q
 first-own g s b q h = tt
 
-pub first-near : (g : Grid) (s : ℕ) {b p : ℕ} → (In (g .units) b → ⊥) → Lacks (ByUnit (g .nbr) (g .units) b) p → (q : Reason) → Holds g s b q → Before (NeighbourOf p) q
+pub first-near : (g : Grid) (s : ℕ) {b p : ℕ} → (In (g .units) b → ⊥) → Lacks (ByUnit (g .nbr) (g .units) b) p → (q : Reason) → Holds g s b q → TakenFirst (NeighbourOf p) q
 first-near g s own u OwnUnit h = own h
 first-near g s own u (NeighbourOf q) h = lacks-first u q h
 first-near g s own u (ZeroInjection w) h = tt
 
 pub first-zero : {g : Grid} {s b p w : ℕ} → Proper g → (In (g .units) b → ⊥) → g .n + 1 ≤ p → Lacks (ByUnit (g .nbr) (g .units) b) p → Lacks (ByZero (g .nbr) (g .zero) s b) w
-    → (q : Reason) → Holds g s b q → Before (ZeroInjection w) q
+    → (q : Reason) → Holds g s b q → TakenFirst (ZeroInjection w) q
 first-zero v own lp u z OwnUnit h = own h
 first-zero v own lp u z (NeighbourOf q) h = let m = v .units q (h .unit) .most in u .below q (omega arith) h
 first-zero v own lp u z (ZeroInjection x) h = lacks-first z x h

@@ -1,14 +1,13 @@
 -- The passes, over the buses that are left: how a turn keeps what they promise, and how they end in the observed set.
 use mathlib.Core.Path.{_≡_, sym, ap, _∙_, subst}
-use mathlib.Core.Logic.{⊎-elim}
-use Prim.Native.Nat.{ℕ, max, min}
+use Prim.Native.Nat.{ℕ}
 use native.Mathlib.Omega.{arith}
 use native.Mathlib.Nat.{le-refl}
 use Rattle.busset.specs.Sets.{bit, In, Out, Sub, empty, Union, Both, Without}
 use Rattle.busset.proofs.Digits.{bit-zero, ext}
-use Rattle.busset.proofs.Members.{in-or, sub-of, without-of, without-sub}
+use Rattle.busset.proofs.Members.{sub-of, without-of, without-sub}
 use Rattle.rules.specs.Grids.{Grid}
-use Rattle.rules.specs.Observation.{O1, Closed, Least, Fired}
+use Rattle.rules.specs.Observation.{Least, Fired}
 use Rattle.observe.specs.Passes.{Started, Fires, AllFired, Swept}
 
 -- ---- O1, unit after unit

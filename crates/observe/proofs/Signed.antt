@@ -9,7 +9,7 @@ use lib.Signed.{mag}
 use mir.Syntax.{w32}
 use mir.Val.{SFits, toZ, ofZ}
 use mir.Facts.{toZ-ofZ}
-use Rattle.busset.specs.Sets.{bit, meet, less, size, setOf, Both, Without}
+use Rattle.busset.specs.Sets.{bit, meet, less, size, Both, Without}
 use Rattle.busset.proofs.Members.{both-meet, without-less}
 use Rattle.rules.specs.Figures.{figure}
 

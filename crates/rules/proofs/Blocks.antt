@@ -1,5 +1,5 @@
 -- Blocking sets: a bus is unobserved exactly when one holds it; each takes a site of its own from every cover, so that groups of sites bound the covers from below.
-use mathlib.Core.Path.{_≡_, ap, _∙_, subst, subst⁻¹}
+use mathlib.Core.Path.{_≡_, ap, _∙_, subst⁻¹}
 use mathlib.Core.Logic.{⊎-elim}
 use mathlib.Core.List.{List, [], _∷_}
 use Prim.Native.Nat.{ℕ, suc, _+_, _-_, _≤_, _<_, zero-le}

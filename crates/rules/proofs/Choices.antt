@@ -1,5 +1,5 @@
 -- Greedy adds one list, and cross-validation gives one set.
-use mathlib.Core.Path.{_≡_, refl, ap₂, subst, subst⁻¹}
+use mathlib.Core.Path.{_≡_, refl, ap₂, subst⁻¹}
 use mathlib.Core.Logic.{⊎-elim}
 use mathlib.Core.List.{List, [], _∷_}
 use Prim.Native.Nat.{ℕ, zero, suc, _≤_, _<_}

@@ -1,20 +1,20 @@
 -- The derivation: there is one at most, it is accepted and finished; so it reaches the observed set, with one step for each bus of it.
 use mathlib.Core.Path.{_≡_, refl, sym, ap, ap₂, subst}
 use mathlib.Core.List.{List, [], _∷_}
-use Prim.Native.Nat.{ℕ, _≤_}
+use Prim.Native.Nat.{ℕ}
 use native.Mathlib.Nat.{le-antisymm}
 use lib.ListN.{length}
-use Rattle.busset.specs.Sets.{empty, add, size}
+use Rattle.busset.specs.Sets.{add, size}
 use Rattle.step.specs.declared.Reason.{Reason}
 use Rattle.step.specs.declared.Reason.the-variants.{OwnUnit, NeighbourOf, ZeroInjection}
 use Rattle.step.specs.declared.Step.{Step}
 use Rattle.rules.specs.Grids.{Grid}
 use Rattle.rules.specs.Observation.{Least}
-use Rattle.rules.specs.Steps.{Allowed, reachedFrom, AcceptedFrom, reached, Accepted, Finished}
-use Rattle.rules.specs.Derivation.{Before, NextIs, DerivedFrom, finished, next, Derivation}
+use Rattle.rules.specs.Steps.{reachedFrom, AcceptedFrom, reached, Finished}
+use Rattle.rules.specs.Derivation.{TakenFirst, NextIs, DerivedFrom, finished, next, Derivation}
 use Rattle.rules.proofs.Lists.{finished-least, accepted-length}
 
-before-antisym : (q r : Reason) → Before q r → Before r q → q ≡ r
+before-antisym : (q r : Reason) → TakenFirst q r → TakenFirst r q → q ≡ r
 before-antisym OwnUnit OwnUnit a b = refl
 before-antisym OwnUnit (NeighbourOf p) a b = absurd b
 before-antisym OwnUnit (ZeroInjection w) a b = absurd b

@@ -1,12 +1,12 @@
 -- The firing figure of a bus towards a neighbour: 1 or 0, less the other neighbours that are not observed. So on k + 2 buses it runs from -k
 -- to 1, and it is 1 exactly when the bus and all its other neighbours are observed.
-use mathlib.Core.Path.{_≡_, refl, sym, ap, _∙_, subst, subst⁻¹}
+use mathlib.Core.Path.{_≡_, refl, sym, ap, _∙_, subst⁻¹}
 use mathlib.Core.Logic.{⊎-elim}
-use Prim.Native.Nat.{ℕ, zero, suc, _+_, _-_, _≤_, _<_, min}
+use Prim.Native.Nat.{ℕ, zero, suc, _+_, _-_, _≤_}
 use native.Mathlib.Numerals.{one-add}
 use native.Mathlib.Omega.{arith}
-use lib.Dec.{T, le→leb}
-use lib.IntN.{ℤ, pos, negsuc, negℤ, _+ℤ_, _-ℤ_, +ℤ-assoc, +ℤ-comm, +ℤ-idl, +ℤ-invr, negℤ-+ℤ, pos-+ℤ-pos}
+use lib.Dec.{le→leb}
+use lib.IntN.{ℤ, pos, negℤ, _+ℤ_, _-ℤ_, +ℤ-assoc, +ℤ-comm, +ℤ-idl, +ℤ-invr, negℤ-+ℤ, pos-+ℤ-pos}
 use lib.Signed.{_≤ℤ_}
 use Rattle.busset.specs.Sets.{Bus, bit, In, Out, Within, add, size, less, meet, lack}
 use Rattle.busset.proofs.Tests.{same-or}

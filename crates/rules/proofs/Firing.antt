@@ -3,7 +3,7 @@ use mathlib.Core.Path.{_≡_}
 use mathlib.Core.Logic.{⊎-elim}
 use Prim.Native.Nat.{ℕ, _-_}
 use native.Mathlib.Omega.{arith}
-use Rattle.busset.specs.Sets.{bit, In, Out, Sub, lack, size}
+use Rattle.busset.specs.Sets.{In, Out, Sub, lack, size}
 use Rattle.busset.proofs.Members.{in-or, lack-at}
 use Rattle.busset.proofs.Sizes.{size-single, size-one}
 use Rattle.rules.specs.Observation.{AllBut, Fired}

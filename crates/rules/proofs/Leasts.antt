@@ -2,11 +2,11 @@
 use mathlib.Core.Path.{_≡_, ap}
 use Prim.Native.Nat.{ℕ}
 use native.Mathlib.Omega.{arith}
-use Rattle.busset.specs.Sets.{Bus, bit, In, Sub, All, empty}
+use Rattle.busset.specs.Sets.{Bus, bit, In, All, empty}
 use Rattle.busset.proofs.Digits.{bit-zero}
 use Rattle.busset.proofs.Members.{sub-of, sub-antisym, empty-sub}
 use Rattle.rules.specs.Grids.{Grid, Proper}
-use Rattle.rules.specs.Observation.{O1, Closed, Least}
+use Rattle.rules.specs.Observation.{Closed, Least}
 
 pub least-unique : (g : Grid) (s t : ℕ) → Least g s → Least g t → s ≡ t
 least-unique g s t p q = sub-antisym s t (p .least t (q .closed)) (q .least s (p .closed))

@@ -1,18 +1,17 @@
 -- Accepted lists: they stay inside every closed set; a finished one reaches the observed set; and they have as many steps as they reach buses.
-use mathlib.Core.Path.{_≡_, refl, sym, ap, _∙_}
+use mathlib.Core.Path.{_≡_, ap, _∙_}
 use mathlib.Core.List.{List, [], _∷_}
 use mathlib.Core.Logic.{⊎-elim}
-use Prim.Native.Nat.{ℕ, zero, suc, _+_, _≤_}
+use Prim.Native.Nat.{ℕ, _+_}
 use native.Mathlib.Omega.{arith}
 use lib.ListN.{length}
-use Rattle.busset.specs.Sets.{bit, In, Out, Sub, empty, add, size}
+use Rattle.busset.specs.Sets.{In, Out, Sub, empty, add, size}
 use Rattle.busset.proofs.Members.{in-or, empty-sub, add-sub, add-grows}
 use Rattle.busset.proofs.Sizes.{size-add, size-empty}
-use Rattle.step.specs.declared.Reason.{Reason}
 use Rattle.step.specs.declared.Step.{Step}
 use Rattle.rules.specs.Grids.{Grid, Proper}
 use Rattle.rules.specs.Observation.{Closed, Least}
-use Rattle.rules.specs.Steps.{Holds, HasReasoned, Allowed, Names, reachedFrom, AcceptedFrom, reached, Accepted, Finished}
+use Rattle.rules.specs.Steps.{Names, reachedFrom, AcceptedFrom, reached, Accepted, Finished}
 use Rattle.rules.specs.Weaving.{Each}
 use Rattle.rules.proofs.Reasons.{holds-more, closed-reasoned, reasoned-closed, allowed-names}
 use Rattle.rules.proofs.Leasts.{least-unique}

@@ -1,16 +1,15 @@
 -- The reasons: they go on holding in a larger set, and a set is closed under O1 and O2 exactly when it is closed under them.
 -- A later rule adds a case to each of these laws, and no other theorem names a reason.
-use mathlib.Core.Path.{_≡_}
 use Prim.Native.Nat.{ℕ, _≤_}
 use native.Mathlib.Omega.{arith}
-use Rattle.busset.specs.Sets.{Bus, In, Out, Sub}
+use Rattle.busset.specs.Sets.{Bus, Sub}
 use Rattle.busset.proofs.Members.{sub-of, bus-more}
 use Rattle.step.specs.declared.Reason.{Reason}
 use Rattle.step.specs.declared.Reason.the-variants.{OwnUnit, NeighbourOf, ZeroInjection}
 use Rattle.step.specs.declared.Step.{Step}
 use Rattle.rules.specs.Grids.{Grid, Proper}
-use Rattle.rules.specs.Observation.{O1, Closed}
-use Rattle.rules.specs.Steps.{ByUnit, ByZero, Holds, Allowed, HasReasoned, ReasonNames, Names}
+use Rattle.rules.specs.Observation.{Closed}
+use Rattle.rules.specs.Steps.{Holds, Allowed, HasReasoned, ReasonNames, Names}
 
 -- a reason that holds goes on holding in a larger set
 pub holds-more : (g : Grid) (s t b : ℕ) → Sub s t → (r : Reason) → Holds g s b r → Holds g t b r

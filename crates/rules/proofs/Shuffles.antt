@@ -1,17 +1,16 @@
 -- Demand 3: weaving any shuffle of lists that are each accepted alone. No reason is named here: that one goes on holding is all that is used.
-use mathlib.Core.Path.{_≡_, refl, sym, ap, _∙_, subst, subst⁻¹}
+use mathlib.Core.Path.{_≡_, refl, subst, subst⁻¹}
 use mathlib.Core.List.{List, [], _∷_}
 use mathlib.Core.Logic.{_⊎_, inl, inr, ⊎-elim}
-use Prim.Native.Nat.{ℕ, zero, suc, _+_, _≤_, max}
+use Prim.Native.Nat.{ℕ, zero, suc}
 use native.Mathlib.Omega.{arith}
-use lib.ListN.{length}
-use Rattle.busset.specs.Sets.{bit, In, Out, Sub, empty, add, size}
+use Rattle.busset.specs.Sets.{bit, In, Out, Sub, empty, add}
 use Rattle.busset.proofs.Digits.{bit-zero}
-use Rattle.busset.proofs.Members.{in-or, sub-of, sub-antisym, add-of, add-here, add-grows, add-both, add-again}
+use Rattle.busset.proofs.Members.{sub-of, sub-antisym, add-of, add-here, add-grows, add-both, add-again}
 use Rattle.step.specs.declared.Step.{Step}
 use Rattle.rules.specs.Grids.{Grid}
 use Rattle.rules.specs.Observation.{Least}
-use Rattle.rules.specs.Steps.{Holds, Allowed, reachedFrom, AcceptedFrom, reached, Accepted, Finished}
+use Rattle.rules.specs.Steps.{Holds, reachedFrom, AcceptedFrom, reached, Accepted, Finished}
 use Rattle.rules.specs.Weaving.{unlessSeen, wovenFrom, WeavableFrom, woven, Weavable, Each, Some, Taken, here, there, Shuffle, none, next, Woven}
 use Rattle.rules.proofs.Reasons.{holds-more}
 use Rattle.rules.proofs.Lists.{reached-grows, accepted-inside, accepted-length, finished-least}

@@ -1,8 +1,8 @@
 -- Tests of a grid that is written out, which the checker computes: each is a number that is 0 where it passes.
-use mathlib.Core.Path.{_≡_, refl, sym, ap, _∙_, subst, subst⁻¹}
+use mathlib.Core.Path.{_≡_, refl, ap, subst, subst⁻¹}
 use mathlib.Core.List.{List, [], _∷_}
 use mathlib.Core.Logic.{⊎-elim}
-use Prim.Native.Nat.{ℕ, zero, suc, _+_, _-_, _*_, _≤_, _<_}
+use Prim.Native.Nat.{ℕ, zero, suc, _+_, _-_, _≤_, _<_}
 use native.Mathlib.Omega.{arith}
 use Rattle.busset.specs.Sets.{Bus, bit, In, Out, Sub, Within, empty, add, lack, less, size}
 use Rattle.busset.proofs.Tests.{same-or, below-or}
@@ -11,8 +11,8 @@ use Rattle.step.specs.declared.Reason.{Reason}
 use Rattle.step.specs.declared.Reason.the-variants.{OwnUnit, NeighbourOf, ZeroInjection}
 use Rattle.step.specs.declared.Step.{Step}
 use Rattle.rules.specs.Grids.{Grid, Proper, total}
-use Rattle.rules.specs.Observation.{O1, AllBut, Fired, Closed, Least}
-use Rattle.rules.specs.Steps.{ByUnit, ByZero, Holds, Allowed, reachedFrom, AcceptedFrom, reached, Accepted}
+use Rattle.rules.specs.Observation.{Closed, Least}
+use Rattle.rules.specs.Steps.{Holds, AcceptedFrom, reached}
 use Rattle.rules.proofs.Firing.{fired-by}
 use Rattle.rules.proofs.Lists.{accepted-inside}
 

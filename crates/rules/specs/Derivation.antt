@@ -10,20 +10,20 @@ use Rattle.rules.specs.Grids.{Grid}
 use Rattle.rules.specs.Steps.{Allowed, Finished}
 
 -- the reason q is taken before r, or is r: O, else N with the lowest p, else Z with the lowest w
-abbrev pub Before : Reason → Reason → Type 0
-Before OwnUnit r = Unit {0}
-Before (NeighbourOf p) OwnUnit = ⊥
-Before (NeighbourOf p) (NeighbourOf q) = p ≤ q
-Before (NeighbourOf p) (ZeroInjection w) = Unit {0}
-Before (ZeroInjection w) OwnUnit = ⊥
-Before (ZeroInjection w) (NeighbourOf q) = ⊥
-Before (ZeroInjection w) (ZeroInjection v) = w ≤ v
+abbrev pub TakenFirst : Reason → Reason → Type 0
+TakenFirst OwnUnit r = Unit {0}
+TakenFirst (NeighbourOf p) OwnUnit = ⊥
+TakenFirst (NeighbourOf p) (NeighbourOf q) = p ≤ q
+TakenFirst (NeighbourOf p) (ZeroInjection w) = Unit {0}
+TakenFirst (ZeroInjection w) OwnUnit = ⊥
+TakenFirst (ZeroInjection w) (NeighbourOf q) = ⊥
+TakenFirst (ZeroInjection w) (ZeroInjection v) = w ≤ v
 
 -- x is the next step where s is observed: for the lowest-numbered bus that any rule reaches, with the reason that is taken first
 pub record NextIs (g : Grid) (s : ℕ) (x : Step) : Type 0 where
   pub allowed : Allowed g s x
   pub lowest : (y : Step) → Allowed g s y → x .bus ≤ y .bus
-  pub first : (y : Step) → Allowed g s y → y .bus ≡ x .bus → Before (x .reason) (y .reason)
+  pub first : (y : Step) → Allowed g s y → y .bus ≡ x .bus → TakenFirst (x .reason) (y .reason)
 
 -- the list that goes on so from s, until no step is allowed
 pub data DerivedFrom (g : Grid) : ℕ → List Step → Type 0 where

@@ -1,5 +1,4 @@
 -- Steps: when a reason holds, when a step is allowed, and lists of steps.
-use mathlib.Core.Path.{_≡_}
 use mathlib.Core.List.{List, [], _∷_}
 use Prim.Native.Nat.{ℕ}
 use Rattle.busset.specs.Sets.{Bus, In, Out, empty, add}

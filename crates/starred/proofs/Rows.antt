@@ -1,13 +1,13 @@
 -- The table of starred grids, proved: each row by a test that the checker computes, and for an observed set the list that derives it.
-use mathlib.Core.Path.{_≡_, refl, sym, ap, _∙_}
+use mathlib.Core.Path.{_≡_, refl, sym, ap}
 use mathlib.Core.List.{List, [], _∷_}
 use mathlib.Core.Logic.{inl, inr}
-use Prim.Native.Nat.{ℕ, zero, suc, _+_, _-_}
+use Prim.Native.Nat.{ℕ, suc, _+_, _-_}
 use native.Mathlib.Omega.{arith}
 use lib.Dec.{lit≤}
 use lib.IntN.{ℤ, pos, negsuc}
 use lib.Count.{ones, onesIn}
-use Rattle.busset.specs.Sets.{Bus, bit, In, empty, add, meet, lack, less, upTo, setOf}
+use Rattle.busset.specs.Sets.{Bus, bit, empty, add, meet, lack, less, upTo, setOf}
 use Rattle.busset.proofs.Digits.{bit-zero}
 use Rattle.step.specs.declared.Reason.{Reason}
 use Rattle.step.specs.declared.Reason.the-variants.{OwnUnit, NeighbourOf, ZeroInjection}
@@ -17,13 +17,12 @@ use Rattle.rules.specs.Steps.{Names, ReasonNames}
 use Rattle.rules.specs.Figures.{figure}
 use Rattle.rules.proofs.Tests.{gap, gap-none, isOne, given, subTest, holdsTest, acceptedTest, closedTest, leastTest, least-passes, holds-tests}
 use Rattle.rules.proofs.Sought.{Sought, pick, reasonFor, reasonAt, stepFor, passFrom, extended, derive, confirmTest, aloneTest, unconfirmedTest, noBetter, bestTest, noneTest, greedyTest, after, none, some, unsure, judged, judge, orElse, choose, seek, firstOf, smallest}
-use Rattle.grid.specs.declared.Case.{Case}
 use Rattle.grid.proofs.Orders.{itself}
 use Rattle.grid.specs.Cases.{neighbours, gridOf, Valid}
 use Rattle.grid.proofs.Drawn.{withinTest, rowTest, validTest, valid-passes}
 use Rattle.wozgrzyt.specs.Replies.{stated}
 use Rattle.starred.proofs.SitingRows.{grid, free, verdict-right, greedy-right, fewest-right, uncovered-right}
-use Rattle.starred.specs.Table.{Drawing, wordOf, caseOf, Row, observes, figures, fails, unconfirmed, adds, fewestIs, uncovered, Right, AllRight, seven, path, table}
+use Rattle.starred.specs.Table.{wordOf, caseOf, Row, observes, figures, fails, unconfirmed, adds, fewestIs, uncovered, Right, AllRight, table}
 
 -- how far two integers are apart
 abbrev gapZ : ℤ → ℤ → ℕ

@@ -1,19 +1,17 @@
 -- The rows of the table that the siting group's calls answer, each from a test that the checker computes.
 use mathlib.Core.Path.{_≡_, refl, subst}
-use mathlib.Core.List.{List, [], _∷_, _++_}
+use mathlib.Core.List.{List, _++_}
 use mathlib.Core.Logic.{inl, inr}
-use Prim.Native.Nat.{ℕ, zero, suc, _+_, _-_, _^_, _≤_, _<_}
+use Prim.Native.Nat.{ℕ, _+_, _-_, _^_, _≤_, _<_}
 use native.Mathlib.Omega.{arith}
 use lib.ListN.{length, drop}
 use Rattle.busset.specs.Sets.{lack, setOf}
 use Rattle.busset.proofs.Members.{lack-at}
 use Rattle.busset.proofs.Words.{set-bus}
 use Rattle.rules.specs.Grids.{Grid}
-use Rattle.rules.specs.Placing as placing
 use Rattle.rules.proofs.Choices.{greedy-unique}
 use Rattle.rules.proofs.Ordering.{fewest-some}
 use Rattle.rules.proofs.Sought.{unconfirmedTest, unconfirmed-passes, greedyTest, greedy-passes, none, some, smallest, fewest-passes}
-use Rattle.grid.specs.declared.Case.{Case}
 use Rattle.grid.specs.declared.refusal.Refusal.the-variants.{NoCover}
 use Rattle.grid.specs.Cases.{gridOf, Valid}
 use Rattle.grid.proofs.Orders.{itself}

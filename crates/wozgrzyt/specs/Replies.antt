@@ -4,7 +4,6 @@ use mathlib.Core.List.{List, [], _∷_}
 use Prim.Native.Nat.{ℕ}
 use Rattle.busset.specs.Sets.{Bus, In, Out, upTo, setOf}
 use Rattle.step.specs.declared.Step.{Step}
-use Rattle.rules.specs.Grids.{Grid}
 use Rattle.rules.specs.Observation.{Least}
 use Rattle.rules.specs.Steps.{Holds, Names}
 use Rattle.rules.specs.Figures.{figure}

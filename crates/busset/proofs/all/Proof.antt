@@ -1,6 +1,5 @@
 use Prim.Native.Nat.{ℕ}
 use mathlib.Core.Path.{subst⁻¹}
-use native.Mathlib.Omega.{arith}
 use borrow.Author.Needs.{needs}
 use Rattle.busset.specs.Sets.{All, setOf}
 use Rattle.busset.proofs.Words.{all-law, all-shifted, shifted-some}

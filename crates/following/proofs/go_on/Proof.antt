@@ -1,5 +1,3 @@
-use mathlib.Core.Path.{_≡_}
-use Prim.Native.Nat.{suc, _≤_}
 use native.Mathlib.Omega.{arith}
 use borrow.Author.Tests.{not-true, not-false}
 use Rattle.busset.specs.Sets.{Out, setOf}

@@ -1,5 +1,5 @@
-use Prim.Native.Nat.{ℕ, _-_, _≤_, _<_}
-use mathlib.Core.Path.{_≡_, ap, subst}
+use Prim.Native.Nat.{_-_, _<_}
+use mathlib.Core.Path.{ap, subst}
 use native.Mathlib.Omega.{arith}
 use Rattle.busset.specs.Sets.{Bus, size, setOf}
 use Rattle.busset.proofs.Members.{bus-more, with-add}

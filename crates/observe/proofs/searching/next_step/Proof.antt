@@ -1,4 +1,4 @@
-use Prim.Native.Nat.{ℕ, _+_, _-_, _≤_}
+use Prim.Native.Nat.{_+_, _-_, _≤_}
 use mathlib.Core.Path.{_≡_, refl, _∙_, subst⁻¹}
 use mathlib.Core.Logic.{⊎-elim}
 use native.Mathlib.Omega.{arith}
@@ -11,7 +11,7 @@ use Rattle.rules.specs.Steps.{ByUnit, ByZero}
 use Rattle.grid.specs.Cases.{neighbours, gridOf}
 use Rattle.step.specs.declared.Reason.the-variants.{OwnUnit, NeighbourOf, ZeroInjection}
 use Rattle.observe.specs.Searching.{NextAnswer}
-use Rattle.observe.specs.declared.searching.Next.the-variants.{Take, Nothing}
+use Rattle.observe.specs.declared.searching.Next.the-variants.{Nothing}
 use Rattle.observe.proofs.Nexting.{Lacks, lacks-more, no-unit-zero, no-zero-zero, Clear, clear-none, clear-more, none-holds, finished-by, next-by, first-own, first-near, first-zero}
 use borrow.Author.Needs.{needs}
 use Rattle.observe.proofs.searching.next_step.Statement.{statement}

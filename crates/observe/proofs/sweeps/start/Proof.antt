@@ -1,4 +1,3 @@
-use Prim.Native.Nat.{ℕ}
 use native.Mathlib.Omega.{arith}
 use borrow.Author.Tests.{not-true, not-false}
 use Rattle.busset.specs.Sets.{setOf, size}
