@@ -4,30 +4,9 @@
     tests/try_grids.py                prints crates/try_grids/stdout
     tests/try_grids.py --questions    prints crates/try_grids/stdin: the same questions, as the program reads them
 """
-import sys
-
 import reference
+from asked import ASKING, draw, line
 from reference import blank, drawn
-
-ASKING = "--questions" in sys.argv
-
-
-def line(letter, a=0, b=0, name=""):
-    print("%s\t%d\t%d\t%s" % (letter, a, b, name))
-
-
-def draw(case, stated):
-    n, rows = case["n"], case["rows"]
-    line("n", n)
-    for letter, buses in (("z", case["zero"]), ("y", case["site"] - blank(n)["site"]), ("u", case["units"]), ("s", stated)):
-        for b in sorted(buses):
-            line(letter, b)
-    for a in rows:
-        for b in sorted(rows[a]):
-            if a not in rows[b]:
-                line("h", a, b)
-            elif a <= b:
-                line("l", a, b)
 
 
 def say(name, answer):

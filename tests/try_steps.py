@@ -1,7 +1,15 @@
 #!/usr/bin/env python3
-"""Prints what crates/try_steps must print, by the reference: tests/try_steps.py | diff - crates/try_steps/stdout"""
+"""Prints what crates/try_steps must print, by the reference, and what it is asked.
+
+    tests/try_steps.py                prints crates/try_steps/stdout
+    tests/try_steps.py --questions    prints crates/try_steps/stdin: the same questions, as the program reads them
+"""
+import itertools
+
+from asked import ASKING, draw, line
 from reference import blank, derivation, drawn, replay, test_step, weave
 
+LAST = []
 FILLING = [(100 + i, ("N", 200 + i)) for i in range(72)]
 
 
@@ -35,23 +43,60 @@ def woven(case, steps, room):
     return " %d written" % count + listed(records[:count]) + ", reached" + numbers(answer[1]) + rest + ", replayed" + replayed(case, records[:count])
 
 
+def put(case, steps):
+    """The lines of the case and of the steps, unless they are those asked last."""
+    if LAST[:1] != [case]:
+        draw(case)
+    elif LAST[1] != steps:
+        line("e")
+    if LAST != [case, steps]:
+        count = 0
+        for (bus, reason), same in itertools.groupby(steps):
+            line(reason[0], bus, *reason[1:])
+            times = len(list(same))
+            count += times
+            if times > 1:
+                line("c", count)
+    LAST[:] = [case, steps]
+
+
+def asked(name, case, steps, letter, answer, a=0):
+    if ASKING:
+        put(case, steps)
+        line(letter, a, 0, name)
+    else:
+        print(name + ":" + answer)
+
+
+def derives(name, case):
+    asked(name, case, [], "d", derived(case))
+
+
+def replays(name, case, steps):
+    asked(name, case, steps, "r", replayed(case, steps))
+
+
+def weaves(name, case, steps, room=72):
+    asked(name, case, steps, "w", woven(case, steps, room), room)
+
+
 def both(name, case, steps):
-    print("replay " + name + ":" + replayed(case, steps))
-    print("weave " + name + ":" + woven(case, steps, 72))
+    replays("replay " + name, case, steps)
+    weaves("weave " + name, case, steps)
 
 
 def in_three_places(case, step):
     good = derivation(case)
     for name, at in (("first", 0), ("in the middle", 2), ("last", len(good))):
         steps = good[:at] + [step] + good[at:]
-        print("replay," + listed([step]) + " " + name + ":" + replayed(case, steps))
-        print("weave," + listed([step]) + " " + name + ":" + woven(case, steps, 72))
+        replays("replay," + listed([step]) + " " + name, case, steps)
+        weaves("weave," + listed([step]) + " " + name, case, steps)
 
 
 def many(name, case, steps, count):
     steps = steps + steps[-1:] * (count - len(steps))
-    print("replay %d" % count + name + ":" + replayed(case, steps))
-    print("weave %d" % count + name + ":" + woven(case, steps, 72))
+    replays("replay %d" % count + name, case, steps)
+    weaves("weave %d" % count + name, case, steps)
 
 
 def after(x):
@@ -83,11 +128,15 @@ def shuffled(lists, seed):
 
 def shuffles(name, case, count):
     lists = [drawn_list(case, d + 1) for d in range(count)]
-    for steps in lists:
-        print(name + ", a desk's list:" + listed(steps) + ", replayed:" + replayed(case, steps))
+    for d, steps in enumerate(lists):
+        if ASKING:
+            put(case, [])
+            line("D", d + 1)
+            LAST[:] = [case, steps]
+        asked(name + ", a desk's list", case, steps, "k", listed(steps) + ", replayed:" + replayed(case, steps))
     for k in range(1, 25):
         steps = shuffled(lists, k)
-        print(name + ", shuffle %d of %d steps:" % (k, len(steps)) + woven(case, steps, 64))
+        weaves(name + ", shuffle %d of %d steps" % (k, len(steps)), case, steps, 64)
 
 
 seven = drawn(blank(7), lines=[(1, 2), (2, 3), (3, 4), (3, 7), (4, 5), (5, 6)], zero=[2, 3, 5])
@@ -103,9 +152,9 @@ for name, case in (
     ("seven, unit at 4", drawn(seven, units=[4])), ("seven, units at 1 and 4", pair), ("path", path),
     ("row of 64 Z, unit at 1", row), ("ring", ring),
 ):
-    print(name + ":" + derived(case))
-    print(name + ", replayed:" + replayed(case, derivation(case)))
-print("invalid case:" + derived(drawn(seven, lines=[(8, 1)])))
+    derives(name, case)
+    replays(name + ", replayed", case, derivation(case))
+derives("invalid case", drawn(seven, lines=[(8, 1)]))
 
 for step in (
     (8, ("O",)), (0, ("N", 3)), (2, ("N", 8)), (2, ("N", 0)), (1, ("Z", 64)),
@@ -127,16 +176,16 @@ many(" bad steps", three, bad, 1024)
 many(" bad steps", three, bad, 1025)
 many(" steps of an invalid case", invalid, good, 1025)
 most = good + good[-1:] * (1023 - len(good))
-print("replay, bad step 1024:" + replayed(three, most + bad))
-print("weave, bad step 1024:" + woven(three, most + bad, 72))
-print("weave, false step 1024:" + woven(three, most + [(6, ("O",))], 72))
-print("weave, passed step 1024:" + woven(three, most + [(2, ("O",))], 72))
+replays("replay, bad step 1024", three, most + bad)
+weaves("weave, bad step 1024", three, most + bad)
+weaves("weave, false step 1024", three, most + [(6, ("O",))])
+weaves("weave, passed step 1024", three, most + [(2, ("O",))])
 
 for room in (0, 4, 5, 6):
-    print("weave 5 into %d:" % room + woven(three, good, room))
-print("weave 5 and a bad step into 0:" + woven(three, good + bad, 0))
+    weaves("weave 5 into %d" % room, three, good, room)
+weaves("weave 5 and a bad step into 0", three, good + bad, 0)
 for room in (63, 64, 65, 72):
-    print("weave 64 into %d:" % room + woven(row, derivation(row), room))
+    weaves("weave 64 into %d" % room, row, derivation(row), room)
 
 for name, case in (("seven, units at 1 and 4", pair), ("ring", ring)):
     shuffles(name + ", two desks", case, 2)

@@ -9,6 +9,15 @@ use wozgrzyt::Reason;
 use wozgrzyt::Step;
 use wozgrzyt::Tested;
 
+// The stated set. n: none. s: one bus more.
+pub fn stated(s: BusSet, letter: u8, a: usize) -> BusSet {
+    match letter {
+        b'n' => busset::none(),
+        b's' => drawn::marked(s, a),
+        _ => s,
+    }
+}
+
 // The figures that are right for some line.
 fn figure(y: i32) {
     if y == 1 {

@@ -29,26 +29,6 @@ pub fn add(p: Plan, s: Step) -> Plan {
     m
 }
 
-pub fn own(p: Plan, bus: usize) -> Plan {
-    add(
-        p,
-        Step {
-            bus,
-            reason: Reason::OwnUnit,
-        },
-    )
-}
-
-pub fn near(p: Plan, bus: usize, unit: usize) -> Plan {
-    add(
-        p,
-        Step {
-            bus,
-            reason: Reason::NeighbourOf(unit),
-        },
-    )
-}
-
 // The step at i, counted from 0.
 pub fn nth(p: Plan, i: usize) -> Step {
     if 1025 <= i {
@@ -58,20 +38,6 @@ pub fn nth(p: Plan, i: usize) -> Step {
         };
     }
     p.steps[i]
-}
-
-// The list m, and after it the steps of p from `from` to before `end`.
-pub fn copied(m: Plan, p: Plan, from: usize, end: usize) -> Plan {
-    let mut r = m;
-    for i in from..end {
-        r = add(r, nth(p, i));
-    }
-    r
-}
-
-// The list p with the step put in at `at`.
-pub fn inserted(p: Plan, at: usize, s: Step) -> Plan {
-    copied(add(copied(none(), p, 0, at), s), p, at, p.n)
 }
 
 // The list p, and after it its last step again and again, until there are `count`.

@@ -29,13 +29,13 @@ fn reason(r: Reason) {
     }
 }
 
-pub fn step(s: Step) {
+fn step(s: Step) {
     let r = s.reason;
     spaced(s.bus);
     reason(r);
 }
 
-pub fn steps(p: Plan) {
+fn steps(p: Plan) {
     let n = p.n;
     for i in 0..n {
         step(plans::nth(p, i));
@@ -43,11 +43,9 @@ pub fn steps(p: Plan) {
 }
 
 // The derivation, or the refusal.
-pub fn derives(name: &[u8], case: Case) {
+fn derives(case: Case) {
     let d = wozgrzyt::derivation(case);
     let answer = d.answer;
-    text(name);
-    text(b":");
     match answer {
         DerivationAnswer::Found => {
             let list = d.list;
@@ -55,7 +53,6 @@ pub fn derives(name: &[u8], case: Case) {
         }
         DerivationAnswer::Refused(r) => refused(r),
     }
-    text(b"\n");
 }
 
 fn replayed(answer: Replayed) {
@@ -72,20 +69,13 @@ fn replayed(answer: Replayed) {
     }
 }
 
+// The set that the list reaches and whether it is finished, or the refusal.
 fn replay_of(case: Case, p: Plan) {
     let n = p.n;
     let list = p.steps;
     if n <= 1025 {
         replayed(replay_first(case, list, n));
     }
-}
-
-// The set that the list reaches and whether it is finished, or the refusal.
-pub fn replays(name: &[u8], case: Case, p: Plan) {
-    text(name);
-    text(b":");
-    replay_of(case, p);
-    text(b"\n");
 }
 
 fn rest(is_kept: bool) {
@@ -97,7 +87,7 @@ fn rest(is_kept: bool) {
 }
 
 // The records written, the set reached, and whether the records after them are as they were; or the refusal, and whether all are. What was written is replayed.
-pub fn weave_of(case: Case, p: Plan, room: usize) {
+fn weave_of(case: Case, p: Plan, room: usize) {
     let shown = records::woven(case, p, room);
     let answer = shown.answer;
     match answer {
@@ -119,9 +109,26 @@ pub fn weave_of(case: Case, p: Plan, room: usize) {
     }
 }
 
-pub fn weaves(name: &[u8], case: Case, p: Plan, room: usize) {
-    text(name);
-    text(b":");
-    weave_of(case, p, room);
-    text(b"\n");
+// d: the derivation. r: the list, replayed. k: the list, and the same. Any other: the list, woven into so many records.
+fn answer(case: Case, p: Plan, letter: u8, room: usize) {
+    match letter {
+        b'd' => derives(case),
+        b'r' => replay_of(case, p),
+        b'k' => {
+            steps(p);
+            text(b", replayed:");
+            replay_of(case, p);
+        }
+        _ => weave_of(case, p, room),
+    }
+}
+
+// What a line asks. Only those that ask have a name.
+pub fn ask(name: &[u8], case: Case, p: Plan, letter: u8, room: usize) {
+    if 0 < name.len() {
+        text(name);
+        text(b":");
+        answer(case, p, letter, room);
+        text(b"\n");
+    }
 }

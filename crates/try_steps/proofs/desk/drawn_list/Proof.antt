@@ -1,7 +1,7 @@
 use Prim.Native.Nat.{_-_, _≤_}
 use borrow.Author.Needs.{needs}
-use Rattle.try_steps.proofs.shuffles.drawn_list.Statement.{statement}
-use Rattle.try_steps.proofs.shuffles.drawn_list.Tie as tie
+use Rattle.try_steps.proofs.desk.drawn_list.Statement.{statement}
+use Rattle.try_steps.proofs.desk.drawn_list.Tie as tie
 
 abbrev Inv-loop : tie.InvT-loop
 Inv-loop case seed p₀ seen₀ x₀ i₀ p seen x i = i ≤ 800
