@@ -35,7 +35,8 @@ use Rattle.demands.specs.TextChecks.{caseChecks, stepTextChecks, withFif
 use Rattle.demands.specs.ByTable as asked
 use Rattle.demands.specs.ByTable.{Coded, TextRefuses, ByTable}
 use Rattle.demands.proofs.Firsts.{failed-first, Ends, met, ends-later, ends-sooner}
-use Rattle.demands.proofs.Turns.{TurnsBy, Follows, then-ordered, then-turn, turn-more, then-follows, replay-turn, case-ordered, case-turn, fifty-text-turn}
+use Rattle.demands.proofs.Turns.{TurnsBy, Follows, then-ordered, then-turn, turn-more, then-follows, replay-turn}
+use Rattle.demands.proofs.TextTurns.{case-ordered, case-turn, fifty-text-turn}
 use Rattle.demands.proofs.Judging.{SaidBy, good, bad}
 use Rattle.demands.proofs.CaseTexts.{IsCase, case-judged}
 use Rattle.demands.proofs.TextsByTable.{text-replay-ends, text-replay-follows}

@@ -7,6 +7,7 @@ pub mod EstimatorUniqueness
 pub mod Determined
 pub mod Firsts
 pub mod Turns
+pub mod TextTurns
 pub mod Judging
 pub mod CaseTexts
 pub mod StepTexts

@@ -28,7 +28,8 @@ use Rattle.demands.specs.Order.{turn, InOrder}
 use Rattle.demands.specs.TextChecks.{IsNumber, planLineChecks, inputChecks, caseChecks, lineChecks, printChecks}
 use Rattle.demands.specs.ByTable.{Refuses, ByTable, PrintedByTable, FewestPrinted}
 use Rattle.demands.proofs.Firsts.{passed-then, reply-meets}
-use Rattle.demands.proofs.Turns.{then-ordered, case-ordered, input-ordered, input-turn}
+use Rattle.demands.proofs.Turns.{then-ordered}
+use Rattle.demands.proofs.TextTurns.{case-ordered, input-ordered, input-turn}
 use Rattle.demands.proofs.Judging.{good, bad, passing, failing}
 use Rattle.demands.proofs.CaseTexts.{ReadBy, lines-judged, case-judged}
 

@@ -29,7 +29,8 @@ use Rattle.demands.specs.Order.{FirstFails}
 use Rattle.demands.specs.TextChecks.{caseChecks, stepTextChecks, withFifty, stepsReadChecks, textReplayChecks}
 use Rattle.demands.specs.ByTable.{Refuses, Unread, TextRefuses, ByTable}
 use Rattle.demands.proofs.Firsts.{failed-first, Ends, met, ends-later, ends-sooner}
-use Rattle.demands.proofs.Turns.{Follows, then-ordered, then-follows, replay-follows, case-ordered, step-text-ordered, step-text-turn, fifty-follows, fifty-text-turn}
+use Rattle.demands.proofs.Turns.{Follows, then-ordered, then-follows, replay-follows}
+use Rattle.demands.proofs.TextTurns.{case-ordered, step-text-ordered, step-text-turn, fifty-follows, fifty-text-turn}
 use Rattle.demands.proofs.Judging.{SaidBy, good, bad, failing}
 use Rattle.demands.proofs.CaseTexts.{IsCase, case-judged}
 use Rattle.demands.proofs.StepTexts.{IsCount, steps-judged}
