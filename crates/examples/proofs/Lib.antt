@@ -4,6 +4,7 @@ pub mod Readings
 pub mod Results
 pub mod Sets
 pub mod Grids
+pub mod Order
 pub mod Crowded
 pub mod Computed
 pub mod Observation

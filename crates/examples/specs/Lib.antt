@@ -9,6 +9,7 @@ pub mod Results
 pub mod Sets
 pub mod Grids
 pub mod Refusals
+pub mod Order
 pub mod Observation
 pub mod Steps
 pub mod Derivation
