@@ -6,7 +6,8 @@ ghost use Rattle.rules.specs.Ways.{Whatever, Cut};
 ghost use Rattle.grid.specs.Cases.{neighbours, Lines};
 use busset::BusSet;
 
-// No k of the sites make all buses observed where s is: some site of each group must be taken, and none that is can be added to.
+// Says yes only where no k of the sites, added where s is observed, make all buses observed: such a cover has a site of the group, and each of
+// these, tried in turn, leaves no cover of k - 1.
 pub fn is_hopeless(
     n: usize,
     nbr: &[BusSet; 64],

@@ -29,7 +29,7 @@ NothingFollows (b ∷ l) ms = ⊥
 
 -- ---- a case text
 
--- after `end` this, after another record that
+-- the checks after a record: `end` after `end`, `on` after another
 abbrev pub afterRecord : Record → List Check → List Check → List Check
 afterRecord (Grid n) end on = on
 afterRecord (Bus k zero site) end on = on
@@ -57,25 +57,25 @@ caseChecks text = check (length text ≤ mostBytes) 1 0 ∷ linesFrom 1 text
 
 -- ---- a step text
 
--- or 2: the line is a step or `end`
+-- the line is a step or `end`; if not, refusal 2
 abbrev pub isFormed : StepLine → Bool
 isFormed (line.Step x) = true
 isFormed line.End = true
 isFormed line.Wrong = false
 
--- or 3: a step's numbers are 1 to 64
+-- a step's numbers are 1 to 64; if not, refusal 3
 abbrev pub isRanged : StepLine → Bool
 isRanged (line.Step x) = stepInRange x
 isRanged line.End = true
 isRanged line.Wrong = true
 
--- or 12: step k is at most the 1,024th
+-- step k is at most the 1,024th; if not, refusal 12
 abbrev pub HasTurn : StepLine → ℕ → Type 0
 HasTurn (line.Step x) k = k ≤ mostSteps
 HasTurn line.End k = Unit {0}
 HasTurn line.Wrong k = Unit {0}
 
--- after `end` this, after a step that
+-- the checks after a line of a step text: `end` after `end`, `on` after a step
 abbrev pub afterStep : StepLine → List Check → List Check → List Check
 afterStep (line.Step x) end on = on
 afterStep line.End end on = end

@@ -39,7 +39,7 @@ isAfter a b c d = ltb a c || (eqb a c && ltb b d)
 unfoldable pub pastBuses : Place → Bool
 pastBuses s = ltb 0 (s .n) && leb (s .n) (s .bus)
 
--- or 2: a record of this kind may stand here
+-- a record of this kind may stand here; if not, refusal 2
 abbrev pub inPlace : Place → Record → Bool
 inPlace s (Grid n) = eqb (s .n) 0
 inPlace s (Bus k zero site) = ltb (s .bus) (s .n)
@@ -48,7 +48,7 @@ inPlace s (Pmu p) = pastBuses s
 inPlace s End = pastBuses s
 inPlace s Wrong = false
 
--- or 3: its numbers are in range, and it is no 257th `line`
+-- its numbers are in range, and it is no 257th `line`; if not, refusal 3
 abbrev pub inRange : Place → Record → Bool
 inRange s (Grid n) = isBus mostBuses n
 inRange s (Bus k zero site) = isBus (s .n) k
@@ -57,7 +57,7 @@ inRange s (Pmu p) = isBus (s .n) p
 inRange s End = true
 inRange s Wrong = true
 
--- or 4: the bus is the next, a is below b, and `line` and `pmu` rise
+-- the bus is the next, a is below b, and `line` and `pmu` rise; if not, refusal 4
 abbrev pub inOrder : Place → Record → Bool
 inOrder s (Grid n) = true
 inOrder s (Bus k zero site) = eqb k (s .bus + 1)

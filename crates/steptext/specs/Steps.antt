@@ -29,13 +29,13 @@ mostStepBytes = 16384
 
 -- ---- one line
 
--- or 3: a reason's number, if it has one, is 1 to 64
+-- a reason's number, if it has one, is 1 to 64; if not, refusal 3
 abbrev pub reasonInRange : Reason → Bool
 reasonInRange OwnUnit = true
 reasonInRange (NeighbourOf p) = isBus mostBuses p
 reasonInRange (ZeroInjection w) = isBus mostBuses w
 
--- or 3: a step's numbers are 1 to 64
+-- a step's numbers are 1 to 64; if not, refusal 3
 unfoldable pub stepInRange : Step → Bool
 stepInRange x = isBus mostBuses (x .bus) && reasonInRange (x .reason)
 
