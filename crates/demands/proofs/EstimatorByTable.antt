@@ -16,6 +16,7 @@ use Rattle.reader.specs.Reading.{refused, readCase}
 use Rattle.reader.specs.declared.CaseRead.{CaseRead}
 use Rattle.following.specs.Replies.{replayChecks}
 use Rattle.steptext.specs.Steps.{stepsOf}
+use Rattle.textreplay.specs.Replying.{TextReplayReply}
 use Rattle.textreplay.specs.declared.TextReplayed.{TextReplayed}
 use Rattle.textreplay.specs.declared.TextReplayed.the-variants as told
 use Rattle.wozgrzyt.specs.Replies.{observedChecks, ObservedReply}
@@ -28,7 +29,7 @@ use Rattle.wozgrzyt.specs.declared.siting.Fewest.{Fewest}
 use Rattle.wozgrzyt.specs.declared.siting.Fewest.the-variants as fewest
 use Rattle.estimator.specs.declared.answers.Answer.{Answer}
 use Rattle.estimator.specs.declared.answers.Answer.the-variants.{Set, Refused, Unread}
-use Rattle.estimator.specs.Answers.{ofObserved, ofVerdict, ofFewest, ofReplay, ObservedFor, UnconfirmedFor, FewestFor, ReplayFor, OfRead, OfText}
+use Rattle.estimator.specs.Answers.{ofObserved, ofVerdict, ofFewest, ofReplay, Said, ObservedFor, UnconfirmedFor, FewestFor, ReplayFor, OfRead, OfText}
 use Rattle.estimator.specs.Results.{Replied, Answered}
 use Rattle.demands.specs.Order.{InOrder, FirstFails}
 use Rattle.demands.specs.TextChecks.{caseChecks, stepTextChecks, withFifty, textReplayChecks, roomForSet, estimatorChecks}
@@ -127,8 +128,13 @@ answered text P checks fits inner lent left r p =
 
 -- ---- the four
 
+-- the answer of a reply that meets the call's promise
+said : {R : Type 0} (promise : R → Type 0) (of : R → Answer) (checks : List Check) → ((r : R) → promise r → Ends checks (AnswerRefuses (of r)))
+    → (a : Answer) → Said promise of a → Ends checks (AnswerRefuses a)
+said promise of checks ends a p = subst⁻¹ (λ (x : Answer). Ends checks (AnswerRefuses x)) (p .is) (ends (p .reply) (p .meets))
+
 observed-ends : (c : Case) (a : Answer) → ObservedFor c a → Ends (observedChecks c) (AnswerRefuses a)
-observed-ends c a p = subst⁻¹ (λ (x : Answer). Ends (observedChecks c) (AnswerRefuses x)) (p .is) (go (p .reply) (p .meets))
+observed-ends c = said (ObservedReply c) ofObserved (observedChecks c) go
   where
     go : (r : Observed) → ObservedReply c r → Ends (observedChecks c) (AnswerRefuses (ofObserved r))
     go (observed.Set s) h = inl (h .0, λ n k x. x)
@@ -138,7 +144,7 @@ pub wz-observed : (text lent left : List ℕ) (r : ℕ) → Answered (OfText tex
 wz-observed text = answered text ObservedFor observedChecks (λ c. ((tt, λ q h. (inl (omega (arith, h)), tt)), (lit≤ tt, tt))) observed-ends
 
 unconfirmed-ends : (c : Case) (a : Answer) → UnconfirmedFor c a → Ends (verdictChecks c) (AnswerRefuses a)
-unconfirmed-ends c a p = subst⁻¹ (λ (x : Answer). Ends (verdictChecks c) (AnswerRefuses x)) (p .is) (go (p .reply) (p .meets))
+unconfirmed-ends c = said (VerdictReply c) ofVerdict (verdictChecks c) go
   where
     go : (r : Verdict) → VerdictReply c r → Ends (verdictChecks c) (AnswerRefuses (ofVerdict r))
     go (verdict.Unconfirmed s) h = inl (h .0, λ n k x. x)
@@ -152,7 +158,7 @@ abbrev fewestAt : ℕ → Case → List Check
 fewestAt budget c = fewestChecks c budget
 
 fewest-ends : (budget : ℕ) (c : Case) (a : Answer) → FewestFor budget c a → Ends (fewestAt budget c) (AnswerRefuses a)
-fewest-ends budget c a p = subst⁻¹ (λ (x : Answer). Ends (fewestAt budget c) (AnswerRefuses x)) (p .is) (go (p .reply) (p .meets))
+fewest-ends budget c = said (FewestReply c budget) ofFewest (fewestAt budget c) go
   where
     go : (r : Fewest) → FewestReply c budget r → Ends (fewestAt budget c) (AnswerRefuses (ofFewest r))
     go (fewest.Sites s) h = inl (h .0, λ n k x. x)
@@ -169,7 +175,7 @@ abbrev replayOf : List ℕ → Case → List Check
 replayOf steps c = textReplayChecks c steps
 
 replay-ends : (steps : List ℕ) (c : Case) (a : Answer) → ReplayFor steps c a → Ends (replayOf steps c) (AnswerRefuses a)
-replay-ends steps c a p = subst⁻¹ (λ (x : Answer). Ends (replayOf steps c) (AnswerRefuses x)) (p .is) (go (p .reply) (text-replay-ends c steps (p .reply) (p .meets)))
+replay-ends steps c = said (TextReplayReply c steps) ofReplay (replayOf steps c) (λ r h. go r (text-replay-ends c steps r h))
   where
     go : (r : TextReplayed) → Ends (replayOf steps c) (TextRefuses r) → Ends (replayOf steps c) (AnswerRefuses (ofReplay r))
     go (told.Reached s f) h = h
