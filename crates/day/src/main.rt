@@ -1,8 +1,8 @@
 // The day report: a case text on standard input, its report on standard output.
 ghost use Rattle.writer.specs.Printing.{Printed};
 ghost use Rattle.dayreport.specs.Day.{Day};
-use wozgrzyt::reports::Written;
-use wozgrzyt::reports::day_report;
+use wozgrzyt::Written;
+use wozgrzyt::day_report;
 
 // The report in the bytes lent, and its length: no report is longer than they are.
 fn report(text: &[u8], out: &mut [u8; 1024]) -> usize

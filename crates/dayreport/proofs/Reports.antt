@@ -23,7 +23,7 @@ use Rattle.grid.specs.Cases.{neighbours, gridOf, Valid}
 use Rattle.grid.specs.Refusals.{placeOf}
 use Rattle.grid.specs.declared.Case.{Case}
 use Rattle.grid.specs.declared.refusal.Refusal.{Refusal}
-use Rattle.following.specs.Deriving.{Derives}
+use Rattle.deriving.specs.Deriving.{Derives}
 use Rattle.step.specs.Records.{noStep}
 use Rattle.following.specs.Lists.{listed, listOf}
 use Rattle.following.specs.declared.lists.StepList.{StepList}

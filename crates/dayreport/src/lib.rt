@@ -36,7 +36,7 @@ fn report(case: Case, out: &mut [u8]) -> Written
 {
     let n = case.n;
     let nbr = case.nbr;
-    let list = following::derivation::derive(case);
+    let list = deriving::derive(case);
     let alone = confirm::unconfirmed(n, &nbr, case.units);
     print_day(out, n, list, busset::count(alone))
 }

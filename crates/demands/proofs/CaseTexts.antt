@@ -11,10 +11,11 @@ use Rattle.grid.specs.declared.Case.{Case}
 use Rattle.grid.specs.declared.refusal.Refusal.the-variants.{WrongForm, OutOfRange, OutOfOrder}
 use Rattle.grid.specs.Refusals.{Check, check}
 use Rattle.grid.proofs.Orders.{itself}
-use Rattle.reader.specs.Reading.{mostBytes, inPlace, inRange, inOrder, accepted, verdict, Reader, start, next, caseOf, got, refused, closed, said, readLines, readText, readCase}
+use Rattle.judging.specs.Judging.{inPlace, inRange, inOrder, accepted, verdict}
+use Rattle.reader.specs.Reading.{mostBytes, Reader, start, next, caseOf, got, refused, closed, said, readLines, readText, readCase}
 use Rattle.reader.specs.declared.CaseRead.{CaseRead}
-use Rattle.reader.specs.declared.Verdict.{Verdict}
-use Rattle.reader.specs.declared.Verdict.the-variants.{Form, Range, Order}
+use Rattle.judging.specs.declared.Verdict.{Verdict}
+use Rattle.judging.specs.declared.Verdict.the-variants.{Form, Range, Order}
 use Rattle.demands.proofs.Judging.{SaidBy, good, passing, failing, within-limit}
 use Rattle.demands.specs.TextChecks.{NothingFollows, afterRecord, lineChecks, linesFrom, caseChecks}
 

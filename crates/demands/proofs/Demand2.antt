@@ -26,13 +26,13 @@ use Rattle.following.specs.declared.Replayed.the-variants as replayed
 use Rattle.reader.specs.Reading.{got}
 use Rattle.reader.specs.Writing.{caseText}
 use Rattle.writer.specs.declared.Written.the-variants as written
-use Rattle.wozgrzyt.specs.declared.Observed.{Observed}
-use Rattle.wozgrzyt.specs.declared.Observed.the-variants as observed
-use Rattle.wozgrzyt.specs.declared.siting.Fewest.{Fewest}
-use Rattle.wozgrzyt.specs.declared.siting.Fewest.the-variants as fewest
-use Rattle.wozgrzyt.specs.Replies.{observedChecks, ObservedReply}
-use Rattle.wozgrzyt.specs.SitingReplies.{fewestChecks, FewestReply}
-use Rattle.wozgrzyt.specs.TextReplies.{CaseReadReply, CaseWrittenReply}
+use Rattle.observing.specs.declared.Observed.{Observed}
+use Rattle.observing.specs.declared.Observed.the-variants as observed
+use Rattle.siting.specs.declared.Fewest.{Fewest}
+use Rattle.siting.specs.declared.Fewest.the-variants as fewest
+use Rattle.observing.specs.Replies.{observedChecks, ObservedReply}
+use Rattle.siting.specs.Replies.{fewestChecks, FewestReply}
+use Rattle.texts.specs.Replies.{CaseReadReply, CaseWrittenReply}
 use Rattle.demands.specs.ByTable.{Refuses}
 use Rattle.demands.specs.Demand2.{AcceptedExactly, FirstSmallest, Demand2}
 use Rattle.demands.proofs.TextUniqueness.{written-then-read, read-then-written}

@@ -19,14 +19,14 @@ use Rattle.steptext.specs.Steps.{stepsOf}
 use Rattle.textreplay.specs.Replying.{TextReplayReply}
 use Rattle.textreplay.specs.declared.TextReplayed.{TextReplayed}
 use Rattle.textreplay.specs.declared.TextReplayed.the-variants as told
-use Rattle.wozgrzyt.specs.Replies.{observedChecks, ObservedReply}
-use Rattle.wozgrzyt.specs.SitingReplies.{verdictChecks, VerdictReply, fewestChecks, FewestReply}
-use Rattle.wozgrzyt.specs.declared.Observed.{Observed}
-use Rattle.wozgrzyt.specs.declared.Observed.the-variants as observed
-use Rattle.wozgrzyt.specs.declared.siting.Verdict.{Verdict}
-use Rattle.wozgrzyt.specs.declared.siting.Verdict.the-variants as verdict
-use Rattle.wozgrzyt.specs.declared.siting.Fewest.{Fewest}
-use Rattle.wozgrzyt.specs.declared.siting.Fewest.the-variants as fewest
+use Rattle.observing.specs.Replies.{observedChecks, ObservedReply}
+use Rattle.siting.specs.Replies.{verdictChecks, VerdictReply, fewestChecks, FewestReply}
+use Rattle.observing.specs.declared.Observed.{Observed}
+use Rattle.observing.specs.declared.Observed.the-variants as observed
+use Rattle.siting.specs.declared.Verdict.{Verdict}
+use Rattle.siting.specs.declared.Verdict.the-variants as verdict
+use Rattle.siting.specs.declared.Fewest.{Fewest}
+use Rattle.siting.specs.declared.Fewest.the-variants as fewest
 use Rattle.estimator.specs.declared.answers.Answer.{Answer}
 use Rattle.estimator.specs.declared.answers.Answer.the-variants.{Set, Refused, Unread}
 use Rattle.estimator.specs.Answers.{ofObserved, ofVerdict, ofFewest, ofReplay, Said, ObservedFor, UnconfirmedFor, FewestFor, ReplayFor, OfRead, OfText}

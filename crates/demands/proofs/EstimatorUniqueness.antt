@@ -8,8 +8,8 @@ use Rattle.reader.specs.Reading.{readCase}
 use Rattle.reader.specs.declared.ReadAnswer.{ReadAnswer}
 use Rattle.reader.specs.declared.ReadAnswer.the-variants as read
 use Rattle.textreplay.specs.Replying.{TextReplayReply}
-use Rattle.wozgrzyt.specs.Replies.{ObservedReply}
-use Rattle.wozgrzyt.specs.SitingReplies.{VerdictReply, FewestReply}
+use Rattle.observing.specs.Replies.{ObservedReply}
+use Rattle.siting.specs.Replies.{VerdictReply, FewestReply}
 use Rattle.demands.proofs.Uniqueness.{observed-unique}
 use Rattle.demands.proofs.SitingUniqueness.{verdict-unique, fewest-unique}
 use Rattle.demands.proofs.ListUniqueness.{text-replay-unique}

@@ -11,7 +11,7 @@ use Rattle.rules.proofs.Derivations.{derived-unique}
 use Rattle.grid.specs.declared.Case.{Case}
 use Rattle.grid.proofs.Orders.{failed-unique, failed-or-passed}
 use Rattle.following.specs.Lists.{listOf}
-use Rattle.following.specs.Deriving.{Derives}
+use Rattle.deriving.specs.Deriving.{Derives}
 use Rattle.following.specs.Replies.{replayChecks, ReplayReply, weaveChecks, WeaveReply}
 use Rattle.following.specs.declared.lists.StepList.{StepList}
 use Rattle.following.specs.declared.Replayed.{Replayed}
@@ -25,10 +25,10 @@ use Rattle.textreplay.specs.Replying.{TextReplayAt, TextReplayReply}
 use Rattle.textreplay.specs.declared.TextReplayed.{TextReplayed}
 use Rattle.textreplay.specs.declared.TextReplayed.the-variants as told
 use Rattle.textreplay.proofs.Onward.{answerOf}
-use Rattle.wozgrzyt.specs.declared.steps.DerivationAnswer.{DerivationAnswer}
-use Rattle.wozgrzyt.specs.declared.steps.DerivationAnswer.the-variants.{Found, Refused}
-use Rattle.wozgrzyt.specs.declared.steps.Derived.{Derived}
-use Rattle.wozgrzyt.specs.ListReplies.{derivationChecks, DerivationAt, DerivationReply}
+use Rattle.deriving.specs.declared.DerivationAnswer.{DerivationAnswer}
+use Rattle.deriving.specs.declared.DerivationAnswer.the-variants.{Found, Refused}
+use Rattle.deriving.specs.declared.Derived.{Derived}
+use Rattle.deriving.specs.Replies.{derivationChecks, DerivationAt, DerivationReply}
 
 derives-unique : {g : Grid} {l m : StepList} → Derives g l → Derives g m → l ≡ m
 derives-unique p q = p .is ∙ ap listOf (derived-unique (p .derived) (q .steps) (q .derived)) ∙ sym (q .is)

@@ -16,7 +16,8 @@ use Rattle.record.specs.declared.Record.{Record}
 use Rattle.record.specs.declared.Record.the-variants.{Grid, Bus, Line, Pmu, End, Wrong}
 use Rattle.record.specs.declared.steps.StepLine.{StepLine}
 use Rattle.record.specs.declared.steps.StepLine.the-variants as line
-use Rattle.reader.specs.Reading.{mostBytes, inOrder, Reader, start, next}
+use Rattle.judging.specs.Judging.{inOrder}
+use Rattle.reader.specs.Reading.{mostBytes, Reader, start, next}
 use Rattle.demands.specs.Order.{turnOf12, turn, Precedes, InOrder}
 use Rattle.demands.proofs.Turns.{Ahead, ahead-first, TurnsBy, Follows}
 use Rattle.demands.specs.TextChecks.{NothingFollows, afterRecord, lineChecks, caseChecks, HasTurn, afterStep, stepLineChecks, stepTextChecks, withFifty, planLineChecks, inputChecks}

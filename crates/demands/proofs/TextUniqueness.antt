@@ -17,7 +17,7 @@ use Rattle.steptext.specs.declared.StepsRead.the-variants.{Steps}
 use Rattle.steptext.proofs.Found as found
 use Rattle.writer.specs.declared.Written.{Written}
 use Rattle.writer.specs.declared.Written.the-variants as written
-use Rattle.wozgrzyt.specs.TextReplies.{CaseReadReply, writeChecks, CaseWrittenReply, StepsCheckedReply}
+use Rattle.texts.specs.Replies.{CaseReadReply, writeChecks, CaseWrittenReply, StepsCheckedReply}
 
 -- ---- uniqueness
 

@@ -24,7 +24,7 @@ use Rattle.steptext.proofs.Found.{steps-count}
 use Rattle.textreplay.specs.Replying.{TextReplayAt, TextReplayReply}
 use Rattle.textreplay.specs.declared.TextReplayed.{TextReplayed}
 use Rattle.textreplay.specs.declared.TextReplayed.the-variants as told
-use Rattle.wozgrzyt.specs.TextReplies.{CaseReadReply, StepsCheckedReply}
+use Rattle.texts.specs.Replies.{CaseReadReply, StepsCheckedReply}
 use Rattle.demands.specs.Order.{FirstFails}
 use Rattle.demands.specs.TextChecks.{caseChecks, stepTextChecks, withFifty, stepsReadChecks, textReplayChecks}
 use Rattle.demands.specs.ByTable.{Refuses, Unread, TextRefuses, ByTable}

@@ -13,8 +13,8 @@ use Rattle.following.specs.Lists.{listOf}
 use Rattle.textreplay.specs.declared.TextReplayed.{TextReplayed}
 use Rattle.textreplay.specs.declared.TextReplayed.the-variants as told
 use Rattle.writer.specs.Printing.{RefusedText}
-use Rattle.wozgrzyt.specs.declared.steps.DerivationAnswer.the-variants as derived
-use Rattle.wozgrzyt.specs.declared.steps.Derived.{Derived}
+use Rattle.deriving.specs.declared.DerivationAnswer.the-variants as derived
+use Rattle.deriving.specs.declared.Derived.{Derived}
 use Rattle.demands.specs.Order.{InOrder, FirstFails}
 
 -- ---- a reply that refuses

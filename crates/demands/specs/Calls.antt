@@ -1,17 +1,17 @@
 -- Demand 1's first sentence: every text, case value, list and budget gets a reply, and the call ends.
 -- A call's statement is that its own code, on every input that its contract allows, returns and leaves what the contract says; none of these contracts has a requirement.
-use Rattle.wozgrzyt.proofs.observed_set.Statement as observed-set
-use Rattle.wozgrzyt.proofs.firing_figure.Statement as firing-figure
-use Rattle.wozgrzyt.proofs.test_step.Statement as test-step
-use Rattle.wozgrzyt.proofs.steps.derivation.Statement as derivation
+use Rattle.observing.proofs.observed_set.Statement as observed-set
+use Rattle.observing.proofs.firing_figure.Statement as firing-figure
+use Rattle.observing.proofs.test_step.Statement as test-step
+use Rattle.deriving.proofs.derivation.Statement as derivation
 use Rattle.desks.proofs.replay.Statement as replay
 use Rattle.desks.proofs.weave.Statement as weave
-use Rattle.wozgrzyt.proofs.siting.cross_validate.Statement as cross-validate
-use Rattle.wozgrzyt.proofs.siting.place_greedy.Statement as place-greedy
-use Rattle.wozgrzyt.proofs.siting.place_fewest.Statement as place-fewest
-use Rattle.wozgrzyt.proofs.texts.read_case.Statement as read-case
-use Rattle.wozgrzyt.proofs.texts.write_case.Statement as write-case
-use Rattle.wozgrzyt.proofs.texts.check_steps.Statement as check-steps
+use Rattle.siting.proofs.cross_validate.Statement as cross-validate
+use Rattle.siting.proofs.place_greedy.Statement as place-greedy
+use Rattle.siting.proofs.place_fewest.Statement as place-fewest
+use Rattle.texts.proofs.read_case.Statement as read-case
+use Rattle.texts.proofs.write_case.Statement as write-case
+use Rattle.texts.proofs.check_steps.Statement as check-steps
 use Rattle.desks.proofs.texts.read_steps.Statement as read-steps
 use Rattle.textreplay.proofs.replay_text.Statement as replay-text
 use Rattle.dayreport.proofs.day_report.Statement as day-report

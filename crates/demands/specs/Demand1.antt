@@ -22,23 +22,23 @@ use Rattle.writer.specs.declared.Written.{Written}
 use Rattle.writer.specs.declared.Written.the-variants as written
 use Rattle.dayreport.specs.Day.{DayReport, Day}
 use Rattle.planreport.specs.Plan.{readPlan, planChecks, Plan}
-use Rattle.wozgrzyt.specs.declared.Observed.{Observed}
-use Rattle.wozgrzyt.specs.declared.Observed.the-variants as observed
-use Rattle.wozgrzyt.specs.declared.Figured.{Figured}
-use Rattle.wozgrzyt.specs.declared.Figured.the-variants as figured
-use Rattle.wozgrzyt.specs.declared.Tested.{Tested}
-use Rattle.wozgrzyt.specs.declared.Tested.the-variants as tested
-use Rattle.wozgrzyt.specs.declared.steps.Derived.{Derived}
-use Rattle.wozgrzyt.specs.declared.siting.Verdict.{Verdict}
-use Rattle.wozgrzyt.specs.declared.siting.Verdict.the-variants as verdict
-use Rattle.wozgrzyt.specs.declared.siting.Greedy.{Greedy}
-use Rattle.wozgrzyt.specs.declared.siting.Greedy.the-variants as greedy
-use Rattle.wozgrzyt.specs.declared.siting.Fewest.{Fewest}
-use Rattle.wozgrzyt.specs.declared.siting.Fewest.the-variants as fewest
-use Rattle.wozgrzyt.specs.Replies.{observedChecks, ObservedReply, figureChecks, FigureReply, stepChecks, StepReply}
-use Rattle.wozgrzyt.specs.ListReplies.{derivationChecks, DerivationReply}
-use Rattle.wozgrzyt.specs.SitingReplies.{verdictChecks, VerdictReply, greedyChecks, GreedyReply, fewestChecks, FewestReply}
-use Rattle.wozgrzyt.specs.TextReplies.{CaseReadReply, writeChecks, CaseWrittenReply, StepsCheckedReply}
+use Rattle.observing.specs.declared.Observed.{Observed}
+use Rattle.observing.specs.declared.Observed.the-variants as observed
+use Rattle.observing.specs.declared.Figured.{Figured}
+use Rattle.observing.specs.declared.Figured.the-variants as figured
+use Rattle.observing.specs.declared.Tested.{Tested}
+use Rattle.observing.specs.declared.Tested.the-variants as tested
+use Rattle.deriving.specs.declared.Derived.{Derived}
+use Rattle.siting.specs.declared.Verdict.{Verdict}
+use Rattle.siting.specs.declared.Verdict.the-variants as verdict
+use Rattle.siting.specs.declared.Greedy.{Greedy}
+use Rattle.siting.specs.declared.Greedy.the-variants as greedy
+use Rattle.siting.specs.declared.Fewest.{Fewest}
+use Rattle.siting.specs.declared.Fewest.the-variants as fewest
+use Rattle.observing.specs.Replies.{observedChecks, ObservedReply, figureChecks, FigureReply, stepChecks, StepReply}
+use Rattle.deriving.specs.Replies.{derivationChecks, DerivationReply}
+use Rattle.siting.specs.Replies.{verdictChecks, VerdictReply, greedyChecks, GreedyReply, fewestChecks, FewestReply}
+use Rattle.texts.specs.Replies.{CaseReadReply, writeChecks, CaseWrittenReply, StepsCheckedReply}
 use Rattle.estimator.specs.Answers.{ObservedFor, UnconfirmedFor, FewestFor, ReplayFor, OfText}
 use Rattle.estimator.specs.Results.{Answered}
 use Rattle.demands.specs.TextChecks.{caseChecks, stepTextChecks, stepsReadChecks, textReplayChecks, estimatorChecks, inputChecks, printChecks}

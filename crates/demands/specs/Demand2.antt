@@ -19,13 +19,13 @@ use Rattle.following.specs.declared.Replayed.{Replayed}
 use Rattle.following.specs.declared.Replayed.the-variants as replayed
 use Rattle.reader.specs.Reading.{got}
 use Rattle.writer.specs.declared.Written.the-variants as written
-use Rattle.wozgrzyt.specs.declared.Observed.{Observed}
-use Rattle.wozgrzyt.specs.declared.Observed.the-variants as observed
-use Rattle.wozgrzyt.specs.declared.siting.Fewest.{Fewest}
-use Rattle.wozgrzyt.specs.declared.siting.Fewest.the-variants as fewest
-use Rattle.wozgrzyt.specs.Replies.{ObservedReply}
-use Rattle.wozgrzyt.specs.SitingReplies.{FewestReply}
-use Rattle.wozgrzyt.specs.TextReplies.{CaseReadReply, CaseWrittenReply}
+use Rattle.observing.specs.declared.Observed.{Observed}
+use Rattle.observing.specs.declared.Observed.the-variants as observed
+use Rattle.siting.specs.declared.Fewest.{Fewest}
+use Rattle.siting.specs.declared.Fewest.the-variants as fewest
+use Rattle.observing.specs.Replies.{ObservedReply}
+use Rattle.siting.specs.Replies.{FewestReply}
+use Rattle.texts.specs.Replies.{CaseReadReply, CaseWrittenReply}
 use Rattle.demands.specs.ByTable.{Refuses}
 
 -- replay's reply accepts the list exactly when each step is allowed where it stands

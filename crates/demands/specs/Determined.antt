@@ -16,17 +16,17 @@ use Rattle.writer.specs.Printing.{PrintedReply}
 use Rattle.writer.specs.declared.Written.{Written}
 use Rattle.dayreport.specs.Day.{Day}
 use Rattle.planreport.specs.Plan.{Plan}
-use Rattle.wozgrzyt.specs.declared.Observed.{Observed}
-use Rattle.wozgrzyt.specs.declared.Figured.{Figured}
-use Rattle.wozgrzyt.specs.declared.Tested.{Tested}
-use Rattle.wozgrzyt.specs.declared.steps.Derived.{Derived}
-use Rattle.wozgrzyt.specs.declared.siting.Verdict.{Verdict}
-use Rattle.wozgrzyt.specs.declared.siting.Greedy.{Greedy}
-use Rattle.wozgrzyt.specs.declared.siting.Fewest.{Fewest}
-use Rattle.wozgrzyt.specs.Replies.{ObservedReply, FigureReply, StepReply}
-use Rattle.wozgrzyt.specs.ListReplies.{DerivationReply}
-use Rattle.wozgrzyt.specs.SitingReplies.{VerdictReply, GreedyReply, FewestReply}
-use Rattle.wozgrzyt.specs.TextReplies.{CaseReadReply, CaseWrittenReply, StepsCheckedReply}
+use Rattle.observing.specs.declared.Observed.{Observed}
+use Rattle.observing.specs.declared.Figured.{Figured}
+use Rattle.observing.specs.declared.Tested.{Tested}
+use Rattle.deriving.specs.declared.Derived.{Derived}
+use Rattle.siting.specs.declared.Verdict.{Verdict}
+use Rattle.siting.specs.declared.Greedy.{Greedy}
+use Rattle.siting.specs.declared.Fewest.{Fewest}
+use Rattle.observing.specs.Replies.{ObservedReply, FigureReply, StepReply}
+use Rattle.deriving.specs.Replies.{DerivationReply}
+use Rattle.siting.specs.Replies.{VerdictReply, GreedyReply, FewestReply}
+use Rattle.texts.specs.Replies.{CaseReadReply, CaseWrittenReply, StepsCheckedReply}
 use Rattle.estimator.specs.Answers.{ObservedFor, UnconfirmedFor, FewestFor, ReplayFor, OfText}
 use Rattle.estimator.specs.Results.{Answered}
 

@@ -16,7 +16,8 @@ use Rattle.record.specs.declared.steps.StepLine.the-variants as line
 use Rattle.grid.specs.declared.Case.{Case}
 use Rattle.grid.specs.Cases.{mostSteps}
 use Rattle.grid.specs.Refusals.{Check, check}
-use Rattle.reader.specs.Reading.{mostBytes, inPlace, inRange, inOrder, Reader, start, next, readCase}
+use Rattle.judging.specs.Judging.{inPlace, inRange, inOrder}
+use Rattle.reader.specs.Reading.{mostBytes, Reader, start, next, readCase}
 use Rattle.following.specs.Replies.{replayChecks}
 use Rattle.steptext.specs.Steps.{mostStepBytes, stepInRange, stepsOf}
 use Rattle.planreport.specs.Plan.{budgetOf}

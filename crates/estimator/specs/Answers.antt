@@ -9,14 +9,14 @@ use Rattle.reader.specs.declared.ReadAnswer.the-variants as read
 use Rattle.textreplay.specs.Replying.{TextReplayReply}
 use Rattle.textreplay.specs.declared.TextReplayed.{TextReplayed}
 use Rattle.textreplay.specs.declared.TextReplayed.the-variants as replayed
-use Rattle.wozgrzyt.specs.Replies.{ObservedReply}
-use Rattle.wozgrzyt.specs.SitingReplies.{VerdictReply, FewestReply}
-use Rattle.wozgrzyt.specs.declared.Observed.{Observed}
-use Rattle.wozgrzyt.specs.declared.Observed.the-variants as observed
-use Rattle.wozgrzyt.specs.declared.siting.Verdict.{Verdict}
-use Rattle.wozgrzyt.specs.declared.siting.Verdict.the-variants as verdict
-use Rattle.wozgrzyt.specs.declared.siting.Fewest.{Fewest}
-use Rattle.wozgrzyt.specs.declared.siting.Fewest.the-variants as fewest
+use Rattle.observing.specs.Replies.{ObservedReply}
+use Rattle.siting.specs.Replies.{VerdictReply, FewestReply}
+use Rattle.observing.specs.declared.Observed.{Observed}
+use Rattle.observing.specs.declared.Observed.the-variants as observed
+use Rattle.siting.specs.declared.Verdict.{Verdict}
+use Rattle.siting.specs.declared.Verdict.the-variants as verdict
+use Rattle.siting.specs.declared.Fewest.{Fewest}
+use Rattle.siting.specs.declared.Fewest.the-variants as fewest
 use Rattle.estimator.specs.declared.answers.Answer.{Answer}
 use Rattle.estimator.specs.declared.answers.Answer.the-variants.{Set, Refused, Unread}
 

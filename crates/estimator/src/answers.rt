@@ -2,13 +2,13 @@
 ghost use mathlib.Core.Path.{_≡_};
 ghost use Rattle.estimator.specs.Answers.{ofObserved, ofVerdict, ofFewest, ofReplay, OfText, ObservedFor, UnconfirmedFor, FewestFor, ReplayFor};
 use wozgrzyt::BusSet;
+use wozgrzyt::Fewest;
 use wozgrzyt::Observed;
+use wozgrzyt::ReadAnswer;
 use wozgrzyt::Refusal;
-use wozgrzyt::siting::Fewest;
-use wozgrzyt::siting::Verdict;
-use wozgrzyt::texts::ReadAnswer;
-use wozgrzyt::texts::TextReplayed;
-use wozgrzyt::texts::read_case;
+use wozgrzyt::TextReplayed;
+use wozgrzyt::Verdict;
+use wozgrzyt::read_case;
 
 // A set, a refusal, or a refusal in reading the step text.
 pub enum Answer {
@@ -73,7 +73,7 @@ pub fn unconfirmed(text: &[u8]) -> Answer
     let answer = read.answer;
     let case = read.case;
     match answer {
-        ReadAnswer::Read => of_verdict(wozgrzyt::siting::cross_validate(case)),
+        ReadAnswer::Read => of_verdict(wozgrzyt::cross_validate(case)),
         ReadAnswer::Refused(q) => Answer::Refused(q),
     }
 }
@@ -85,7 +85,7 @@ pub fn fewest(text: &[u8], budget: usize) -> Answer
     let answer = read.answer;
     let case = read.case;
     match answer {
-        ReadAnswer::Read => of_fewest(wozgrzyt::siting::place_fewest(case, budget)),
+        ReadAnswer::Read => of_fewest(wozgrzyt::place_fewest(case, budget)),
         ReadAnswer::Refused(q) => Answer::Refused(q),
     }
 }
@@ -97,7 +97,7 @@ pub fn replay(text: &[u8], steps: &[u8]) -> Answer
     let answer = read.answer;
     let case = read.case;
     match answer {
-        ReadAnswer::Read => of_replay(wozgrzyt::texts::replay_text(case, steps)),
+        ReadAnswer::Read => of_replay(wozgrzyt::replay_text(case, steps)),
         ReadAnswer::Refused(q) => Answer::Refused(q),
     }
 }

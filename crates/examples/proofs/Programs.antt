@@ -20,15 +20,16 @@ use Rattle.rules.proofs.Ordering.{fewest-some}
 use Rattle.grid.specs.declared.refusal.Refusal.the-variants.{WrongForm, OutOfRange, ReasonFails, OverBudget, NoCover}
 use Rattle.grid.proofs.Orders.{itself}
 use Rattle.reader.specs.Writing.{members, linesText}
-use Rattle.reader.specs.Reading.{isBus, isAfter, pastBuses, verdict, readLines, readText, readCase}
+use Rattle.judging.specs.Judging.{isBus, isAfter, pastBuses, verdict}
+use Rattle.reader.specs.Reading.{readLines, readText, readCase}
 use Rattle.writer.specs.Printing.{refusedText}
 use Rattle.dayreport.specs.Day.{Day, stepsText}
 use Rattle.dayreport.proofs.Days.{day-unique}
 use Rattle.steptext.specs.Steps.{stepInRange, stepLines, readSteps, stepsIn, stepsFrom}
 use Rattle.textreplay.specs.declared.TextReplayed.the-variants as replayed
-use Rattle.wozgrzyt.specs.declared.Observed.the-variants as observed
-use Rattle.wozgrzyt.specs.declared.siting.Verdict.the-variants as unconfirmed
-use Rattle.wozgrzyt.specs.declared.siting.Fewest.the-variants as fewest
+use Rattle.observing.specs.declared.Observed.the-variants as observed
+use Rattle.siting.specs.declared.Verdict.the-variants as unconfirmed
+use Rattle.siting.specs.declared.Fewest.the-variants as fewest
 use Rattle.estimator.specs.Answers.{Said}
 use Rattle.estimator.specs.Results.{resultOf, leftBy, Answered}
 use Rattle.estimator.specs.declared.answers.Answer.{Answer}

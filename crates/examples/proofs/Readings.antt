@@ -15,7 +15,8 @@ use Rattle.record.specs.Record.{wordOf, lineFields, busFields, recordOf, record
 use Rattle.record.specs.StepLine.{letterOf, stepWordOf, reasonFields, stepFields, stepLineOf, stepText}
 use Rattle.grid.specs.Cases.{neighbours}
 use Rattle.inverse.proofs.Grammars.{reads-read, not-got, read-reads}
-use Rattle.reader.specs.Reading.{start, isBus, isAfter, pastBuses, verdict, readLines, readText, readCase}
+use Rattle.judging.specs.Judging.{isBus, isAfter, pastBuses, verdict}
+use Rattle.reader.specs.Reading.{start, readLines, readText, readCase}
 use Rattle.reader.specs.Writing.{busRecords, members, lineRecords, linesText}
 use Rattle.steptext.specs.Steps.{stepInRange, stepLines, readSteps, stepsIn, stepsFrom}
 use Rattle.writer.specs.Put.{lineText}

@@ -38,8 +38,8 @@ use Rattle.reader.specs.Writing.{busRecords, members, lineRecords, linesText}
 use Rattle.following.specs.Following.{checksFrom}
 use Rattle.following.specs.Replies.{replayChecks}
 use Rattle.following.specs.declared.Task.the-variants.{Replay}
-use Rattle.wozgrzyt.specs.Replies.{observedChecks}
-use Rattle.wozgrzyt.specs.SitingReplies.{fewestChecks}
+use Rattle.observing.specs.Replies.{observedChecks}
+use Rattle.siting.specs.Replies.{fewestChecks}
 use Rattle.examples.proofs.Rows.{_&_, _then_, stop}
 use Rattle.examples.proofs.Computed.{known}
 use Rattle.examples.proofs.Deriving.{reasonTest, allowedTest, allowed-passes}

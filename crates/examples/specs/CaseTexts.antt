@@ -9,15 +9,16 @@ use Rattle.record.specs.declared.Record.the-variants.{Grid, Line, Pmu, End, Wro
 use Rattle.grid.specs.declared.Case.{Case}
 use Rattle.grid.specs.declared.refusal.Refusal.the-variants.{TextTooLong, WrongForm, OutOfRange, OutOfOrder}
 use Rattle.reader.specs.Building.{withLine}
-use Rattle.reader.specs.Reading.{start, verdict, readCase, got}
+use Rattle.judging.specs.Judging.{verdict}
+use Rattle.reader.specs.Reading.{start, readCase, got}
 use Rattle.inverse.specs.Grammar as grammar
 use Rattle.reader.specs.Writing.{caseText}
 use Rattle.reader.specs.declared.CaseRead.{CaseRead}
-use Rattle.reader.specs.declared.Place.{Place}
+use Rattle.judging.specs.declared.Place.{Place}
 use Rattle.reader.specs.declared.ReadAnswer.{ReadAnswer}
 use Rattle.reader.specs.declared.ReadAnswer.the-variants.{Read, Refused}
-use Rattle.reader.specs.declared.Verdict.{Verdict}
-use Rattle.reader.specs.declared.Verdict.the-variants.{Next, Last, Form, Range, Order}
+use Rattle.judging.specs.declared.Verdict.{Verdict}
+use Rattle.judging.specs.declared.Verdict.the-variants.{Next, Last, Form, Range, Order}
 use Rattle.starred.specs.Table.{caseOf, seven, path}
 use Rattle.examples.specs.Tables.{Right, Reads, Row, holds, fails, block}
 use Rattle.examples.specs.Drawings.{value}

@@ -5,7 +5,7 @@ use Rattle.step.specs.declared.Reason.the-variants.{OwnUnit, NeighbourOf, ZeroI
 use Rattle.step.specs.declared.Step.{Step}
 use Rattle.rules.specs.Derivation.{TakenFirst, NextIs, Derivation}
 use Rattle.following.specs.Lists.{listOf}
-use Rattle.following.specs.Deriving.{Derives}
+use Rattle.deriving.specs.Deriving.{Derives}
 use Rattle.examples.specs.Tables.{Row, holds, fails}
 use Rattle.examples.specs.Drawings.{set, own, near, zeroAt, grid, sevenGrid, sweep, ring}
 use Rattle.examples.specs.Steps.{derivation}

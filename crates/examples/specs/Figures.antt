@@ -9,7 +9,7 @@ use Rattle.rules.specs.Figures.{figure, Runs}
 use Rattle.grid.specs.declared.Case.{Case}
 use Rattle.grid.specs.Cases.{gridOf, Valid}
 use Rattle.starred.specs.Table.{wordOf, caseOf, seven}
-use Rattle.wozgrzyt.specs.Replies.{stated}
+use Rattle.observing.specs.Replies.{stated}
 use Rattle.examples.specs.Tables.{Right, Row, holds, fails}
 use Rattle.examples.specs.Drawings.{set, sevenGrid}
 

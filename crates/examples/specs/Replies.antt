@@ -14,17 +14,17 @@ use Rattle.following.specs.declared.Wove.the-variants as wove
 use Rattle.reader.specs.Reading.{refused}
 use Rattle.steptext.specs.declared.StepsRead.the-variants as steps
 use Rattle.writer.specs.declared.Written.the-variants as written
-use Rattle.wozgrzyt.specs.Replies.{ObservedReply, FigureReply, StepReply}
-use Rattle.wozgrzyt.specs.ListReplies.{DerivationReply}
-use Rattle.wozgrzyt.specs.SitingReplies.{VerdictReply, GreedyReply, FewestReply}
-use Rattle.wozgrzyt.specs.TextReplies.{CaseReadReply, CaseWrittenReply, StepsCheckedReply}
-use Rattle.wozgrzyt.specs.declared.Observed.the-variants as observed
-use Rattle.wozgrzyt.specs.declared.Figured.the-variants as figured
-use Rattle.wozgrzyt.specs.declared.Tested.the-variants as tested
-use Rattle.wozgrzyt.specs.declared.steps.DerivationAnswer.the-variants as derived
-use Rattle.wozgrzyt.specs.declared.siting.Verdict.the-variants as verdict
-use Rattle.wozgrzyt.specs.declared.siting.Greedy.the-variants as greedy
-use Rattle.wozgrzyt.specs.declared.siting.Fewest.the-variants as fewest
+use Rattle.observing.specs.Replies.{ObservedReply, FigureReply, StepReply}
+use Rattle.deriving.specs.Replies.{DerivationReply}
+use Rattle.siting.specs.Replies.{VerdictReply, GreedyReply, FewestReply}
+use Rattle.texts.specs.Replies.{CaseReadReply, CaseWrittenReply, StepsCheckedReply}
+use Rattle.observing.specs.declared.Observed.the-variants as observed
+use Rattle.observing.specs.declared.Figured.the-variants as figured
+use Rattle.observing.specs.declared.Tested.the-variants as tested
+use Rattle.deriving.specs.declared.DerivationAnswer.the-variants as derived
+use Rattle.siting.specs.declared.Verdict.the-variants as verdict
+use Rattle.siting.specs.declared.Greedy.the-variants as greedy
+use Rattle.siting.specs.declared.Fewest.the-variants as fewest
 use Rattle.starred.specs.Table.{wordOf, caseOf, seven}
 use Rattle.examples.specs.Tables.{Row, holds, fails}
 use Rattle.examples.specs.Drawings.{own, near, zeroAt, value}

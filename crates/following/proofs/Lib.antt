@@ -1,5 +1,4 @@
 pub mod Listing
-pub mod Extending
 pub mod Going
 pub mod Starts
 pub mod Outcomes

@@ -1,4 +1,3 @@
 pub mod Lists
-pub mod Deriving
 pub mod Following
 pub mod Replies

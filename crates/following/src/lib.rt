@@ -8,7 +8,6 @@ ghost use Rattle.grid.specs.Cases.{gridOf};
 ghost use Rattle.following.specs.Following.{Starting, Kept, seenBy, Grown, Ready, Further, Applied, Begun};
 ghost use Rattle.following.specs.Replies.{EndedAt, SettledAt, countOf};
 
-pub mod derivation;
 pub mod lists;
 
 use busset::BusSet;

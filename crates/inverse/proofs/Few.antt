@@ -11,13 +11,14 @@ use Rattle.busset.proofs.Tests.{below-or, same-or}
 use Rattle.grid.specs.Cases.{neighbours}
 use Rattle.record.specs.declared.Record.{Record}
 use Rattle.record.specs.declared.Record.the-variants.{Grid, Bus, Line, Pmu, End, Wrong}
-use Rattle.reader.specs.Reading.{caseOf, Reader, verdict, next, start}
+use Rattle.judging.specs.Judging.{verdict}
+use Rattle.reader.specs.Reading.{caseOf, Reader, next, start}
 use Rattle.inverse.specs.Grammar.{Reads}
 use Rattle.inverse.specs.Grammar.Reads.{ends, goes}
 use Rattle.reader.specs.Writing.{has, members, lineRecords}
 use Rattle.grid.specs.declared.Case.{Case}
-use Rattle.reader.specs.declared.Verdict.the-variants.{Next}
-use Rattle.reader.proofs.Judged.{fit-of}
+use Rattle.judging.specs.declared.Verdict.the-variants.{Next}
+use Rattle.judging.proofs.Judged.{fit-of}
 use Rattle.inverse.proofs.Places.{Pair, Ask, Proper, place, placeOf, answer, joined, unchanged}
 use Rattle.inverse.proofs.Places.Ask.{lineAt}
 use Rattle.inverse.proofs.Unique.{Stand, Stepped, stepped, Settled, settled}

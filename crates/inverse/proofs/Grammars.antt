@@ -10,17 +10,18 @@ use Rattle.record.specs.Record.{recordOf, recordText, Formed}
 use Rattle.record.specs.declared.Record.{Record}
 use Rattle.record.specs.declared.Record.the-variants.{Grid, Bus, Line, Pmu, End, Wrong}
 use Rattle.record.proofs.Texts.{read-record, text-free, spelt}
-use Rattle.reader.specs.Reading.{caseOf, Reader, isBus, inPlace, inRange, accepted, verdict, next, refused, closed, said, got, readLines}
+use Rattle.judging.specs.Judging.{isBus, inPlace, inRange, accepted, verdict}
+use Rattle.reader.specs.Reading.{caseOf, Reader, next, refused, closed, said, got, readLines}
 use Rattle.inverse.specs.Grammar.{Reads}
 use Rattle.inverse.specs.Grammar.Reads.{ends, goes}
 use Rattle.grid.specs.declared.Case.{Case}
 use Rattle.reader.specs.declared.CaseRead.{CaseRead}
-use Rattle.reader.specs.declared.Verdict.{Verdict}
-use Rattle.reader.specs.declared.Verdict.the-variants.{Next, Last, Form, Range, Order}
+use Rattle.judging.specs.declared.Verdict.{Verdict}
+use Rattle.judging.specs.declared.Verdict.the-variants.{Next, Last, Form, Range, Order}
 use Rattle.grid.specs.declared.refusal.Refusal.{Refusal}
 use Rattle.reader.specs.declared.ReadAnswer.the-variants.{Read, Refused}
-use Rattle.reader.proofs.Judged.{accepted-of, last-of, small-of, bounded, line-ends, apart}
-use Rattle.reader.specs.declared.Place.{Place}
+use Rattle.judging.proofs.Judged.{accepted-of, last-of, small-of, bounded, line-ends, apart}
+use Rattle.judging.specs.declared.Place.{Place}
 
 small-number : (n k : ℕ) → n ≤ 64 → isBus n k ≡ true → k < 10000
 small-number n k h e = let b = bounded n k h e in omega (arith, b .most)

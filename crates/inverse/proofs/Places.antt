@@ -21,9 +21,10 @@ use Rattle.grid.specs.Cases.{neighbours, mostBuses}
 use Rattle.grid.specs.declared.Case.{Case}
 use Rattle.grid.proofs.Rows.{row-at, row-zero}
 use Rattle.reader.specs.Building.{withEnd, withLine}
-use Rattle.reader.specs.Reading.{Reader, caseOf, isAfter, pastBuses, next}
-use Rattle.reader.specs.declared.Place.{Place}
-use Rattle.reader.proofs.Judged.{Accepted, inside, line-ends, apart}
+use Rattle.judging.specs.Judging.{isAfter, pastBuses}
+use Rattle.reader.specs.Reading.{Reader, caseOf, next}
+use Rattle.judging.specs.declared.Place.{Place}
+use Rattle.judging.proofs.Judged.{Accepted, inside, line-ends, apart}
 
 -- ---- rows
 

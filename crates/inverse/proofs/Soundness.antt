@@ -20,10 +20,11 @@ use Rattle.rules.specs.Grids.{Proper as ProperGrid, Line as HasLine}
 use Rattle.grid.specs.Cases.{neighbours, gridOf, Lines}
 use Rattle.grid.specs.declared.Case.{Case}
 use Rattle.reader.specs.Building.{withLine}
-use Rattle.reader.specs.Reading.{Reader, caseOf, next, start, inRange}
+use Rattle.judging.specs.Judging.{inRange}
+use Rattle.reader.specs.Reading.{Reader, caseOf, next, start}
 use Rattle.inverse.specs.Grammar.{Reads}
 use Rattle.inverse.specs.Grammar.Reads.{ends, goes}
-use Rattle.reader.proofs.Judged.{accepted-of, inside, line-ends}
+use Rattle.judging.proofs.Judged.{accepted-of, inside, line-ends}
 use Rattle.inverse.proofs.Places.{Pair, Ask, Proper, answer, joined, Facts, line-here, line-back, line-other}
 use Rattle.inverse.proofs.Places.Ask.{zeroAt, siteAt, unitAt, lineAt}
 use Rattle.inverse.proofs.Unique.{Stand, stepped}

@@ -11,13 +11,14 @@ use Rattle.busset.proofs.Holding.{hold-here, if-here}
 use Rattle.record.specs.Record.{recordText}
 use Rattle.record.specs.declared.Record.{Record}
 use Rattle.record.specs.declared.Record.the-variants.{Grid, Bus, Line, Pmu, End, Wrong}
-use Rattle.reader.specs.Reading.{caseOf, Reader, verdict, next, accepted}
+use Rattle.judging.specs.Judging.{verdict, accepted}
+use Rattle.reader.specs.Reading.{caseOf, Reader, next}
 use Rattle.inverse.specs.Grammar.{Reads}
 use Rattle.inverse.specs.Grammar.Reads.{ends, goes}
 use Rattle.grid.specs.declared.Case.{Case}
-use Rattle.reader.specs.declared.Place.{Place}
-use Rattle.reader.specs.declared.Verdict.the-variants.{Next, Last}
-use Rattle.reader.proofs.Judged.{accepted-of, goes-of, last-place, apart}
+use Rattle.judging.specs.declared.Place.{Place}
+use Rattle.judging.specs.declared.Verdict.the-variants.{Next, Last}
+use Rattle.judging.proofs.Judged.{accepted-of, goes-of, last-place, apart}
 use Rattle.inverse.proofs.Places.{Ask, Proper, place, placeOf, answer, Facts, facts, At, beyond, unchanged, stands, more-buses, past, line-here}
 use Rattle.inverse.proofs.Places.Ask.{zeroAt, siteAt, unitAt, lineAt}
 

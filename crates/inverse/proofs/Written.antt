@@ -12,16 +12,17 @@ use Rattle.busset.specs.Held.{hold, holdIf}
 use Rattle.busset.proofs.Tests.{below-or, same-or}
 use Rattle.busset.proofs.Holding.{hold-here, if-here}
 use Rattle.grid.specs.Cases.{neighbours}
-use Rattle.reader.specs.declared.Place.{Place}
+use Rattle.judging.specs.declared.Place.{Place}
 use Rattle.record.specs.declared.Record.{Record}
 use Rattle.record.specs.declared.Record.the-variants.{Grid, Line, Pmu, End}
-use Rattle.reader.specs.Reading.{caseOf, Reader, isBus, isAfter, pastBuses, verdict, next, start}
+use Rattle.judging.specs.Judging.{isBus, isAfter, pastBuses, verdict}
+use Rattle.reader.specs.Reading.{caseOf, Reader, next, start}
 use Rattle.inverse.specs.Grammar.{Reads}
 use Rattle.inverse.specs.Grammar.Reads.{ends, goes}
 use Rattle.reader.specs.Writing.{has, busRecord, busRecords, members, lineRecords, linesText, records}
 use Rattle.grid.specs.declared.Case.{Case}
-use Rattle.reader.specs.declared.Verdict.the-variants.{Next}
-use Rattle.reader.proofs.Judged.{accept}
+use Rattle.judging.specs.declared.Verdict.the-variants.{Next}
+use Rattle.judging.proofs.Judged.{accept}
 use Rattle.inverse.proofs.Places.{Pair, Ask, Proper, place, placeOf, joined, answer, unchanged, line-here}
 use Rattle.inverse.proofs.Places.Ask.{zeroAt, siteAt, unitAt, lineAt}
 use Rattle.inverse.proofs.Unique.{Stand, stepped}

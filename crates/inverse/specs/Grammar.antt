@@ -6,8 +6,9 @@ use Rattle.record.specs.Record.{recordText}
 use Rattle.record.specs.declared.Record.{Record}
 use Rattle.record.specs.declared.Record.the-variants.{End}
 use Rattle.grid.specs.declared.Case.{Case}
-use Rattle.reader.specs.Reading.{Reader, caseOf, verdict, next}
-use Rattle.reader.specs.declared.Verdict.the-variants.{Next, Last}
+use Rattle.judging.specs.Judging.{verdict}
+use Rattle.reader.specs.Reading.{Reader, caseOf, next}
+use Rattle.judging.specs.declared.Verdict.the-variants.{Next, Last}
 
 -- from where s stands, the text is read as the case c
 pub data Reads : Reader → List ℕ → Case → Type 0 where

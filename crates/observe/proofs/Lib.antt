@@ -3,4 +3,3 @@ pub mod Firing
 pub mod Passing
 pub mod Signed
 pub mod Holding
-pub mod Nexting

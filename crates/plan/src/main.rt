@@ -1,8 +1,8 @@
 // The planning program: a plan line and a case text on standard input, its report on standard output.
 ghost use Rattle.writer.specs.Printing.{Printed};
 ghost use Rattle.planreport.specs.Plan.{Plan};
-use wozgrzyt::reports::Written;
-use wozgrzyt::reports::plan_report;
+use wozgrzyt::Written;
+use wozgrzyt::plan_report;
 
 // The report in the bytes lent, and its length: no report is longer than they are.
 fn report(input: &[u8], out: &mut [u8; 69]) -> usize

@@ -1,4 +1,3 @@
-pub mod Judged
 pub mod Lines
 pub mod Lengths
 pub mod Refusing

@@ -17,13 +17,14 @@ use Rattle.grid.specs.Cases.{mostBuses}
 use Rattle.grid.specs.declared.Case.{Case}
 use Rattle.grid.specs.declared.refusal.Refusal.the-variants.{TextTooLong, WrongForm}
 use Rattle.reader.specs.Building.{nextRows, nextMarks, noRows, noMarks}
-use Rattle.reader.specs.Reading.{Reader, mostBytes, verdict, nextPlace, start, caseOf, refused, closed, said, readLines, readText, readCase}
+use Rattle.judging.specs.Judging.{verdict, nextPlace}
+use Rattle.reader.specs.Reading.{Reader, mostBytes, start, caseOf, refused, closed, said, readLines, readText, readCase}
 use Rattle.reader.specs.declared.Marks.{Marks}
-use Rattle.reader.specs.declared.Place.{Place}
+use Rattle.judging.specs.declared.Place.{Place}
 use Rattle.reader.specs.declared.CaseRead.{CaseRead}
-use Rattle.reader.specs.declared.Verdict.{Verdict}
-use Rattle.reader.specs.declared.Verdict.the-variants.{Next}
-use Rattle.reader.proofs.Judged.{small-of}
+use Rattle.judging.specs.declared.Verdict.{Verdict}
+use Rattle.judging.specs.declared.Verdict.the-variants.{Next}
+use Rattle.judging.proofs.Judged.{small-of}
 
 -- what is read from a text that is still to be cut into lines
 abbrev from : Reader → ℕ → List ℕ → CaseRead

@@ -14,9 +14,10 @@ use Rattle.grid.specs.declared.Case.{Case}
 use Rattle.grid.specs.declared.refusal.Refusal.{Refusal}
 use Rattle.grid.specs.declared.refusal.Refusal.the-variants.{TextTooLong}
 use Rattle.grid.specs.Refusals.{placeOf}
-use Rattle.reader.specs.Reading.{Reader, mostBytes, verdict, next, start, caseOf, refused, closed, said, readLines, readText, readCase}
-use Rattle.reader.specs.declared.Verdict.{Verdict}
-use Rattle.reader.specs.declared.Verdict.the-variants.{Next, Last, Form, Range, Order}
+use Rattle.judging.specs.Judging.{verdict}
+use Rattle.reader.specs.Reading.{Reader, mostBytes, next, start, caseOf, refused, closed, said, readLines, readText, readCase}
+use Rattle.judging.specs.declared.Verdict.{Verdict}
+use Rattle.judging.specs.declared.Verdict.the-variants.{Next, Last, Form, Range, Order}
 use Rattle.reader.specs.declared.ReadAnswer.{ReadAnswer}
 use Rattle.reader.specs.declared.ReadAnswer.the-variants.{Read, Refused}
 use Rattle.reader.specs.declared.CaseRead.{CaseRead}

@@ -3,10 +3,10 @@ ghost use mathlib.Core.Path.{_≡_};
 ghost use Rattle.busset.specs.Sets.{Bus, width};
 ghost use Rattle.busset.specs.Held.{holdIf};
 ghost use Rattle.reader.specs.Building.{withLine, nextRows, nextMarks};
-ghost use Rattle.reader.specs.Reading.{Fit};
+ghost use Rattle.judging.specs.Judging.{Fit};
 use crate::Marks;
-use crate::Place;
 use busset::BusSet;
+use judging::Place;
 use record::Record;
 
 fn hold_if(t: bool, w: BusSet, b: usize) -> BusSet

@@ -6,38 +6,20 @@ ghost use Rattle.field.specs.Split.{split};
 ghost use Rattle.reader.specs.Reading.{mostBytes, caseOf, refused, closed, readText, readCase};
 
 pub mod building;
-pub mod judging;
 
 use busset::BusSet;
 use field::piece_end;
 use grid::Case;
 use grid::Refusal;
+use judging::Place;
+use judging::Verdict;
 use record::Record;
-
-// The last bus, line and unit read of a grid of n buses, and how many lines.
-pub struct Place {
-    pub n: usize,
-    pub bus: usize,
-    pub a: usize,
-    pub b: usize,
-    pub lines: usize,
-    pub unit: usize,
-}
 
 // The Z buses, the Y sites and the units read.
 pub struct Marks {
     pub zero: BusSet,
     pub site: BusSet,
     pub units: BusSet,
-}
-
-// What a record is where the reader stands: the next, the last, or refused.
-pub enum Verdict {
-    Next,
-    Last,
-    Form,
-    Range,
-    Order,
 }
 
 pub enum ReadAnswer {

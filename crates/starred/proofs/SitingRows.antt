@@ -16,10 +16,10 @@ use Rattle.grid.specs.declared.refusal.Refusal.the-variants.{NoCover}
 use Rattle.grid.specs.Cases.{gridOf, Valid}
 use Rattle.grid.proofs.Orders.{itself}
 use Rattle.grid.proofs.Drawn.{withinTest, validTest, valid-passes}
-use Rattle.wozgrzyt.specs.declared.siting.Verdict.the-variants as verdict
-use Rattle.wozgrzyt.specs.declared.siting.Greedy.the-variants as greedy
-use Rattle.wozgrzyt.specs.declared.siting.Fewest.the-variants as fewest
-use Rattle.wozgrzyt.specs.SitingReplies.{VerdictReply, GreedyReply, FewestReply}
+use Rattle.siting.specs.declared.Verdict.the-variants as verdict
+use Rattle.siting.specs.declared.Greedy.the-variants as greedy
+use Rattle.siting.specs.declared.Fewest.the-variants as fewest
+use Rattle.siting.specs.Replies.{VerdictReply, GreedyReply, FewestReply}
 use Rattle.starred.specs.Table.{Drawing, wordOf, caseOf}
 
 -- ---- a row, from its test

@@ -11,13 +11,13 @@ use Rattle.grid.specs.declared.Case.{Case}
 use Rattle.grid.specs.declared.refusal.Refusal.the-variants.{ReasonFails, NoCover}
 use Rattle.following.specs.Replies.{ReplayReply}
 use Rattle.following.specs.declared.Replayed.the-variants as replayed
-use Rattle.wozgrzyt.specs.declared.Observed.the-variants as observed
-use Rattle.wozgrzyt.specs.declared.Figured.the-variants as figured
-use Rattle.wozgrzyt.specs.declared.siting.Verdict.the-variants as verdict
-use Rattle.wozgrzyt.specs.declared.siting.Greedy.the-variants as greedy
-use Rattle.wozgrzyt.specs.declared.siting.Fewest.the-variants as fewest
-use Rattle.wozgrzyt.specs.Replies.{ObservedReply, FigureReply}
-use Rattle.wozgrzyt.specs.SitingReplies.{VerdictReply, GreedyReply, FewestReply}
+use Rattle.observing.specs.declared.Observed.the-variants as observed
+use Rattle.observing.specs.declared.Figured.the-variants as figured
+use Rattle.siting.specs.declared.Verdict.the-variants as verdict
+use Rattle.siting.specs.declared.Greedy.the-variants as greedy
+use Rattle.siting.specs.declared.Fewest.the-variants as fewest
+use Rattle.observing.specs.Replies.{ObservedReply, FigureReply}
+use Rattle.siting.specs.Replies.{VerdictReply, GreedyReply, FewestReply}
 
 -- ---- a grid, drawn
 

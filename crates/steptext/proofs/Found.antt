@@ -19,8 +19,8 @@ use Rattle.record.specs.declared.steps.StepLine.the-variants.{Step as StepOf, E
 use Rattle.grid.specs.Cases.{mostBuses, mostSteps}
 use Rattle.grid.specs.declared.refusal.Refusal.{Refusal}
 use Rattle.grid.specs.declared.refusal.Refusal.the-variants.{TextTooLong, OutOfRange, TooManySteps}
-use Rattle.reader.specs.Reading.{isBus}
-use Rattle.reader.proofs.Judged.{inside, apart}
+use Rattle.judging.specs.Judging.{isBus}
+use Rattle.judging.proofs.Judged.{inside, apart}
 use Rattle.steptext.specs.Steps.{mostStepBytes, reasonInRange, stepInRange, ended, lineSaid, stepLines, readSteps, andSteps, stepsIn, stepsFrom, stepsOf, AllNamed}
 use Rattle.steptext.specs.declared.StepsRead.{StepsRead}
 use Rattle.steptext.specs.declared.StepsRead.the-variants.{Steps, Refused}

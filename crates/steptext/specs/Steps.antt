@@ -16,7 +16,7 @@ use Rattle.record.specs.declared.steps.StepLine.the-variants.{Step as StepOf, E
 use Rattle.grid.specs.Cases.{mostBuses, mostSteps}
 use Rattle.grid.specs.declared.refusal.Refusal.the-variants.{TextTooLong, WrongForm, OutOfRange, NoRoom, TooManySteps}
 use Rattle.rules.specs.Steps.{Names}
-use Rattle.reader.specs.Reading.{isBus}
+use Rattle.judging.specs.Judging.{isBus}
 use Rattle.steptext.specs.declared.StepsRead.{StepsRead}
 use Rattle.steptext.specs.declared.StepsRead.the-variants.{Steps, Refused}
 use Rattle.steptext.specs.declared.NextStep.{NextStep}

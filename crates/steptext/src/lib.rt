@@ -6,7 +6,7 @@ ghost use Rattle.field.specs.Split.{split};
 ghost use Rattle.steptext.specs.Steps.{reasonInRange, stepInRange, ended, readSteps, StepAt, Takes, withRoom, countOf};
 use field::piece_end;
 use grid::Refusal;
-use reader::judging::is_bus;
+use judging::is_bus;
 use record::steps::StepLine;
 use step::Reason;
 use step::Step;

@@ -2,7 +2,7 @@
 use wozgrzyt::Case;
 use wozgrzyt::Observed;
 use wozgrzyt::observed_set;
-use wozgrzyt::texts::read_case;
+use wozgrzyt::read_case;
 
 fn observed(case: Case) -> u64 {
     let found = observed_set(case);

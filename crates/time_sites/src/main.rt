@@ -1,7 +1,7 @@
 // Reads the case text on standard input and prints the fewest new sites within a budget of 8, bus b as the bit b - 1 of one number; 0 where it is refused.
-use wozgrzyt::siting::Fewest;
-use wozgrzyt::siting::place_fewest;
-use wozgrzyt::texts::read_case;
+use wozgrzyt::Fewest;
+use wozgrzyt::place_fewest;
+use wozgrzyt::read_case;
 
 fn answer(text: &[u8]) -> u64 {
     let r = read_case(text);

@@ -3,8 +3,8 @@ ghost use mathlib.Core.Path.{_≡_};
 use grid::Refusal;
 use grid::refusal::number;
 use grid::refusal::place;
-use wozgrzyt::texts::ReadAnswer;
-use wozgrzyt::texts::read_case;
+use wozgrzyt::ReadAnswer;
+use wozgrzyt::read_case;
 
 fn wide(n: usize) -> u64
     ensures { λ r. ⌜ r ≡ n ⌝ }

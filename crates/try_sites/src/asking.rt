@@ -1,19 +1,19 @@
 // What is asked, and what is printed for it.
 use shown::text;
 use wozgrzyt::Case;
-use wozgrzyt::siting::Fewest;
-use wozgrzyt::siting::Greedy;
-use wozgrzyt::siting::Verdict;
+use wozgrzyt::Fewest;
+use wozgrzyt::Greedy;
+use wozgrzyt::Verdict;
 
 fn verdict(case: Case) {
-    match wozgrzyt::siting::cross_validate(case) {
+    match wozgrzyt::cross_validate(case) {
         Verdict::Unconfirmed(s) => shown::set(s),
         Verdict::Refused(r) => shown::refused(r),
     }
 }
 
 fn fewest(case: Case, budget: usize) {
-    match wozgrzyt::siting::place_fewest(case, budget) {
+    match wozgrzyt::place_fewest(case, budget) {
         Fewest::Sites(s) => shown::set(s),
         Fewest::Refused(r) => shown::refused(r),
     }
@@ -32,7 +32,7 @@ fn first(k: usize, room: &[usize]) {
 
 // Into the room lent, which is filled with 77, the number of no bus.
 fn greedy_into(case: Case, budget: usize, room: &mut [usize]) {
-    match wozgrzyt::siting::place_greedy(case, budget, room) {
+    match wozgrzyt::place_greedy(case, budget, room) {
         Greedy::Added(k) => first(k, room),
         Greedy::Refused(r) => {
             shown::refused(r);
@@ -67,7 +67,7 @@ fn ask(letter: u8, case: Case, budget: usize, room: usize) {
 
 // What is asked of the case of a text; of a text that says none, the case value is one with no buses.
 pub fn answer(name: &[u8], letter: u8, budget: usize, room: usize, case: &[u8]) {
-    let r = wozgrzyt::texts::read_case(case);
+    let r = wozgrzyt::read_case(case);
     text(name);
     text(b":");
     ask(letter, r.case, budget, room);

@@ -18,12 +18,12 @@ use splice::Room;
 use splice::pad;
 use splice::spliced;
 use wozgrzyt::Case;
-use wozgrzyt::texts::ReadAnswer;
-use wozgrzyt::texts::StepsRead;
-use wozgrzyt::texts::Written;
-use wozgrzyt::texts::check_steps;
-use wozgrzyt::texts::read_case;
-use wozgrzyt::texts::write_case;
+use wozgrzyt::ReadAnswer;
+use wozgrzyt::StepsRead;
+use wozgrzyt::Written;
+use wozgrzyt::check_steps;
+use wozgrzyt::read_case;
+use wozgrzyt::write_case;
 
 // What is done with a text: a case is read and written again, steps are checked, or read into so many records.
 enum Kind {

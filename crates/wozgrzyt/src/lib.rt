@@ -1,90 +1,50 @@
-// The face: every public call. None has a requirement; each checks for itself.
-ghost use Rattle.wozgrzyt.specs.Replies.{ObservedReply, FigureReply, StepReply};
+// The face: every public call, from the crate of its subject. None has a requirement; each checks for itself.
 
-pub mod reports;
-pub mod siting;
-pub mod steps;
-pub mod texts;
-
+// what is asked with, and why it is refused
 pub use busset::BusSet;
+pub use grid::Case;
+pub use grid::Refusal;
+pub use step::Reason;
+pub use step::Step;
+
+// one case: the observed set, a firing figure, the test of one step
+pub use observing::Figured;
+pub use observing::Observed;
+pub use observing::Tested;
+pub use observing::firing_figure;
+pub use observing::observed_set;
+pub use observing::test_step;
+
+// lists: the derivation, replay and weaving
+pub use deriving::DerivationAnswer;
+pub use deriving::Derived;
+pub use deriving::derivation;
 pub use desks::replay;
 pub use desks::weave;
 pub use following::Replayed;
 pub use following::Wove;
 pub use following::lists::StepList;
-pub use grid::Case;
-pub use grid::Refusal;
-pub use step::Reason;
-pub use step::Step;
-pub use steps::DerivationAnswer;
-pub use steps::Derived;
-pub use steps::derivation;
 
-pub enum Observed {
-    Set(BusSet),
-    Refused(Refusal),
-}
+// the siting group: cross-validation, greedy placement and the fewest units
+pub use siting::Fewest;
+pub use siting::Greedy;
+pub use siting::Verdict;
+pub use siting::cross_validate;
+pub use siting::place_fewest;
+pub use siting::place_greedy;
 
-pub enum Figured {
-    Figure(i32),
-    Refused(Refusal),
-}
+// texts: a case text read and written, a step text checked, read and replayed
+pub use desks::texts::read_steps;
+pub use reader::CaseRead;
+pub use reader::ReadAnswer;
+pub use steptext::StepsRead;
+pub use textreplay::TextReplayed;
+pub use textreplay::replay_text;
+pub use texts::check_steps;
+pub use texts::read_case;
+pub use texts::write_case;
+pub use writer::Written;
 
-pub enum Tested {
-    Allowed,
-    Refused(Refusal),
-}
-
-// The observed set of the case.
-pub fn observed_set(case: Case) -> Observed
-    ensures { λ r. ⌜ ObservedReply case r ⌝ }
-{
-    if !grid::validity::is_valid(case) {
-        return Observed::Refused(Refusal::InvalidCase);
-    }
-    let nbr = case.nbr;
-    Observed::Set(observe::sweeps::observed(&nbr, case.zero, case.units))
-}
-
-// The firing figure of bus i towards its neighbour j, where the buses of s are observed.
-pub fn firing_figure(case: Case, s: BusSet, i: usize, j: usize) -> Figured
-    ensures { λ r. ⌜ FigureReply case s i j r ⌝ }
-{
-    let n = case.n;
-    if !grid::validity::is_valid(case) {
-        return Figured::Refused(Refusal::InvalidCase);
-    }
-    if !busset::is_bus(n, i) {
-        return Figured::Refused(Refusal::NoSuchBus(0));
-    }
-    if !busset::is_bus(n, j) {
-        return Figured::Refused(Refusal::NoSuchBus(0));
-    }
-    let nbr = case.nbr;
-    if !busset::has(grid::row(&nbr, i), j) {
-        return Figured::Refused(Refusal::NotJoined);
-    }
-    Figured::Figure(observe::figures::figure_of(&nbr, busset::up_to(s, n), i, j))
-}
-
-// Whether the step is allowed where the buses of s are observed.
-pub fn test_step(case: Case, s: BusSet, x: Step) -> Tested
-    ensures { λ r. ⌜ StepReply case s x r ⌝ }
-{
-    let n = case.n;
-    let b = x.bus;
-    if !grid::validity::is_valid(case) {
-        return Tested::Refused(Refusal::InvalidCase);
-    }
-    if !observe::testing::names(n, x) {
-        return Tested::Refused(Refusal::NoSuchBus(1));
-    }
-    let stated = busset::up_to(s, n);
-    if busset::has(stated, b) {
-        return Tested::Refused(Refusal::AlreadyObserved(1));
-    }
-    if !observe::testing::holds(case, stated, x) {
-        return Tested::Refused(Refusal::ReasonFails(1));
-    }
-    Tested::Allowed
-}
+// what the programs print
+pub use dayreport::day_report;
+pub use planreport::plan_report;

@@ -1,7 +1,7 @@
 use Prim.Native.Nat.{_-_}
 use lib.ListN.{length}
 use Rattle.record.proofs.Answers.{told}
-use Rattle.reader.proofs.Judged.{fit-of}
+use Rattle.judging.proofs.Judged.{fit-of}
 use Rattle.reader.proofs.Lines.{Going, going-first, no-feed, line-said, going-on}
 use borrow.Author.Needs.{needs}
 use Rattle.reader.proofs.read_text.Statement.{statement}

@@ -1,5 +1,5 @@
 use Rattle.busset.proofs.Holding.{hold-is}
-use Rattle.reader.proofs.Judged.{bus-fit, pmu-fit}
+use Rattle.judging.proofs.Judged.{bus-fit, pmu-fit}
 use borrow.Author.Needs.{needs}
 use Rattle.reader.proofs.building.build_marks.Statement.{statement}
 use Rattle.reader.proofs.building.build_marks.Tie as tie

@@ -1,4 +1,4 @@
-use Rattle.reader.proofs.Judged.{line-fit}
+use Rattle.judging.proofs.Judged.{line-fit}
 use borrow.Author.Needs.{needs}
 use Rattle.reader.proofs.building.build_rows.Statement.{statement}
 use Rattle.reader.proofs.building.build_rows.Tie as tie

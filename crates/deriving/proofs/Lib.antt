@@ -1,0 +1,2 @@
+pub mod Nexting
+pub mod Extending

@@ -1,0 +1,35 @@
+// The texts: a case text read and written, a step text checked.
+ghost use Rattle.texts.specs.Replies.{CaseReadReply, CaseWrittenReply, StepsCheckedReply};
+use grid::Case;
+use grid::Refusal;
+use reader::CaseRead;
+use steptext::StepsRead;
+use writer::Written;
+
+// The case that a text says.
+pub fn read_case(text: &[u8]) -> CaseRead
+    ensures { λ r. ⌜ CaseReadReply (now (text .entry)) r ⌝ }
+{
+    reader::read_case(text)
+}
+
+// The text of a case, written into the bytes lent.
+pub fn write_case(case: Case, out: &mut [u8]) -> Written
+    ensures { λ r. ⌜ CaseWrittenReply case (now (out .entry)) r (now (out .exit)) ⌝ }
+{
+    if !grid::validity::is_valid(case) {
+        return Written::Refused(Refusal::InvalidCase);
+    }
+    if out.len() < writer::cases::count_bytes(case) {
+        return Written::Refused(Refusal::NoRoom);
+    }
+    let k = writer::cases::put_case(out, case);
+    Written::Bytes(k)
+}
+
+// How many steps a step text has.
+pub fn check_steps(text: &[u8]) -> StepsRead
+    ensures { λ r. ⌜ StepsCheckedReply (now (text .entry)) r ⌝ }
+{
+    steptext::check_steps(text)
+}

@@ -1,4 +1,0 @@
-pub mod Replies
-pub mod ListReplies
-pub mod SitingReplies
-pub mod TextReplies
