@@ -1,5 +1,5 @@
 // The day report: a case text on standard input, its report on standard output.
-ghost use Rattle.writer.specs.Printing.{Printed};
+ghost use Rattle.printer.specs.Printing.{Printed};
 ghost use Rattle.dayreport.specs.Day.{Day};
 use wozgrzyt::Written;
 use wozgrzyt::day_report;

@@ -20,8 +20,8 @@ use Rattle.grid.specs.declared.Case.{Case}
 use Rattle.reader.specs.Reading.{readCase}
 use Rattle.reader.specs.declared.ReadAnswer.{ReadAnswer}
 use Rattle.reader.specs.declared.ReadAnswer.the-variants.{Read, Refused}
-use Rattle.writer.specs.Printing.{printed}
-use Rattle.writer.proofs.Printed.{refused-length}
+use Rattle.printer.specs.Printing.{printed}
+use Rattle.printer.proofs.Printed.{refused-length}
 use Rattle.dayreport.specs.Day.{stepsText, verdictFields, dayText, DayReport, DayFor, Day}
 use Rattle.dayreport.proofs.Texts.{steps-length, verdict-length, observed-length}
 use Rattle.dayreport.proofs.Reports.{observed-few, derivation-named, read-good}

@@ -20,13 +20,13 @@ use Rattle.rules.proofs.Leasts.{least-bus}
 use Rattle.rules.proofs.Lists.{accepted-names}
 use Rattle.rules.proofs.Derivations.{derived-accepted, derivation-least, derivation-length}
 use Rattle.grid.specs.Cases.{neighbours, gridOf, Valid}
-use Rattle.grid.specs.Refusals.{placeOf}
+use Rattle.refusals.specs.Refusals.{placeOf}
 use Rattle.grid.specs.declared.Case.{Case}
-use Rattle.grid.specs.declared.refusal.Refusal.{Refusal}
+use Rattle.refusals.specs.declared.Refusal.{Refusal}
 use Rattle.deriving.specs.Deriving.{Derives}
 use Rattle.step.specs.Records.{noStep}
-use Rattle.following.specs.Lists.{listed, listOf}
-use Rattle.following.specs.declared.lists.StepList.{StepList}
+use Rattle.steplist.specs.Lists.{listed, listOf}
+use Rattle.steplist.specs.declared.StepList.{StepList}
 use Rattle.reader.specs.Reading.{readCase}
 use Rattle.reader.specs.declared.CaseRead.{CaseRead}
 use Rattle.reader.specs.declared.ReadAnswer.{ReadAnswer}

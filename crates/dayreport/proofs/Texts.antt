@@ -13,14 +13,14 @@ use Rattle.rules.specs.Weaving.{Each}
 use Rattle.field.specs.Split.{join, bytes, lineFeed}
 use Rattle.field.specs.Number.{numberText}
 use Rattle.field.proofs.Digits.{text-length, text-two}
-use Rattle.record.specs.StepLine.{stepText}
+use Rattle.stepline.specs.StepLine.{stepText}
 use Rattle.step.specs.Records.{noStep}
-use Rattle.following.specs.Lists.{nthOf, listed}
-use Rattle.following.specs.declared.lists.StepList.{StepList}
-use Rattle.following.proofs.Listing.{nth-in}
-use Rattle.writer.specs.Put.{Put}
-use Rattle.writer.specs.Printing.{printed}
-use Rattle.writer.proofs.StepLines.{step-length}
+use Rattle.steplist.specs.Lists.{nthOf, listed}
+use Rattle.steplist.specs.declared.StepList.{StepList}
+use Rattle.steplist.proofs.Listing.{nth-in}
+use Rattle.putting.specs.Put.{Put}
+use Rattle.printer.specs.Printing.{printed}
+use Rattle.printer.proofs.StepLines.{step-length}
 use Rattle.dayreport.specs.Day.{stepsText, verdictFields}
 use Rattle.dayreport.specs.Listing.{Named}
 

@@ -9,13 +9,13 @@ use Rattle.rules.specs.Derivation.{Derivation}
 use Rattle.rules.specs.Confirming.{UnconfirmedSet}
 use Rattle.field.specs.Split.{bytes, lineFeed}
 use Rattle.field.specs.Number.{numberText}
-use Rattle.record.specs.StepLine.{stepText}
+use Rattle.stepline.specs.StepLine.{stepText}
 use Rattle.grid.specs.declared.Case.{Case}
 use Rattle.grid.specs.Cases.{gridOf}
 use Rattle.reader.specs.Reading.{readCase}
 use Rattle.reader.specs.declared.ReadAnswer.{ReadAnswer}
 use Rattle.reader.specs.declared.ReadAnswer.the-variants.{Read, Refused}
-use Rattle.writer.specs.Printing.{printed, RefusedText}
+use Rattle.printer.specs.Printing.{printed, RefusedText}
 
 -- ---- its lines
 

@@ -5,8 +5,8 @@ use lib.ListN.{length}
 use Rattle.busset.specs.Sets.{width}
 use Rattle.rules.specs.Steps.{Names}
 use Rattle.rules.specs.Weaving.{Each}
-use Rattle.following.specs.Lists.{listed}
-use Rattle.following.specs.declared.lists.StepList.{StepList}
+use Rattle.steplist.specs.Lists.{listed}
+use Rattle.steplist.specs.declared.StepList.{StepList}
 
 -- at most 64 steps, which name buses 1 to 64
 pub record Named (l : StepList) : Type 0 where

@@ -2,19 +2,19 @@
 ghost use Prim.Native.Nat.{_≤_};
 ghost use Rattle.busset.specs.Sets.{width};
 ghost use Rattle.grid.specs.Cases.{Valid};
-ghost use Rattle.following.specs.Lists.{listed};
-ghost use Rattle.writer.specs.Printing.{PrintedReply};
+ghost use Rattle.steplist.specs.Lists.{listed};
+ghost use Rattle.printer.specs.Printing.{PrintedReply};
 ghost use Rattle.dayreport.specs.Day.{IsDay, DayReport, Day};
 ghost use Rattle.dayreport.specs.Listing.{Named};
 
 pub mod lines;
 
-use following::lists::StepList;
 use grid::Case;
-use grid::Refusal;
 use lines::put_day;
+use putting::Written;
 use reader::ReadAnswer;
-use writer::Written;
+use refusals::Refusal;
+use steplist::StepList;
 
 // The report of these steps, in the bytes lent.
 fn print_day(out: &mut [u8], n: usize, list: StepList, alone: usize) -> Written
@@ -52,6 +52,6 @@ pub fn day_report(text: &[u8], out: &mut [u8]) -> Written
             let case = read.case;
             report(case, out)
         }
-        ReadAnswer::Refused(q) => writer::printing::print_refused(out, q),
+        ReadAnswer::Refused(q) => printer::print_refused(out, q),
     }
 }

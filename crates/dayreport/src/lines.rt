@@ -4,19 +4,19 @@ ghost use Prim.Native.Nat.{_<_, _≤_, _^_};
 ghost use Rattle.busset.specs.Sets.{width};
 ghost use Rattle.field.specs.Split.{bytes};
 ghost use Rattle.field.specs.Number.{numberText};
-ghost use Rattle.following.specs.Lists.{listed};
-ghost use Rattle.writer.specs.Put.{Put};
-ghost use Rattle.writer.specs.Printing.{printed};
+ghost use Rattle.steplist.specs.Lists.{listed};
+ghost use Rattle.putting.specs.Put.{Put};
+ghost use Rattle.printer.specs.Printing.{printed};
 ghost use Rattle.dayreport.specs.Day.{stepsText, verdictFields, dayText};
 ghost use Rattle.dayreport.specs.Listing.{Named};
-use following::lists::StepList;
+use steplist::StepList;
 
 // `observed count n`.
 fn put_observed(out: &mut [u8], count: usize, n: usize) -> usize
     requires { ⌜ (count ≤ width) × (n ≤ width) ⌝ }
     ensures { λ k. ⌜ Put (now (out .entry)) 0 (printed (bytes "observed") (numberText count ∷ numberText n ∷ [])) (now (out .exit)) k ⌝ }
 {
-    writer::put_pair(out, 0, b"observed\t", count, b"\t", n)
+    putting::put_pair(out, 0, b"observed\t", count, b"\t", n)
 }
 
 // A line for each step.
@@ -26,7 +26,7 @@ fn put_steps(out: &mut [u8], at: usize, list: StepList) -> usize
 {
     let mut k = at;
     for i in 0..list.n {
-        k = writer::steps::put_step(out, k, following::lists::nth(list, i));
+        k = printer::steps::put_step(out, k, steplist::nth(list, i));
     }
     k
 }
@@ -37,10 +37,10 @@ fn put_verdict(out: &mut [u8], at: usize, alone: usize) -> usize
     ensures { λ k. ⌜ Put (now (out .entry)) at (printed (bytes "xv") (verdictFields alone)) (now (out .exit)) k ⌝ }
 {
     if alone == 0 {
-        return writer::put_all(out, at, b"xv\tyes\n");
+        return putting::put_all(out, at, b"xv\tyes\n");
     }
-    let a = writer::put_tagged(out, at, b"xv\tno\t", alone);
-    writer::put_byte(out, a, 10)
+    let a = putting::put_tagged(out, at, b"xv\tno\t", alone);
+    putting::put_byte(out, a, 10)
 }
 
 // The whole report from the first byte on, and its length.
@@ -51,5 +51,5 @@ pub fn put_day(out: &mut [u8], n: usize, list: StepList, alone: usize) -> usize
     let a = put_observed(out, list.n, n);
     let b = put_steps(out, a, list);
     let c = put_verdict(out, b, alone);
-    writer::put_all(out, c, b"end\n")
+    putting::put_all(out, c, b"end\n")
 }

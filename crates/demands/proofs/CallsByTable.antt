@@ -7,16 +7,16 @@ use lib.Dec.{lit<}
 use lib.ListN.{length}
 use Rattle.step.specs.declared.Step.{Step}
 use Rattle.grid.specs.declared.Case.{Case}
-use Rattle.grid.specs.declared.refusal.Refusal.{Refusal}
-use Rattle.grid.specs.Refusals.{Passed}
-use Rattle.following.specs.Replies.{replayChecks, ReplayReply, weaveChecks, WeaveReply}
-use Rattle.following.specs.declared.lists.StepList.{StepList}
-use Rattle.following.specs.declared.Replayed.{Replayed}
-use Rattle.following.specs.declared.Replayed.the-variants as replayed
-use Rattle.following.specs.declared.Wove.{Wove}
-use Rattle.following.specs.declared.Wove.the-variants as wove
-use Rattle.writer.specs.declared.Written.{Written}
-use Rattle.writer.specs.declared.Written.the-variants as written
+use Rattle.refusals.specs.declared.Refusal.{Refusal}
+use Rattle.refusals.specs.Refusals.{Passed}
+use Rattle.ending.specs.Replies.{replayChecks, ReplayReply, weaveChecks, WeaveReply}
+use Rattle.steplist.specs.declared.StepList.{StepList}
+use Rattle.ending.specs.declared.Replayed.{Replayed}
+use Rattle.ending.specs.declared.Replayed.the-variants as replayed
+use Rattle.ending.specs.declared.Wove.{Wove}
+use Rattle.ending.specs.declared.Wove.the-variants as wove
+use Rattle.putting.specs.declared.Written.{Written}
+use Rattle.putting.specs.declared.Written.the-variants as written
 use Rattle.observing.specs.declared.Observed.{Observed}
 use Rattle.observing.specs.declared.Observed.the-variants as observed
 use Rattle.observing.specs.declared.Figured.{Figured}

@@ -8,11 +8,12 @@ use Rattle.record.specs.Record.{recordOf}
 use Rattle.record.specs.declared.Record.{Record}
 use Rattle.record.specs.declared.Record.the-variants.{Grid, Bus, Line, Pmu, End, Wrong}
 use Rattle.grid.specs.declared.Case.{Case}
-use Rattle.grid.specs.declared.refusal.Refusal.the-variants.{WrongForm, OutOfRange, OutOfOrder}
-use Rattle.grid.specs.Refusals.{Check, check}
-use Rattle.grid.proofs.Orders.{itself}
+use Rattle.refusals.specs.declared.Refusal.the-variants.{WrongForm, OutOfRange, OutOfOrder}
+use Rattle.refusals.specs.Refusals.{Check, check}
+use Rattle.refusals.proofs.Orders.{itself}
 use Rattle.judging.specs.Judging.{inPlace, inRange, inOrder, accepted, verdict}
-use Rattle.reader.specs.Reading.{mostBytes, Reader, start, next, caseOf, got, refused, closed, said, readLines, readText, readCase}
+use Rattle.grid.specs.Cases.{mostBytes}
+use Rattle.reader.specs.Reading.{Reader, start, next, caseOf, got, refused, closed, said, readLines, readText, readCase}
 use Rattle.reader.specs.declared.CaseRead.{CaseRead}
 use Rattle.judging.specs.declared.Verdict.{Verdict}
 use Rattle.judging.specs.declared.Verdict.the-variants.{Form, Range, Order}

@@ -11,7 +11,7 @@ use Rattle.siting.proofs.place_fewest.Met as met-place-fewest
 use Rattle.texts.proofs.read_case.Met as met-read-case
 use Rattle.texts.proofs.write_case.Met as met-write-case
 use Rattle.texts.proofs.check_steps.Met as met-check-steps
-use Rattle.desks.proofs.texts.read_steps.Met as met-read-steps
+use Rattle.stepreader.proofs.read_steps.Met as met-read-steps
 use Rattle.textreplay.proofs.replay_text.Met as met-replay-text
 use Rattle.dayreport.proofs.day_report.Met as met-day-report
 use Rattle.planreport.proofs.plan_report.Met as met-plan-report

@@ -14,18 +14,18 @@ use Rattle.rules.specs.Steps.{AcceptedFrom, Accepted}
 use Rattle.rules.specs.Placing as placing
 use Rattle.rules.proofs.Reasons.{allowed-names}
 use Rattle.grid.specs.declared.Case.{Case}
-use Rattle.grid.specs.declared.refusal.Refusal.{Refusal}
+use Rattle.refusals.specs.declared.Refusal.{Refusal}
 use Rattle.grid.specs.Cases.{mostSteps, gridOf, Valid}
-use Rattle.grid.specs.Refusals.{Is, Passed, Failed}
-use Rattle.grid.proofs.Orders.{failed-or-passed}
+use Rattle.refusals.specs.Refusals.{Is, Passed, Failed}
+use Rattle.refusals.proofs.Orders.{failed-or-passed}
 use Rattle.following.specs.Following.{checksFrom}
-use Rattle.following.specs.Replies.{replayChecks, ReplayReply}
+use Rattle.ending.specs.Replies.{replayChecks, ReplayReply}
 use Rattle.following.specs.declared.Task.the-variants.{Replay}
-use Rattle.following.specs.declared.Replayed.{Replayed}
-use Rattle.following.specs.declared.Replayed.the-variants as replayed
+use Rattle.ending.specs.declared.Replayed.{Replayed}
+use Rattle.ending.specs.declared.Replayed.the-variants as replayed
 use Rattle.reader.specs.Reading.{got}
 use Rattle.reader.specs.Writing.{caseText}
-use Rattle.writer.specs.declared.Written.the-variants as written
+use Rattle.putting.specs.declared.Written.the-variants as written
 use Rattle.observing.specs.declared.Observed.{Observed}
 use Rattle.observing.specs.declared.Observed.the-variants as observed
 use Rattle.siting.specs.declared.Fewest.{Fewest}

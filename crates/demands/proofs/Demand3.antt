@@ -13,13 +13,13 @@ use Rattle.rules.proofs.Lists.{accepted-names}
 use Rattle.rules.proofs.Shuffles.{shuffle-each, weaving-shuffles}
 use Rattle.grid.specs.declared.Case.{Case}
 use Rattle.grid.specs.Cases.{mostSteps, gridOf, Valid}
-use Rattle.grid.specs.Refusals.{Check, check, Passed}
-use Rattle.grid.proofs.Orders.{failed-or-passed}
+use Rattle.refusals.specs.Refusals.{Check, check, Passed}
+use Rattle.refusals.proofs.Orders.{failed-or-passed}
 use Rattle.following.specs.Following.{checksFrom}
-use Rattle.following.specs.Replies.{weaveChecks, WeaveReply}
+use Rattle.ending.specs.Replies.{weaveChecks, WeaveReply}
 use Rattle.following.specs.declared.Task.the-variants.{Weave}
-use Rattle.following.specs.declared.Wove.{Wove}
-use Rattle.following.specs.declared.Wove.the-variants as wove
+use Rattle.ending.specs.declared.Wove.{Wove}
+use Rattle.ending.specs.declared.Wove.the-variants as wove
 use Rattle.demands.specs.Demand3.{Demand3}
 
 weavable-checks : (c : Case) (k s : ℕ) (xs : List Step) (rest : List Check) → Each (Names (c .n)) xs → WeavableFrom (gridOf c) s xs → Passed rest → Passed (checksFrom Weave c k s xs rest)

@@ -9,12 +9,12 @@ use lib.Dec.{T, lit<, lit≤, ltb, ltb→lt, nltb→le}
 use lib.ListN.{length, drop}
 use Rattle.busset.specs.Bytes.{setBytes}
 use Rattle.grid.specs.declared.Case.{Case}
-use Rattle.grid.specs.declared.refusal.Refusal.{Refusal}
-use Rattle.grid.specs.Refusals.{numberOf, placeOf, Is, Check, Failed}
-use Rattle.grid.proofs.Orders.{itself, number-some, number-most}
+use Rattle.refusals.specs.declared.Refusal.{Refusal}
+use Rattle.refusals.specs.Refusals.{numberOf, placeOf, Is, Check, Failed}
+use Rattle.refusals.proofs.Orders.{itself, number-some, number-most}
 use Rattle.reader.specs.Reading.{refused, readCase}
 use Rattle.reader.specs.declared.CaseRead.{CaseRead}
-use Rattle.following.specs.Replies.{replayChecks}
+use Rattle.ending.specs.Replies.{replayChecks}
 use Rattle.steptext.specs.Steps.{stepsOf}
 use Rattle.textreplay.specs.Replying.{TextReplayReply}
 use Rattle.textreplay.specs.declared.TextReplayed.{TextReplayed}
@@ -27,10 +27,10 @@ use Rattle.siting.specs.declared.Verdict.{Verdict}
 use Rattle.siting.specs.declared.Verdict.the-variants as verdict
 use Rattle.siting.specs.declared.Fewest.{Fewest}
 use Rattle.siting.specs.declared.Fewest.the-variants as fewest
-use Rattle.estimator.specs.declared.answers.Answer.{Answer}
-use Rattle.estimator.specs.declared.answers.Answer.the-variants.{Set, Refused, Unread}
+use Rattle.results.specs.declared.Answer.{Answer}
+use Rattle.results.specs.declared.Answer.the-variants.{Set, Refused, Unread}
 use Rattle.estimator.specs.Answers.{ofObserved, ofVerdict, ofFewest, ofReplay, Said, ObservedFor, UnconfirmedFor, FewestFor, ReplayFor, OfRead, OfText}
-use Rattle.estimator.specs.Results.{Replied, Answered}
+use Rattle.results.specs.Results.{Replied, Answered}
 use Rattle.demands.specs.Order.{InOrder, FirstFails}
 use Rattle.demands.specs.TextChecks.{caseChecks, stepTextChecks, withFifty, textReplayChecks, roomForSet, estimatorChecks}
 use Rattle.demands.specs.ByTable as asked

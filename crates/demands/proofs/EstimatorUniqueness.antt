@@ -14,8 +14,8 @@ use Rattle.demands.proofs.Uniqueness.{observed-unique}
 use Rattle.demands.proofs.SitingUniqueness.{verdict-unique, fewest-unique}
 use Rattle.demands.proofs.ListUniqueness.{text-replay-unique}
 use Rattle.estimator.specs.Answers.{ofObserved, ofVerdict, ofFewest, ofReplay, Said, ObservedFor, UnconfirmedFor, FewestFor, ReplayFor, OfRead, OfText}
-use Rattle.estimator.specs.Results.{resultOf, leftBy, Answered}
-use Rattle.estimator.specs.declared.answers.Answer.{Answer}
+use Rattle.results.specs.Results.{resultOf, leftBy, Answered}
+use Rattle.results.specs.declared.Answer.{Answer}
 
 -- P says one answer
 abbrev Unique : (Answer → Type 0) → Type 0

@@ -3,9 +3,9 @@ use mathlib.Core.Path.{_≡_, sym, _∙_, subst}
 use mathlib.Core.List.{List, [], _∷_, _++_}
 use mathlib.Core.Logic.{_⊎_, inl, inr}
 use Prim.Native.Nat.{ℕ}
-use Rattle.grid.specs.Refusals.{numberOf, placeOf, Check, Passed, Failed}
-use Rattle.grid.specs.declared.refusal.Refusal.{Refusal}
-use Rattle.grid.proofs.Orders.{itself}
+use Rattle.refusals.specs.Refusals.{numberOf, placeOf, Check, Passed, Failed}
+use Rattle.refusals.specs.declared.Refusal.{Refusal}
+use Rattle.refusals.proofs.Orders.{itself}
 use Rattle.demands.specs.Order.{InOrder, FirstFails}
 use Rattle.demands.specs.ByTable.{Refuses, ByTable}
 

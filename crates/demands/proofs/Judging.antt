@@ -7,10 +7,10 @@ use Prim.Native.Nat.{ℕ, _≤_}
 use native.Mathlib.Omega.{arith}
 use lib.Dec.{T, ltb, ltb→lt, nltb→le}
 use lib.ListN.{length}
-use Rattle.grid.specs.declared.refusal.Refusal.{Refusal}
-use Rattle.grid.specs.declared.refusal.Refusal.the-variants.{TextTooLong}
-use Rattle.grid.specs.Refusals.{Is, Check, check, Passed, Failed}
-use Rattle.grid.proofs.Orders.{itself}
+use Rattle.refusals.specs.declared.Refusal.{Refusal}
+use Rattle.refusals.specs.declared.Refusal.the-variants.{TextTooLong}
+use Rattle.refusals.specs.Refusals.{Is, Check, check, Passed, Failed}
+use Rattle.refusals.proofs.Orders.{itself}
 
 -- r is an answer of A where all of the checks pass, or the refusal of the first that fails
 pub data SaidBy {R : Type 0} (refused : Refusal → R) (A : R → Type 0) (checks : List Check) (r : R) : Type 0 where

@@ -9,15 +9,15 @@ use Rattle.step.specs.declared.Step.{Step}
 use Rattle.rules.specs.Grids.{Grid}
 use Rattle.rules.proofs.Derivations.{derived-unique}
 use Rattle.grid.specs.declared.Case.{Case}
-use Rattle.grid.proofs.Orders.{failed-unique, failed-or-passed}
-use Rattle.following.specs.Lists.{listOf}
+use Rattle.refusals.proofs.Orders.{failed-unique, failed-or-passed}
+use Rattle.steplist.specs.Lists.{listOf}
 use Rattle.deriving.specs.Deriving.{Derives}
-use Rattle.following.specs.Replies.{replayChecks, ReplayReply, weaveChecks, WeaveReply}
-use Rattle.following.specs.declared.lists.StepList.{StepList}
-use Rattle.following.specs.declared.Replayed.{Replayed}
-use Rattle.following.specs.declared.Replayed.the-variants as replayed
-use Rattle.following.specs.declared.Wove.{Wove}
-use Rattle.following.specs.declared.Wove.the-variants as wove
+use Rattle.ending.specs.Replies.{replayChecks, ReplayReply, weaveChecks, WeaveReply}
+use Rattle.steplist.specs.declared.StepList.{StepList}
+use Rattle.ending.specs.declared.Replayed.{Replayed}
+use Rattle.ending.specs.declared.Replayed.the-variants as replayed
+use Rattle.ending.specs.declared.Wove.{Wove}
+use Rattle.ending.specs.declared.Wove.the-variants as wove
 use Rattle.steptext.specs.Steps.{readSteps, stepsOf}
 use Rattle.steptext.specs.declared.StepsRead.{StepsRead}
 use Rattle.steptext.specs.declared.StepsRead.the-variants as read

@@ -2,9 +2,9 @@
 use mathlib.Core.Path.{_≡_, ap}
 use mathlib.Core.List.{List}
 use Prim.Native.Nat.{ℕ}
-use Rattle.writer.specs.declared.Written.{Written}
-use Rattle.writer.specs.Printing.{PrintedReply}
-use Rattle.writer.proofs.Printed.{PrintReply, printed-unique}
+use Rattle.putting.specs.declared.Written.{Written}
+use Rattle.printer.specs.Printing.{PrintedReply}
+use Rattle.printer.proofs.Printed.{PrintReply, printed-unique}
 use Rattle.dayreport.specs.Day.{Day}
 use Rattle.dayreport.proofs.Days.{day-unique}
 use Rattle.planreport.specs.Plan.{Plan}

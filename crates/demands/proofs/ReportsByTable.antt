@@ -11,18 +11,20 @@ use Rattle.field.specs.Split.{split, lineFeed}
 use Rattle.field.specs.declared.Numeral.{Numeral}
 use Rattle.field.specs.declared.Numeral.the-variants as numeral
 use Rattle.grid.specs.declared.Case.{Case}
-use Rattle.grid.specs.declared.refusal.Refusal.{Refusal}
-use Rattle.grid.specs.declared.refusal.Refusal.the-variants.{TextTooLong, WrongForm}
-use Rattle.grid.specs.Refusals.{Check, check, Passed, Failed}
-use Rattle.grid.proofs.Orders.{itself, failed-unique, failed-or-passed}
-use Rattle.reader.specs.Reading.{mostBytes, start, refused, readLines, readCase}
+use Rattle.refusals.specs.declared.Refusal.{Refusal}
+use Rattle.refusals.specs.declared.Refusal.the-variants.{TextTooLong, WrongForm}
+use Rattle.refusals.specs.Refusals.{Check, check, Passed, Failed}
+use Rattle.refusals.proofs.Orders.{itself, failed-unique, failed-or-passed}
+use Rattle.grid.specs.Cases.{mostBytes}
+use Rattle.reader.specs.Reading.{start, refused, readLines, readCase}
 use Rattle.reader.specs.declared.CaseRead.{CaseRead}
-use Rattle.writer.specs.Printing.{RefusedText, PrintedReply}
-use Rattle.writer.specs.declared.Written.{Written}
-use Rattle.writer.specs.declared.Written.the-variants as written
+use Rattle.printer.specs.Printing.{RefusedText, PrintedReply}
+use Rattle.putting.specs.declared.Written.{Written}
+use Rattle.putting.specs.declared.Written.the-variants as written
 use Rattle.dayreport.specs.Day.{DayReport, DayFor, Day}
 use Rattle.dayreport.proofs.Days.{day-unique}
-use Rattle.planreport.specs.Plan.{budgetOf, unasked, askedWith, planLines, readPlan, planChecks, PlanReport, found, none, PlanFor, Plan}
+use Rattle.planinput.specs.Asking.{budgetOf, unasked, askedWith, planLines, readPlan}
+use Rattle.planreport.specs.Plan.{planChecks, PlanReport, found, none, PlanFor, Plan}
 use Rattle.planreport.proofs.Unique.{plan-unique}
 use Rattle.demands.specs.Order.{turn, InOrder}
 use Rattle.demands.specs.TextChecks.{IsNumber, planLineChecks, inputChecks, caseChecks, lineChecks, printChecks}

@@ -9,7 +9,7 @@ use Rattle.rules.proofs.Ordering.{fewest-set-unique}
 use Rattle.rules.proofs.Choices.{unconfirmed-unique, greedy-unique}
 use Rattle.grid.specs.declared.Case.{Case}
 use Rattle.grid.specs.Cases.{gridOf}
-use Rattle.grid.proofs.Orders.{failed-unique, failed-or-passed}
+use Rattle.refusals.proofs.Orders.{failed-unique, failed-or-passed}
 use Rattle.siting.specs.declared.Verdict.{Verdict}
 use Rattle.siting.specs.declared.Verdict.the-variants as verdict
 use Rattle.siting.specs.declared.Greedy.{Greedy}

@@ -6,14 +6,15 @@ use Prim.Native.Nat.{ℕ, _+_, _-_, _≤_}
 use native.Mathlib.Omega.{arith}
 use lib.Dec.{T, ltb, ltb→lt, nltb→le}
 use Rattle.field.specs.Split.{split, lineFeed}
-use Rattle.record.specs.StepLine.{stepLineOf}
-use Rattle.record.specs.declared.steps.StepLine.{StepLine}
-use Rattle.record.specs.declared.steps.StepLine.the-variants as line
+use Rattle.stepline.specs.StepLine.{stepLineOf}
+use Rattle.stepline.specs.declared.StepLine.{StepLine}
+use Rattle.stepline.specs.declared.StepLine.the-variants as line
 use Rattle.grid.specs.Cases.{mostSteps}
-use Rattle.grid.specs.declared.refusal.Refusal.the-variants.{WrongForm, OutOfRange, TooManySteps}
-use Rattle.grid.specs.Refusals.{Check, check}
-use Rattle.grid.proofs.Orders.{itself}
-use Rattle.steptext.specs.Steps.{mostStepBytes, stepInRange, ended, lineSaid, stepLines, readSteps}
+use Rattle.refusals.specs.declared.Refusal.the-variants.{WrongForm, OutOfRange, TooManySteps}
+use Rattle.refusals.specs.Refusals.{Check, check}
+use Rattle.refusals.proofs.Orders.{itself}
+use Rattle.grid.specs.Cases.{mostStepBytes}
+use Rattle.steptext.specs.Steps.{stepInRange, ended, lineSaid, stepLines, readSteps}
 use Rattle.steptext.specs.declared.StepsRead.{StepsRead}
 use Rattle.steptext.specs.declared.StepsRead.the-variants.{Steps, Refused}
 use Rattle.demands.proofs.Judging.{SaidBy, good, passing, failing, within-limit}

@@ -8,16 +8,17 @@ use native.Mathlib.Omega.{arith}
 use lib.Dec.{lit<, lit≤}
 use lib.ListN.{length}
 use Rattle.step.specs.declared.Step.{Step}
-use Rattle.grid.specs.Refusals.{Check, check}
+use Rattle.refusals.specs.Refusals.{Check, check}
 use Rattle.field.specs.Split.{split, lineFeed}
 use Rattle.record.specs.Record.{recordOf}
-use Rattle.record.specs.StepLine.{stepLineOf}
+use Rattle.stepline.specs.StepLine.{stepLineOf}
 use Rattle.record.specs.declared.Record.{Record}
 use Rattle.record.specs.declared.Record.the-variants.{Grid, Bus, Line, Pmu, End, Wrong}
-use Rattle.record.specs.declared.steps.StepLine.{StepLine}
-use Rattle.record.specs.declared.steps.StepLine.the-variants as line
+use Rattle.stepline.specs.declared.StepLine.{StepLine}
+use Rattle.stepline.specs.declared.StepLine.the-variants as line
 use Rattle.judging.specs.Judging.{inOrder}
-use Rattle.reader.specs.Reading.{mostBytes, Reader, start, next}
+use Rattle.grid.specs.Cases.{mostBytes}
+use Rattle.reader.specs.Reading.{Reader, start, next}
 use Rattle.demands.specs.Order.{turnOf12, turn, Precedes, InOrder}
 use Rattle.demands.proofs.Turns.{Ahead, ahead-first, TurnsBy, Follows}
 use Rattle.demands.specs.TextChecks.{NothingFollows, afterRecord, lineChecks, caseChecks, HasTurn, afterStep, stepLineChecks, stepTextChecks, withFifty, planLineChecks, inputChecks}

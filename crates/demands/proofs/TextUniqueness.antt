@@ -6,17 +6,19 @@ use lib.ListN.{length}
 use Rattle.step.specs.declared.Step.{Step}
 use Rattle.grid.specs.declared.Case.{Case}
 use Rattle.grid.specs.Cases.{mostSteps, Valid}
-use Rattle.grid.proofs.Orders.{failed-unique, failed-or-passed}
-use Rattle.reader.specs.Reading.{mostBytes, got}
+use Rattle.refusals.proofs.Orders.{failed-unique, failed-or-passed}
+use Rattle.grid.specs.Cases.{mostBytes}
+use Rattle.reader.specs.Reading.{got}
 use Rattle.reader.specs.Writing.{caseText}
 use Rattle.reader.specs.declared.CaseRead.{CaseRead}
 use Rattle.inverse.proofs.Inverse as inverse
-use Rattle.steptext.specs.Steps.{stepsOf, AllNamed, leaves, StepsReadReply}
+use Rattle.steptext.specs.Steps.{stepsOf, AllNamed}
+use Rattle.taking.specs.Taking.{leaves, StepsReadReply}
 use Rattle.steptext.specs.declared.StepsRead.{StepsRead}
 use Rattle.steptext.specs.declared.StepsRead.the-variants.{Steps}
 use Rattle.steptext.proofs.Found as found
-use Rattle.writer.specs.declared.Written.{Written}
-use Rattle.writer.specs.declared.Written.the-variants as written
+use Rattle.putting.specs.declared.Written.{Written}
+use Rattle.putting.specs.declared.Written.the-variants as written
 use Rattle.texts.specs.Replies.{CaseReadReply, writeChecks, CaseWrittenReply, StepsCheckedReply}
 
 -- ---- uniqueness

@@ -9,15 +9,16 @@ use lib.Dec.{T, lit≤, ltb, ltb→lt, nltb→le}
 use lib.ListN.{length}
 use Rattle.step.specs.declared.Step.{Step}
 use Rattle.grid.specs.declared.Case.{Case}
-use Rattle.grid.specs.declared.refusal.Refusal.{Refusal}
-use Rattle.grid.specs.declared.refusal.Refusal.the-variants.{NoRoom}
-use Rattle.grid.specs.Refusals.{numberOf, placeOf, Check, check, Passed, Failed}
-use Rattle.grid.proofs.Orders.{itself}
-use Rattle.following.specs.Replies.{replayChecks}
+use Rattle.refusals.specs.declared.Refusal.{Refusal}
+use Rattle.refusals.specs.declared.Refusal.the-variants.{NoRoom}
+use Rattle.refusals.specs.Refusals.{numberOf, placeOf, Check, check, Passed, Failed}
+use Rattle.refusals.proofs.Orders.{itself}
+use Rattle.ending.specs.Replies.{replayChecks}
 use Rattle.reader.specs.Reading.{got, refused}
 use Rattle.reader.specs.declared.CaseRead.{CaseRead}
 use Rattle.reader.specs.declared.ReadAnswer.the-variants as read
-use Rattle.steptext.specs.Steps.{readSteps, stepsOf, withRoom, leaves, StepsReadReply}
+use Rattle.steptext.specs.Steps.{readSteps, stepsOf}
+use Rattle.taking.specs.Taking.{withRoom, leaves, StepsReadReply}
 use Rattle.steptext.specs.declared.StepsRead.{StepsRead}
 use Rattle.steptext.specs.declared.StepsRead.the-variants.{Steps, Refused}
 use Rattle.steptext.proofs.Found.{steps-count}

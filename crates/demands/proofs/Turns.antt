@@ -10,9 +10,9 @@ use Rattle.step.specs.declared.Step.{Step}
 use Rattle.busset.specs.Sets.{empty, add}
 use Rattle.rules.specs.Weaving.{woven}
 use Rattle.grid.specs.declared.Case.{Case}
-use Rattle.grid.specs.Refusals.{Check, check}
+use Rattle.refusals.specs.Refusals.{Check, check}
 use Rattle.following.specs.Following.{checksFrom}
-use Rattle.following.specs.Replies.{replayChecks, weaveChecks}
+use Rattle.ending.specs.Replies.{replayChecks, weaveChecks}
 use Rattle.following.specs.declared.Task.{Task}
 use Rattle.following.specs.declared.Task.the-variants.{Replay, Weave}
 use Rattle.demands.specs.Order.{turn, Precedes, InOrder}

@@ -7,7 +7,7 @@ use Rattle.step.specs.declared.Step.{Step}
 use Rattle.rules.proofs.Leasts.{least-unique}
 use Rattle.grid.specs.declared.Case.{Case}
 use Rattle.grid.specs.Cases.{gridOf}
-use Rattle.grid.proofs.Orders.{failed-unique, failed-or-passed}
+use Rattle.refusals.proofs.Orders.{failed-unique, failed-or-passed}
 use Rattle.observing.specs.declared.Observed.{Observed}
 use Rattle.observing.specs.declared.Observed.the-variants as observed
 use Rattle.observing.specs.declared.Figured.{Figured}

@@ -3,16 +3,16 @@ use mathlib.Core.Path.{_≡_}
 use mathlib.Core.List.{List, []}
 use mathlib.Core.Logic.{_⊎_}
 use Prim.Native.Nat.{ℕ, _+_, _*_, _≤_, _<_}
-use Rattle.grid.specs.Refusals.{numberOf, placeOf, Is, Check, Passed, Failed}
+use Rattle.refusals.specs.Refusals.{numberOf, placeOf, Is, Check, Passed, Failed}
 use Rattle.grid.specs.declared.Case.{Case}
-use Rattle.grid.specs.declared.refusal.Refusal.{Refusal}
+use Rattle.refusals.specs.declared.Refusal.{Refusal}
 use Rattle.grid.specs.Cases.{gridOf}
 use Rattle.rules.specs.Placing.{Fewest}
 use Rattle.planreport.specs.Plan.{PlanText}
-use Rattle.following.specs.Lists.{listOf}
+use Rattle.steplist.specs.Lists.{listOf}
 use Rattle.textreplay.specs.declared.TextReplayed.{TextReplayed}
 use Rattle.textreplay.specs.declared.TextReplayed.the-variants as told
-use Rattle.writer.specs.Printing.{RefusedText}
+use Rattle.printer.specs.Printing.{RefusedText}
 use Rattle.deriving.specs.declared.DerivationAnswer.the-variants as derived
 use Rattle.deriving.specs.declared.Derived.{Derived}
 use Rattle.demands.specs.Order.{InOrder, FirstFails}

@@ -12,7 +12,7 @@ use Rattle.siting.proofs.place_fewest.Statement as place-fewest
 use Rattle.texts.proofs.read_case.Statement as read-case
 use Rattle.texts.proofs.write_case.Statement as write-case
 use Rattle.texts.proofs.check_steps.Statement as check-steps
-use Rattle.desks.proofs.texts.read_steps.Statement as read-steps
+use Rattle.stepreader.proofs.read_steps.Statement as read-steps
 use Rattle.textreplay.proofs.replay_text.Statement as replay-text
 use Rattle.dayreport.proofs.day_report.Statement as day-report
 use Rattle.planreport.proofs.plan_report.Statement as plan-report

@@ -5,23 +5,24 @@ use Prim.Native.Nat.{ℕ}
 use lib.ListN.{length}
 use Rattle.step.specs.declared.Step.{Step}
 use Rattle.grid.specs.declared.Case.{Case}
-use Rattle.following.specs.Replies.{replayChecks, ReplayReply, weaveChecks, WeaveReply}
-use Rattle.following.specs.declared.Replayed.{Replayed}
-use Rattle.following.specs.declared.Replayed.the-variants as replayed
-use Rattle.following.specs.declared.Wove.{Wove}
-use Rattle.following.specs.declared.Wove.the-variants as wove
+use Rattle.ending.specs.Replies.{replayChecks, ReplayReply, weaveChecks, WeaveReply}
+use Rattle.ending.specs.declared.Replayed.{Replayed}
+use Rattle.ending.specs.declared.Replayed.the-variants as replayed
+use Rattle.ending.specs.declared.Wove.{Wove}
+use Rattle.ending.specs.declared.Wove.the-variants as wove
 use Rattle.reader.specs.Reading.{refused, readCase}
 use Rattle.reader.specs.declared.CaseRead.{CaseRead}
-use Rattle.steptext.specs.Steps.{StepsReadReply}
+use Rattle.taking.specs.Taking.{StepsReadReply}
 use Rattle.steptext.specs.declared.StepsRead.{StepsRead}
 use Rattle.steptext.specs.declared.StepsRead.the-variants as steps
 use Rattle.textreplay.specs.Replying.{TextReplayReply}
 use Rattle.textreplay.specs.declared.TextReplayed.{TextReplayed}
-use Rattle.writer.specs.Printing.{PrintedReply}
-use Rattle.writer.specs.declared.Written.{Written}
-use Rattle.writer.specs.declared.Written.the-variants as written
+use Rattle.printer.specs.Printing.{PrintedReply}
+use Rattle.putting.specs.declared.Written.{Written}
+use Rattle.putting.specs.declared.Written.the-variants as written
 use Rattle.dayreport.specs.Day.{DayReport, Day}
-use Rattle.planreport.specs.Plan.{readPlan, planChecks, Plan}
+use Rattle.planinput.specs.Asking.{readPlan}
+use Rattle.planreport.specs.Plan.{planChecks, Plan}
 use Rattle.observing.specs.declared.Observed.{Observed}
 use Rattle.observing.specs.declared.Observed.the-variants as observed
 use Rattle.observing.specs.declared.Figured.{Figured}
@@ -40,7 +41,7 @@ use Rattle.deriving.specs.Replies.{derivationChecks, DerivationReply}
 use Rattle.siting.specs.Replies.{verdictChecks, VerdictReply, greedyChecks, GreedyReply, fewestChecks, FewestReply}
 use Rattle.texts.specs.Replies.{CaseReadReply, writeChecks, CaseWrittenReply, StepsCheckedReply}
 use Rattle.estimator.specs.Answers.{ObservedFor, UnconfirmedFor, FewestFor, ReplayFor, OfText}
-use Rattle.estimator.specs.Results.{Answered}
+use Rattle.results.specs.Results.{Answered}
 use Rattle.demands.specs.TextChecks.{caseChecks, stepTextChecks, stepsReadChecks, textReplayChecks, estimatorChecks, inputChecks, printChecks}
 use Rattle.demands.specs.ByTable.{noDerivation, Refuses, TextRefuses, Coded, ByTable, NothingLent, PrintedByTable, FewestPrinted}
 use Rattle.demands.specs.Calls.{EveryCall}

@@ -11,14 +11,14 @@ use Rattle.rules.specs.Observation.{Least}
 use Rattle.rules.specs.Steps.{Accepted}
 use Rattle.rules.specs.Placing as placing
 use Rattle.grid.specs.declared.Case.{Case}
-use Rattle.grid.specs.declared.refusal.Refusal.{Refusal}
+use Rattle.refusals.specs.declared.Refusal.{Refusal}
 use Rattle.grid.specs.Cases.{mostSteps, gridOf}
-use Rattle.grid.specs.Refusals.{Is}
-use Rattle.following.specs.Replies.{ReplayReply}
-use Rattle.following.specs.declared.Replayed.{Replayed}
-use Rattle.following.specs.declared.Replayed.the-variants as replayed
+use Rattle.refusals.specs.Refusals.{Is}
+use Rattle.ending.specs.Replies.{ReplayReply}
+use Rattle.ending.specs.declared.Replayed.{Replayed}
+use Rattle.ending.specs.declared.Replayed.the-variants as replayed
 use Rattle.reader.specs.Reading.{got}
-use Rattle.writer.specs.declared.Written.the-variants as written
+use Rattle.putting.specs.declared.Written.the-variants as written
 use Rattle.observing.specs.declared.Observed.{Observed}
 use Rattle.observing.specs.declared.Observed.the-variants as observed
 use Rattle.siting.specs.declared.Fewest.{Fewest}

@@ -10,8 +10,8 @@ use Rattle.rules.specs.Steps.{reached, Accepted, Finished}
 use Rattle.rules.specs.Weaving.{woven, Some}
 use Rattle.grid.specs.declared.Case.{Case}
 use Rattle.grid.specs.Cases.{gridOf}
-use Rattle.following.specs.declared.Wove.{Wove}
-use Rattle.following.specs.declared.Wove.the-variants as wove
+use Rattle.ending.specs.declared.Wove.{Wove}
+use Rattle.ending.specs.declared.Wove.the-variants as wove
 
 -- what weaving answers and writes for a shuffle of the desks' lists
 pub record Demand3 (c : Case) (desks : List (List Step)) (received before after : List Step) (r : Wove) : Type 0 where

@@ -4,16 +4,16 @@ use mathlib.Core.List.{List}
 use Prim.Native.Nat.{ℕ}
 use Rattle.step.specs.declared.Step.{Step}
 use Rattle.grid.specs.declared.Case.{Case}
-use Rattle.following.specs.Replies.{ReplayReply, WeaveReply}
-use Rattle.following.specs.declared.Replayed.{Replayed}
-use Rattle.following.specs.declared.Wove.{Wove}
+use Rattle.ending.specs.Replies.{ReplayReply, WeaveReply}
+use Rattle.ending.specs.declared.Replayed.{Replayed}
+use Rattle.ending.specs.declared.Wove.{Wove}
 use Rattle.reader.specs.declared.CaseRead.{CaseRead}
-use Rattle.steptext.specs.Steps.{StepsReadReply}
+use Rattle.taking.specs.Taking.{StepsReadReply}
 use Rattle.steptext.specs.declared.StepsRead.{StepsRead}
 use Rattle.textreplay.specs.Replying.{TextReplayReply}
 use Rattle.textreplay.specs.declared.TextReplayed.{TextReplayed}
-use Rattle.writer.specs.Printing.{PrintedReply}
-use Rattle.writer.specs.declared.Written.{Written}
+use Rattle.printer.specs.Printing.{PrintedReply}
+use Rattle.putting.specs.declared.Written.{Written}
 use Rattle.dayreport.specs.Day.{Day}
 use Rattle.planreport.specs.Plan.{Plan}
 use Rattle.observing.specs.declared.Observed.{Observed}
@@ -28,7 +28,7 @@ use Rattle.deriving.specs.Replies.{DerivationReply}
 use Rattle.siting.specs.Replies.{VerdictReply, GreedyReply, FewestReply}
 use Rattle.texts.specs.Replies.{CaseReadReply, CaseWrittenReply, StepsCheckedReply}
 use Rattle.estimator.specs.Answers.{ObservedFor, UnconfirmedFor, FewestFor, ReplayFor, OfText}
-use Rattle.estimator.specs.Results.{Answered}
+use Rattle.results.specs.Results.{Answered}
 
 -- P allows one reply
 abbrev pub One : {R : Type 0} → (R → Type 0) → Type 0

@@ -5,7 +5,7 @@ use mathlib.Core.List.{List, [], _∷_}
 use mathlib.Core.Logic.{_⊎_}
 use Prim.Native.Nat.{ℕ, zero, suc, _<_}
 use lib.Dec.{eqb}
-use Rattle.grid.specs.Refusals.{Check}
+use Rattle.refusals.specs.Refusals.{Check}
 
 -- ---- turns
 

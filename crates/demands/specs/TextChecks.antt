@@ -8,19 +8,21 @@ use Rattle.field.specs.Split.{split, lineFeed}
 use Rattle.field.specs.declared.Numeral.{Numeral}
 use Rattle.field.specs.declared.Numeral.the-variants as numeral
 use Rattle.record.specs.Record.{recordOf}
-use Rattle.record.specs.StepLine.{stepLineOf}
+use Rattle.stepline.specs.StepLine.{stepLineOf}
 use Rattle.record.specs.declared.Record.{Record}
 use Rattle.record.specs.declared.Record.the-variants.{Grid, Bus, Line, Pmu, End, Wrong}
-use Rattle.record.specs.declared.steps.StepLine.{StepLine}
-use Rattle.record.specs.declared.steps.StepLine.the-variants as line
+use Rattle.stepline.specs.declared.StepLine.{StepLine}
+use Rattle.stepline.specs.declared.StepLine.the-variants as line
 use Rattle.grid.specs.declared.Case.{Case}
 use Rattle.grid.specs.Cases.{mostSteps}
-use Rattle.grid.specs.Refusals.{Check, check}
+use Rattle.refusals.specs.Refusals.{Check, check}
 use Rattle.judging.specs.Judging.{inPlace, inRange, inOrder}
-use Rattle.reader.specs.Reading.{mostBytes, Reader, start, next, readCase}
-use Rattle.following.specs.Replies.{replayChecks}
-use Rattle.steptext.specs.Steps.{mostStepBytes, stepInRange, stepsOf}
-use Rattle.planreport.specs.Plan.{budgetOf}
+use Rattle.grid.specs.Cases.{mostBytes}
+use Rattle.reader.specs.Reading.{Reader, start, next, readCase}
+use Rattle.ending.specs.Replies.{replayChecks}
+use Rattle.grid.specs.Cases.{mostStepBytes}
+use Rattle.steptext.specs.Steps.{stepInRange, stepsOf}
+use Rattle.planinput.specs.Asking.{budgetOf}
 
 -- nothing follows `end`
 abbrev pub NothingFollows : List ℕ → List (List ℕ) → Type 0

@@ -13,10 +13,10 @@ use Rattle.rules.specs.Grids.{Grid, Proper}
 use Rattle.rules.specs.Steps.{Finished}
 use Rattle.rules.specs.Derivation.{NextIs, DerivedFrom, finished, next, Derivation}
 use Rattle.rules.proofs.Reasons.{allowed-bus}
-use Rattle.following.specs.Lists.{listOf, Pushed}
+use Rattle.steplist.specs.Lists.{listOf, Pushed}
 use Rattle.deriving.specs.Deriving.{Derives}
-use Rattle.following.specs.declared.lists.StepList.{StepList}
-use Rattle.following.proofs.Listing.{pushed-list}
+use Rattle.steplist.specs.declared.StepList.{StepList}
+use Rattle.steplist.proofs.Listing.{pushed-list}
 
 -- the list so far reaches s, and whatever derives the rest from there derives the whole
 pub record Extends (g : Grid) (s : ℕ) (l : StepList) : Type 0 where

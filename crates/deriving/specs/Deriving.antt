@@ -4,8 +4,8 @@ use mathlib.Core.List.{List}
 use Rattle.step.specs.declared.Step.{Step}
 use Rattle.rules.specs.Grids.{Grid}
 use Rattle.rules.specs.Derivation.{Derivation}
-use Rattle.following.specs.Lists.{listOf}
-use Rattle.following.specs.declared.lists.StepList.{StepList}
+use Rattle.steplist.specs.Lists.{listOf}
+use Rattle.steplist.specs.declared.StepList.{StepList}
 
 -- r is the derivation of the grid
 pub record Derives (g : Grid) (r : StepList) : Type 0 where

@@ -1,12 +1,12 @@
--- What the derivation promises. The promises of replay and weaving stand beside their functions (crate following, specs/Replies.antt).
+-- What the derivation promises. The promises of replay and weaving stand beside their functions (crate ending, specs/Replies.antt).
 use mathlib.Core.Path.{_≡_}
 use mathlib.Core.List.{List, [], _∷_}
 use Rattle.grid.specs.declared.Case.{Case}
 use Rattle.grid.specs.Cases.{gridOf, Valid}
-use Rattle.grid.specs.Refusals.{Check, check, Passed, Failed}
-use Rattle.following.specs.Lists.{listOf}
+use Rattle.refusals.specs.Refusals.{Check, check, Passed, Failed}
+use Rattle.steplist.specs.Lists.{listOf}
 use Rattle.deriving.specs.Deriving.{Derives}
-use Rattle.following.specs.declared.lists.StepList.{StepList}
+use Rattle.steplist.specs.declared.StepList.{StepList}
 use Rattle.deriving.specs.declared.DerivationAnswer.{DerivationAnswer}
 use Rattle.deriving.specs.declared.DerivationAnswer.the-variants.{Found, Refused}
 use Rattle.deriving.specs.declared.Derived.{Derived}

@@ -5,13 +5,13 @@ ghost use Rattle.deriving.specs.Replies.{DerivationReply};
 
 pub mod searching;
 
-use following::lists::StepList;
-use following::lists::no_steps;
-use following::lists::push;
 use grid::Case;
-use grid::Refusal;
+use refusals::Refusal;
 use searching::Next;
 use searching::next_step;
+use steplist::StepList;
+use steplist::no_steps;
+use steplist::push;
 
 pub enum DerivationAnswer {
     Found,

@@ -40,7 +40,7 @@ use Rattle.following.proofs.Task.Laws as K′
 use Rattle.following.proofs.begin as begin
 use Rattle.following.proofs.begin.Symbol.{name as #following·begin}
 use Rattle.desks.proofs.Rows.{case-made, following-made, task-made, task-is}
-use Rattle.desks.proofs.Calling.{calls-lent, calls-plain}
+use Rattle.walking.proofs.Calling.{calls-lent, calls-plain}
 use Rattle.desks.proofs.follow as follow
 use Rattle.desks.proofs.follow.Symbol.{name as #desks·follow}
 

@@ -11,32 +11,23 @@ use denote.Struct.Laws as LL
 use denote.Enum.Laws as EL
 use Rattle.grid.specs.declared.Case.{Case}
 use Rattle.following.specs.declared.Following.{Following}
-use Rattle.step.specs.declared.Step.{Step}
-use Rattle.following.specs.declared.lists.StepList.{StepList}
+use Rattle.steplist.specs.declared.StepList.{StepList}
 use Rattle.following.specs.declared.Task.{Task}
 use Rattle.following.specs.declared.Task.the-variants.{Replay, Weave}
-use Rattle.following.specs.declared.Wove.{Wove}
-use Rattle.following.specs.declared.Replayed.{Replayed}
-use Rattle.steptext.specs.declared.StepsRead.{StepsRead}
-use Rattle.steptext.specs.declared.Taken.{Taken}
+use Rattle.ending.specs.declared.Wove.{Wove}
+use Rattle.ending.specs.declared.Replayed.{Replayed}
 use Rattle.grid.proofs.Case as case
 use Rattle.grid.proofs.Case.Laws as case′
 use Rattle.following.proofs.Following as following
 use Rattle.following.proofs.Following.Laws as following′
-use Rattle.step.proofs.Step as step
-use Rattle.step.proofs.Step.Laws as step′
-use Rattle.following.proofs.lists.StepList as list
-use Rattle.following.proofs.lists.StepList.Laws as list′
+use Rattle.steplist.proofs.StepList as list
+use Rattle.steplist.proofs.StepList.Laws as list′
 use Rattle.following.proofs.Task as task
 use Rattle.following.proofs.Task.Laws as task′
-use Rattle.following.proofs.Wove as wove
-use Rattle.following.proofs.Wove.Laws as wove′
-use Rattle.following.proofs.Replayed as replayed
-use Rattle.following.proofs.Replayed.Laws as replayed′
-use Rattle.steptext.proofs.StepsRead as steps-read
-use Rattle.steptext.proofs.StepsRead.Laws as steps-read′
-use Rattle.steptext.proofs.Taken as taken
-use Rattle.steptext.proofs.Taken.Laws as taken′
+use Rattle.ending.proofs.Wove as wove
+use Rattle.ending.proofs.Wove.Laws as wove′
+use Rattle.ending.proofs.Replayed as replayed
+use Rattle.ending.proofs.Replayed.Laws as replayed′
 
 -- a task's fact
 pub task-is : (k : Task) → Is task.the-row k (EL.vals task.the-type task′.the-laws k)
@@ -50,9 +41,6 @@ module _ {M : Type 1} (𝓤 : URA M) (H : Heap 𝓤) (A : Atoms 𝓤) where
   pub following-made : Makes 𝓤 H A following.the-row (Is following.the-row)
   following-made = LL.makes following.the-type following′.the-plain 𝓤 H A
 
-  pub step-made : Makes 𝓤 H A step.the-row (Is step.the-row)
-  step-made = LL.makes step.the-type step′.the-plain 𝓤 H A
-
   pub list-made : Makes 𝓤 H A list.the-row (Is list.the-row)
   list-made = LL.makes list.the-type list′.the-plain 𝓤 H A
 
@@ -65,18 +53,12 @@ module _ {M : Type 1} (𝓤 : URA M) (H : Heap 𝓤) (A : Atoms 𝓤) where
   pub replayed-made : Makes 𝓤 H A replayed.the-row (Is replayed.the-row)
   replayed-made = EL.makes replayed.the-type replayed′.the-plain 𝓤 H A
 
-  pub steps-read-made : Makes 𝓤 H A steps-read.the-row (Is steps-read.the-row)
-  steps-read-made = EL.makes steps-read.the-type steps-read′.the-plain 𝓤 H A
-
   module _ (W : Given 𝓤 H A) where
     pub case-typed : (x : Case) (v : Val) → Is case.the-row x (v ∷ []) → T (hasTy case′.mir v) × WT v
     case-typed x v is = LL.lawful case.the-type case′.the-laws 𝓤 H A W .typed x (v ∷ []) is .0
 
     pub following-typed : (x : Following) (v : Val) → Is following.the-row x (v ∷ []) → T (hasTy following′.mir v) × WT v
     following-typed x v is = LL.lawful following.the-type following′.the-laws 𝓤 H A W .typed x (v ∷ []) is .0
-
-    pub step-typed : (x : Step) (v : Val) → Is step.the-row x (v ∷ []) → T (hasTy step′.mir v) × WT v
-    step-typed x v is = LL.lawful step.the-type step′.the-laws 𝓤 H A W .typed x (v ∷ []) is .0
 
     pub list-typed : (x : StepList) (v : Val) → Is list.the-row x (v ∷ []) → T (hasTy list′.mir v) × WT v
     list-typed x v is = LL.lawful list.the-type list′.the-laws 𝓤 H A W .typed x (v ∷ []) is .0
@@ -89,9 +71,3 @@ module _ {M : Type 1} (𝓤 : URA M) (H : Heap 𝓤) (A : Atoms 𝓤) where
 
     pub replayed-typed : (x : Replayed) (v : Val) → Is replayed.the-row x (v ∷ []) → T (hasTy replayed′.mir v) × WT v
     replayed-typed x v is = EL.lawful replayed.the-type replayed′.the-laws 𝓤 H A W tt .typed x (v ∷ []) is .0
-
-    pub steps-read-typed : (x : StepsRead) (v : Val) → Is steps-read.the-row x (v ∷ []) → T (hasTy steps-read′.mir v) × WT v
-    steps-read-typed x v is = EL.lawful steps-read.the-type steps-read′.the-laws 𝓤 H A W tt .typed x (v ∷ []) is .0
-
-    pub taken-typed : (x : Taken) (v : Val) → Is taken.the-row x (v ∷ []) → T (hasTy taken′.mir v) × WT v
-    taken-typed x v is = LL.lawful taken.the-type taken′.the-laws 𝓤 H A W .typed x (v ∷ []) is .0

@@ -1,21 +1,18 @@
 // Replay and weaving over lent records.
 ghost use Rattle.following.specs.Following.{Follows};
-ghost use Rattle.following.specs.Replies.{ReplayReply, WeaveReply, Put};
-
-pub mod texts;
-
+ghost use Rattle.ending.specs.Replies.{ReplayReply, WeaveReply, Put};
+use ending::Replayed;
+use ending::Wove;
+use ending::count_of;
+use ending::ended;
+use ending::settled;
 use following::Following;
-use following::Replayed;
 use following::Task;
-use following::Wove;
 use following::apply;
 use following::begin;
-use following::count_of;
-use following::ended;
-use following::lists::nth;
-use following::settled;
 use grid::Case;
 use step::Step;
+use steplist::nth;
 
 // Follows the steps in their order.
 pub fn follow(case: Case, from: Following, steps: &[Step]) -> Following

@@ -1,13 +1,12 @@
 -- The place of every refusal is small enough for the result.
 use mathlib.Core.Path.{_≡_, refl, subst⁻¹}
 use mathlib.Core.List.{List}
-use Prim.Native.Nat.{ℕ, _+_, _*_, _≤_}
+use Prim.Native.Nat.{ℕ, _≤_}
 use native.Mathlib.Omega.{arith}
 use Rattle.grid.specs.declared.Case.{Case}
-use Rattle.grid.specs.declared.refusal.Refusal.{Refusal}
-use Rattle.grid.specs.Refusals.{placeOf}
-use Rattle.grid.proofs.Orders.{number-most, failed-place}
-use Rattle.following.proofs.Refusing.{replay-place}
+use Rattle.refusals.specs.Refusals.{placeOf}
+use Rattle.refusals.proofs.Orders.{failed-place}
+use Rattle.ending.proofs.Refusing.{replay-place}
 use Rattle.reader.specs.Reading.{readCase}
 use Rattle.reader.specs.declared.ReadAnswer.{ReadAnswer}
 use Rattle.reader.specs.declared.ReadAnswer.the-variants as read
@@ -28,12 +27,8 @@ use Rattle.siting.specs.declared.Verdict.the-variants as verdict
 use Rattle.siting.specs.declared.Fewest.{Fewest}
 use Rattle.siting.specs.declared.Fewest.the-variants as fewest
 use Rattle.estimator.specs.Answers.{ofObserved, ofVerdict, ofFewest, ofReplay, Said, ObservedFor, UnconfirmedFor, FewestFor, ReplayFor, OfRead, OfText}
-use Rattle.estimator.specs.Results.{farthest, Placed, codeOf}
-use Rattle.estimator.specs.declared.answers.Answer.{Answer}
-
--- so a refusal's code is small
-pub code-small : (q : Refusal) → placeOf q ≤ farthest → codeOf q ≤ 100 * farthest + 13
-code-small q h = omega (arith, number-most q)
+use Rattle.results.specs.Results.{farthest, Placed}
+use Rattle.results.specs.declared.Answer.{Answer}
 
 -- ---- of a case
 

@@ -1,3 +1,2 @@
 pub mod Bounds
-pub mod Filling
-pub mod Replying
+pub mod Reading

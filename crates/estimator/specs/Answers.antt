@@ -17,8 +17,8 @@ use Rattle.siting.specs.declared.Verdict.{Verdict}
 use Rattle.siting.specs.declared.Verdict.the-variants as verdict
 use Rattle.siting.specs.declared.Fewest.{Fewest}
 use Rattle.siting.specs.declared.Fewest.the-variants as fewest
-use Rattle.estimator.specs.declared.answers.Answer.{Answer}
-use Rattle.estimator.specs.declared.answers.Answer.the-variants.{Set, Refused, Unread}
+use Rattle.results.specs.declared.Answer.{Answer}
+use Rattle.results.specs.declared.Answer.the-variants.{Set, Refused, Unread}
 
 -- ---- what is answered of a call's reply
 

@@ -1,21 +1,13 @@
 // What each question comes to. The case text is read first.
 ghost use mathlib.Core.Path.{_≡_};
 ghost use Rattle.estimator.specs.Answers.{ofObserved, ofVerdict, ofFewest, ofReplay, OfText, ObservedFor, UnconfirmedFor, FewestFor, ReplayFor};
-use wozgrzyt::BusSet;
+use results::Answer;
 use wozgrzyt::Fewest;
 use wozgrzyt::Observed;
 use wozgrzyt::ReadAnswer;
-use wozgrzyt::Refusal;
 use wozgrzyt::TextReplayed;
 use wozgrzyt::Verdict;
 use wozgrzyt::read_case;
-
-// A set, a refusal, or a refusal in reading the step text.
-pub enum Answer {
-    Set(BusSet),
-    Refused(Refusal),
-    Unread(Refusal),
-}
 
 fn of_observed(r: Observed) -> Answer
     ensures { λ a. ⌜ a ≡ ofObserved r ⌝ }

@@ -1,9 +1,8 @@
 // The state estimator's functions, for C. Each is given the case as its text and fills the set into the first eight bytes lent.
 ghost use Rattle.estimator.specs.Answers.{OfText, ObservedFor, UnconfirmedFor, FewestFor, ReplayFor};
-ghost use Rattle.estimator.specs.Results.{Answered};
+ghost use Rattle.results.specs.Results.{Answered};
 
 mod answers;
-mod results;
 
 use results::reply;
 

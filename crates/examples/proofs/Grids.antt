@@ -8,13 +8,13 @@ use lib.Count.{ones, onesIn}
 use Rattle.busset.specs.Sets.{setOf, upTo}
 use Rattle.rules.specs.Grids.{total}
 use Rattle.rules.proofs.Tests.{gap}
-use Rattle.grid.specs.declared.refusal.Refusal.{Refusal}
-use Rattle.grid.specs.declared.refusal.Refusal.the-variants.{InvalidCase, OverBudget}
+use Rattle.refusals.specs.declared.Refusal.{Refusal}
+use Rattle.refusals.specs.declared.Refusal.the-variants.{InvalidCase, OverBudget}
 use Rattle.grid.specs.Cases.{neighbours, Lines}
-use Rattle.grid.specs.Refusals.{Check, check, Failed}
-use Rattle.grid.proofs.Orders.{itself, failed-unique, failed-or-passed}
+use Rattle.refusals.specs.Refusals.{Check, check, Failed}
+use Rattle.refusals.proofs.Orders.{itself, failed-unique, failed-or-passed}
 use Rattle.grid.proofs.Drawn.{withinTest, rowTest, validTest, valid-passes}
-use Rattle.estimator.specs.Results.{codeOf}
+use Rattle.results.specs.Results.{codeOf}
 use Rattle.starred.specs.Table.{caseOf, seven, path}
 use Rattle.examples.proofs.Rows.{_&_}
 use Rattle.examples.specs.Tables.{AllRight}

@@ -4,7 +4,7 @@ use mathlib.Core.List.{[], _∷_}
 use mathlib.Core.Logic.{inl, inr}
 use native.Mathlib.Omega.{arith}
 use lib.Dec.{lit<}
-use Rattle.grid.specs.Refusals.{Check, check}
+use Rattle.refusals.specs.Refusals.{Check, check}
 use Rattle.demands.specs.Order.{Precedes, FirstFails}
 use Rattle.examples.proofs.Rows.{_&_}
 use Rattle.examples.specs.Tables.{AllRight}

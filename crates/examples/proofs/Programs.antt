@@ -15,14 +15,14 @@ use Rattle.field.specs.Split.{split, join, same, bytes}
 use Rattle.field.specs.Number.{isDigit, takes, numberFrom, numberOf, digits}
 use Rattle.record.specs.Fields.{markOf, one, none}
 use Rattle.record.specs.Record.{wordOf, lineFields, busFields, recordOf, recordText}
-use Rattle.record.specs.StepLine.{letterOf, stepWordOf, reasonFields, stepFields, stepLineOf, stepText}
+use Rattle.stepline.specs.StepLine.{letterOf, stepWordOf, reasonFields, stepFields, stepLineOf, stepText}
 use Rattle.rules.proofs.Ordering.{fewest-some}
-use Rattle.grid.specs.declared.refusal.Refusal.the-variants.{WrongForm, OutOfRange, ReasonFails, OverBudget, NoCover}
-use Rattle.grid.proofs.Orders.{itself}
+use Rattle.refusals.specs.declared.Refusal.the-variants.{WrongForm, OutOfRange, ReasonFails, OverBudget, NoCover}
+use Rattle.refusals.proofs.Orders.{itself}
 use Rattle.reader.specs.Writing.{members, linesText}
 use Rattle.judging.specs.Judging.{isBus, isAfter, pastBuses, verdict}
 use Rattle.reader.specs.Reading.{readLines, readText, readCase}
-use Rattle.writer.specs.Printing.{refusedText}
+use Rattle.printer.specs.Printing.{refusedText}
 use Rattle.dayreport.specs.Day.{Day, stepsText}
 use Rattle.dayreport.proofs.Days.{day-unique}
 use Rattle.steptext.specs.Steps.{stepInRange, stepLines, readSteps, stepsIn, stepsFrom}
@@ -31,10 +31,11 @@ use Rattle.observing.specs.declared.Observed.the-variants as observed
 use Rattle.siting.specs.declared.Verdict.the-variants as unconfirmed
 use Rattle.siting.specs.declared.Fewest.the-variants as fewest
 use Rattle.estimator.specs.Answers.{Said}
-use Rattle.estimator.specs.Results.{resultOf, leftBy, Answered}
-use Rattle.estimator.specs.declared.answers.Answer.{Answer}
-use Rattle.estimator.specs.declared.answers.Answer.the-variants.{Set, Refused, Unread}
-use Rattle.planreport.specs.Plan.{Plan, found, none as no-plan, planFields, budgetOf, planLines, readPlan}
+use Rattle.results.specs.Results.{resultOf, leftBy, Answered}
+use Rattle.results.specs.declared.Answer.{Answer}
+use Rattle.results.specs.declared.Answer.the-variants.{Set, Refused, Unread}
+use Rattle.planreport.specs.Plan.{Plan, found, none as no-plan}
+use Rattle.planinput.specs.Asking.{planFields, budgetOf, planLines, readPlan}
 use Rattle.planreport.proofs.Unique.{plan-unique}
 use Rattle.examples.proofs.Rows.{_&_, _then_, stop}
 use Rattle.examples.proofs.Computed.{known}

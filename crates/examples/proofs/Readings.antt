@@ -12,17 +12,17 @@ use Rattle.field.specs.Split.{split, join, same, lineFeed}
 use Rattle.field.specs.Number.{isDigit, takes, numberFrom, numberOf, digits}
 use Rattle.record.specs.Fields.{markOf, one, none}
 use Rattle.record.specs.Record.{wordOf, lineFields, busFields, recordOf, recordText}
-use Rattle.record.specs.StepLine.{letterOf, stepWordOf, reasonFields, stepFields, stepLineOf, stepText}
+use Rattle.stepline.specs.StepLine.{letterOf, stepWordOf, reasonFields, stepFields, stepLineOf, stepText}
 use Rattle.grid.specs.Cases.{neighbours}
 use Rattle.inverse.proofs.Grammars.{reads-read, not-got, read-reads}
 use Rattle.judging.specs.Judging.{isBus, isAfter, pastBuses, verdict}
 use Rattle.reader.specs.Reading.{start, readLines, readText, readCase}
 use Rattle.reader.specs.Writing.{busRecords, members, lineRecords, linesText}
 use Rattle.steptext.specs.Steps.{stepInRange, stepLines, readSteps, stepsIn, stepsFrom}
-use Rattle.writer.specs.Put.{lineText}
-use Rattle.writer.specs.Printing.{refusedText}
+use Rattle.writer.specs.Lines.{lineText}
+use Rattle.printer.specs.Printing.{refusedText}
 use Rattle.dayreport.specs.Day.{stepsText}
-use Rattle.planreport.specs.Plan.{planFields, budgetOf, planLines, readPlan}
+use Rattle.planinput.specs.Asking.{planFields, budgetOf, planLines, readPlan}
 use Rattle.examples.proofs.Rows.{_&_}
 use Rattle.examples.specs.Tables.{AllRight, block}
 use Rattle.examples.specs.CaseTexts as case

@@ -25,18 +25,19 @@ use Rattle.rules.proofs.Ordering.{fewest-some}
 use Rattle.rules.proofs.Reasons.{allowed-names}
 use Rattle.rules.proofs.Tests.{gap}
 use Rattle.grid.specs.declared.Case.{Case}
-use Rattle.grid.specs.declared.refusal.Refusal.the-variants.{InvalidCase, NoSuchBus, ReasonFails, OverBudget, NoCover}
+use Rattle.refusals.specs.declared.Refusal.the-variants.{InvalidCase, NoSuchBus, ReasonFails, OverBudget, NoCover}
 use Rattle.grid.specs.Cases.{neighbours, gridOf, Valid}
-use Rattle.grid.specs.Refusals.{Passed, Failed, numberOf}
-use Rattle.grid.proofs.Orders.{itself, failed-or-passed, failed-unique}
+use Rattle.refusals.specs.Refusals.{Passed, Failed, numberOf}
+use Rattle.refusals.proofs.Orders.{itself, failed-or-passed, failed-unique}
 use Rattle.grid.proofs.Drawn.{withinTest, rowTest, validTest, valid-passes}
 use Rattle.record.specs.Fields.{none}
-use Rattle.record.specs.StepLine.{stepWordOf, stepLineOf}
-use Rattle.steptext.specs.Steps.{countOf, stepLines, readSteps}
+use Rattle.stepline.specs.StepLine.{stepWordOf, stepLineOf}
+use Rattle.taking.specs.Taking.{countOf}
+use Rattle.steptext.specs.Steps.{stepLines, readSteps}
 use Rattle.reader.specs.Reading.{readLines, readText, readCase}
 use Rattle.reader.specs.Writing.{busRecords, members, lineRecords, linesText}
 use Rattle.following.specs.Following.{checksFrom}
-use Rattle.following.specs.Replies.{replayChecks}
+use Rattle.ending.specs.Replies.{replayChecks}
 use Rattle.following.specs.declared.Task.the-variants.{Replay}
 use Rattle.observing.specs.Replies.{observedChecks}
 use Rattle.siting.specs.Replies.{fewestChecks}

@@ -1,8 +1,8 @@
 -- The proofs of a table's rows, one after another; and of checks, where one fails.
 use mathlib.Core.Logic.{_⊎_, inl, inr}
 use Prim.Native.Nat.{ℕ}
-use Rattle.grid.specs.declared.refusal.Refusal.{Refusal}
-use Rattle.grid.specs.Refusals.{Is}
+use Rattle.refusals.specs.declared.Refusal.{Refusal}
+use Rattle.refusals.specs.Refusals.{Is}
 
 infixr 3 _&_
 abbrev pub _&_ : {A B : Type 0} → A → B → A × B

@@ -16,7 +16,7 @@ use Rattle.rules.proofs.Lists.{closed-finished}
 use Rattle.rules.proofs.Derivations.{derived-unique, derived-accepted}
 use Rattle.rules.proofs.Tests.{gap, given, subTest, holdsTest}
 use Rattle.grid.specs.Cases.{neighbours}
-use Rattle.following.specs.declared.lists.StepList.{StepList}
+use Rattle.steplist.specs.declared.StepList.{StepList}
 use Rattle.examples.proofs.Rows.{_&_}
 use Rattle.examples.proofs.Computed.{known}
 use Rattle.examples.proofs.Deriving.{reasonTest, allowedTest, allowed-passes, noUnit, noZero, noReason, noSooner, nextTest, next-passes, derivedTest, derived-passes}

@@ -6,7 +6,7 @@ use Rattle.field.specs.Split.{split, join, after, same, Pieces}
 use Rattle.field.specs.Number.{isDigit, takes, numberFrom, numberOf, digits}
 use Rattle.record.specs.Fields.{markOf, one, none}
 use Rattle.record.specs.Record.{wordOf, lineFields, busFields, recordOf, recordText}
-use Rattle.record.specs.StepLine.{letterOf, stepWordOf, reasonFields, stepFields, stepLineOf, stepText}
+use Rattle.stepline.specs.StepLine.{letterOf, stepWordOf, reasonFields, stepFields, stepLineOf, stepText}
 use Rattle.examples.proofs.Rows.{_&_}
 use Rattle.examples.specs.Tables.{AllRight}
 use Rattle.examples.specs.Fields as fields

@@ -20,7 +20,7 @@ use Rattle.rules.proofs.Tests.{gap}
 use Rattle.rules.proofs.Shuffles.{weaving-shuffles}
 use Rattle.grid.specs.Cases.{neighbours, gridOf}
 use Rattle.grid.proofs.Drawn.{withinTest, rowTest, validTest, valid-passes}
-use Rattle.following.specs.declared.Wove.the-variants as wove
+use Rattle.ending.specs.declared.Wove.the-variants as wove
 use Rattle.demands.proofs.Demand3.{demand-3}
 use Rattle.starred.specs.Table.{wordOf, caseOf, seven}
 use Rattle.examples.proofs.Crowded.{ones-in}

@@ -7,8 +7,8 @@ use Rattle.field.specs.Split.{bytes, lineFeed}
 use Rattle.record.specs.declared.Record.{Record}
 use Rattle.record.specs.declared.Record.the-variants.{Grid, Line, Pmu, End, Wrong}
 use Rattle.grid.specs.declared.Case.{Case}
-use Rattle.grid.specs.declared.refusal.Refusal.the-variants.{TextTooLong, WrongForm, OutOfRange, OutOfOrder}
-use Rattle.reader.specs.Building.{withLine}
+use Rattle.refusals.specs.declared.Refusal.the-variants.{TextTooLong, WrongForm, OutOfRange, OutOfOrder}
+use Rattle.building.specs.Building.{withLine}
 use Rattle.judging.specs.Judging.{verdict}
 use Rattle.reader.specs.Reading.{start, readCase, got}
 use Rattle.inverse.specs.Grammar as grammar

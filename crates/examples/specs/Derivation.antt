@@ -4,7 +4,7 @@ use mathlib.Core.Path.{_≡_}
 use Rattle.step.specs.declared.Reason.the-variants.{OwnUnit, NeighbourOf, ZeroInjection}
 use Rattle.step.specs.declared.Step.{Step}
 use Rattle.rules.specs.Derivation.{TakenFirst, NextIs, Derivation}
-use Rattle.following.specs.Lists.{listOf}
+use Rattle.steplist.specs.Lists.{listOf}
 use Rattle.deriving.specs.Deriving.{Derives}
 use Rattle.examples.specs.Tables.{Row, holds, fails}
 use Rattle.examples.specs.Drawings.{set, own, near, zeroAt, grid, sevenGrid, sweep, ring}

@@ -8,9 +8,9 @@ use Rattle.busset.specs.Sets.{width}
 use Rattle.rules.specs.Grids.{Line, Proper, total, lineCount}
 use Rattle.grid.specs.declared.Case.{Case}
 use Rattle.grid.specs.Cases.{mostBuses, mostLines, mostSteps, neighbours, gridOf, LinesAt, Lines, Valid}
-use Rattle.reader.specs.Reading.{mostBytes}
-use Rattle.steptext.specs.Steps.{mostStepBytes}
-use Rattle.planreport.specs.Plan.{mostBudget}
+use Rattle.grid.specs.Cases.{mostBytes}
+use Rattle.grid.specs.Cases.{mostStepBytes}
+use Rattle.planinput.specs.Asking.{mostBudget}
 use Rattle.starred.specs.Table.{caseOf, seven, path}
 use Rattle.examples.specs.Tables.{Right, Row, holds, fails}
 use Rattle.examples.specs.Drawings.{set, value, sevenGrid, grid}

@@ -4,18 +4,18 @@ use mathlib.Core.List.{List, [], _∷_, _++_}
 use Prim.Native.Nat.{ℕ}
 use lib.ListN.{replicate}
 use Rattle.field.specs.Split.{bytes}
-use Rattle.grid.specs.declared.refusal.Refusal.the-variants.{WrongForm, OutOfRange, InvalidCase, NoRoom, NoSuchBus}
-use Rattle.writer.specs.Put.{Put}
-use Rattle.writer.specs.Printing.{RefusedText, PrintedReply}
-use Rattle.writer.specs.declared.Written.the-variants as written
-use Rattle.steptext.specs.Steps.{StepsReadReply}
+use Rattle.refusals.specs.declared.Refusal.the-variants.{WrongForm, OutOfRange, InvalidCase, NoRoom, NoSuchBus}
+use Rattle.putting.specs.Put.{Put}
+use Rattle.printer.specs.Printing.{RefusedText, PrintedReply}
+use Rattle.putting.specs.declared.Written.the-variants as written
+use Rattle.taking.specs.Taking.{StepsReadReply}
 use Rattle.steptext.specs.declared.StepsRead.the-variants as steps
 use Rattle.dayreport.specs.Day.{Day}
 use Rattle.planreport.specs.Plan.{Plan}
 use Rattle.textreplay.specs.Replying.{TextReplayReply}
 use Rattle.textreplay.specs.declared.TextReplayed.the-variants as replayed
 use Rattle.estimator.specs.Answers.{ObservedFor, UnconfirmedFor, FewestFor, ReplayFor, OfText}
-use Rattle.estimator.specs.Results.{Answered}
+use Rattle.results.specs.Results.{Answered}
 use Rattle.starred.specs.Table.{wordOf}
 use Rattle.examples.specs.Tables.{Row, holds, fails, block}
 use Rattle.examples.specs.Drawings.{own}

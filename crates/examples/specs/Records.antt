@@ -4,13 +4,13 @@ use mathlib.Core.List.{List, [], _∷_}
 use Prim.Native.String.{String}
 use Rattle.record.specs.Fields.{classOf, siteOf}
 use Rattle.record.specs.Record.{recordOf, recordText, Formed}
-use Rattle.record.specs.StepLine.{stepLineOf, stepText}
+use Rattle.stepline.specs.StepLine.{stepLineOf, stepText}
 use Rattle.record.specs.declared.Record.{Record}
 use Rattle.record.specs.declared.Record.the-variants.{Grid, Bus, Line, Pmu, End, Wrong}
 use Rattle.record.specs.declared.Mark.{Mark}
 use Rattle.record.specs.declared.Mark.the-variants.{Is, Neither}
-use Rattle.record.specs.declared.steps.StepLine.{StepLine}
-use Rattle.record.specs.declared.steps.StepLine.the-variants as line
+use Rattle.stepline.specs.declared.StepLine.{StepLine}
+use Rattle.stepline.specs.declared.StepLine.the-variants as line
 use Rattle.step.specs.declared.Step.{Step}
 use Rattle.examples.specs.Tables.{Reads, Writes, Row, holds, fails}
 use Rattle.examples.specs.Drawings.{own, near, zeroAt}

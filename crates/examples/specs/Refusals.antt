@@ -1,9 +1,9 @@
 -- Refusals: the number and place of each, and which of several checks is answered.
 use mathlib.Core.List.{List, [], _∷_}
 use Prim.Native.Nat.{ℕ, _≤_}
-use Rattle.grid.specs.declared.refusal.Refusal.{Refusal}
-use Rattle.grid.specs.declared.refusal.Refusal.the-variants.{TextTooLong, WrongForm, OutOfRange, OutOfOrder, InvalidCase, NoRoom, NoSuchBus, AlreadyObserved, ReasonFails, OverBudget, NoCover, TooManySteps, NotJoined}
-use Rattle.grid.specs.Refusals.{numberOf, placeOf, Is, check, Passed, Failed}
+use Rattle.refusals.specs.declared.Refusal.{Refusal}
+use Rattle.refusals.specs.declared.Refusal.the-variants.{TextTooLong, WrongForm, OutOfRange, OutOfOrder, InvalidCase, NoRoom, NoSuchBus, AlreadyObserved, ReasonFails, OverBudget, NoCover, TooManySteps, NotJoined}
+use Rattle.refusals.specs.Refusals.{numberOf, placeOf, Is, check, Passed, Failed}
 use Rattle.examples.specs.Tables.{Right, Row, holds, fails}
 
 -- document 01's table: refusals, and the number and place of each

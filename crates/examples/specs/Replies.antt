@@ -6,14 +6,14 @@ use lib.IntN.{pos}
 use lib.ListN.{replicate}
 use Rattle.field.specs.Split.{bytes}
 use Rattle.grid.specs.declared.Case.{Case}
-use Rattle.grid.specs.declared.refusal.Refusal.the-variants.{WrongForm, InvalidCase, NoRoom, NoSuchBus, AlreadyObserved, ReasonFails, OverBudget, NoCover, TooManySteps, NotJoined}
-use Rattle.following.specs.Lists.{listOf}
-use Rattle.following.specs.Replies.{ReplayReply, WeaveReply}
-use Rattle.following.specs.declared.Replayed.the-variants as replayed
-use Rattle.following.specs.declared.Wove.the-variants as wove
+use Rattle.refusals.specs.declared.Refusal.the-variants.{WrongForm, InvalidCase, NoRoom, NoSuchBus, AlreadyObserved, ReasonFails, OverBudget, NoCover, TooManySteps, NotJoined}
+use Rattle.steplist.specs.Lists.{listOf}
+use Rattle.ending.specs.Replies.{ReplayReply, WeaveReply}
+use Rattle.ending.specs.declared.Replayed.the-variants as replayed
+use Rattle.ending.specs.declared.Wove.the-variants as wove
 use Rattle.reader.specs.Reading.{refused}
 use Rattle.steptext.specs.declared.StepsRead.the-variants as steps
-use Rattle.writer.specs.declared.Written.the-variants as written
+use Rattle.putting.specs.declared.Written.the-variants as written
 use Rattle.observing.specs.Replies.{ObservedReply, FigureReply, StepReply}
 use Rattle.deriving.specs.Replies.{DerivationReply}
 use Rattle.siting.specs.Replies.{VerdictReply, GreedyReply, FewestReply}

@@ -8,18 +8,19 @@ use Rattle.field.specs.Split.{bytes, lineFeed}
 use Rattle.field.specs.declared.Numeral.{Numeral}
 use Rattle.field.specs.declared.Numeral.the-variants.{Is, Wrong}
 use Rattle.step.specs.declared.Step.{Step}
-use Rattle.grid.specs.declared.refusal.Refusal.{Refusal}
-use Rattle.grid.specs.declared.refusal.Refusal.the-variants.{TextTooLong, WrongForm, OutOfRange, OutOfOrder, OverBudget, NoCover}
+use Rattle.refusals.specs.declared.Refusal.{Refusal}
+use Rattle.refusals.specs.declared.Refusal.the-variants.{TextTooLong, WrongForm, OutOfRange, OutOfOrder, OverBudget, NoCover}
 use Rattle.reader.specs.Reading.{got, refused}
 use Rattle.reader.specs.declared.ReadAnswer.{ReadAnswer}
 use Rattle.reader.specs.declared.ReadAnswer.the-variants.{Read, Refused}
 use Rattle.record.specs.declared.Record.{Record}
 use Rattle.record.specs.declared.Record.the-variants.{Pmu, End}
-use Rattle.writer.specs.Put.{lineText}
-use Rattle.writer.specs.Printing.{refusedText}
+use Rattle.writer.specs.Lines.{lineText}
+use Rattle.printer.specs.Printing.{refusedText}
 use Rattle.dayreport.specs.Day.{verdictFields, dayText}
-use Rattle.planreport.specs.Plan.{budgetOf, readPlan, planText}
-use Rattle.planreport.specs.declared.asking.Asked.{Asked}
+use Rattle.planinput.specs.Asking.{budgetOf, readPlan}
+use Rattle.planreport.specs.Plan.{planText}
+use Rattle.planinput.specs.declared.Asked.{Asked}
 use Rattle.starred.specs.Table.{wordOf, caseOf, seven}
 use Rattle.examples.specs.Tables.{Right, Reads, Writes, block}
 use Rattle.examples.specs.Drawings.{own, near, zeroAt}

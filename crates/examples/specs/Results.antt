@@ -2,11 +2,11 @@
 use mathlib.Core.List.{List, [], _∷_}
 use Prim.Native.Nat.{ℕ}
 use Rattle.busset.specs.Bytes.{setBytes}
-use Rattle.grid.specs.declared.refusal.Refusal.{Refusal}
-use Rattle.grid.specs.declared.refusal.Refusal.the-variants.{TextTooLong, WrongForm, OutOfRange, NoSuchBus, ReasonFails, OverBudget, NoCover, TooManySteps}
-use Rattle.estimator.specs.Results.{codeOf, resultOf, leftBy}
-use Rattle.estimator.specs.declared.answers.Answer.{Answer}
-use Rattle.estimator.specs.declared.answers.Answer.the-variants.{Set, Refused, Unread}
+use Rattle.refusals.specs.declared.Refusal.{Refusal}
+use Rattle.refusals.specs.declared.Refusal.the-variants.{TextTooLong, WrongForm, OutOfRange, NoSuchBus, ReasonFails, OverBudget, NoCover, TooManySteps}
+use Rattle.results.specs.Results.{codeOf, resultOf, leftBy}
+use Rattle.results.specs.declared.Answer.{Answer}
+use Rattle.results.specs.declared.Answer.the-variants.{Set, Refused, Unread}
 use Rattle.starred.specs.Table.{wordOf}
 use Rattle.examples.specs.Tables.{Right}
 

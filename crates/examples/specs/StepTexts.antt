@@ -6,9 +6,10 @@ use Prim.Native.String.{String}
 use lib.ListN.{replicate}
 use Rattle.field.specs.Split.{bytes, split, lineFeed}
 use Rattle.step.specs.declared.Step.{Step}
-use Rattle.grid.specs.declared.refusal.Refusal.the-variants.{TextTooLong, WrongForm, OutOfRange, NoRoom, TooManySteps}
-use Rattle.steptext.specs.Steps.{stepInRange, stepLines, readSteps, stepsOf, StepAt, AllNamed, withRoom, leaves, Takes}
-use Rattle.steptext.specs.declared.NextStep.the-variants.{At, Nothing}
+use Rattle.refusals.specs.declared.Refusal.the-variants.{TextTooLong, WrongForm, OutOfRange, NoRoom, TooManySteps}
+use Rattle.steptext.specs.Steps.{stepInRange, stepLines, readSteps, stepsOf, AllNamed}
+use Rattle.taking.specs.Taking.{StepAt, withRoom, leaves, Takes}
+use Rattle.taking.specs.declared.NextStep.the-variants.{At, Nothing}
 use Rattle.steptext.specs.declared.StepsRead.{StepsRead}
 use Rattle.steptext.specs.declared.StepsRead.the-variants.{Steps, Refused}
 use Rattle.examples.specs.Tables.{Right, Reads, Row, holds, fails, block}

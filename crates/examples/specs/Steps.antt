@@ -7,8 +7,8 @@ use Rattle.step.specs.declared.Reason.{Reason}
 use Rattle.step.specs.declared.Reason.the-variants.{OwnUnit, NeighbourOf, ZeroInjection}
 use Rattle.step.specs.declared.Step.{Step}
 use Rattle.rules.specs.Steps.{Holds, Allowed, HasReasoned, ReasonNames, Names, AcceptedFrom, Accepted, reached, Finished}
-use Rattle.following.specs.Lists.{listed, nthOf, listOf}
-use Rattle.following.specs.declared.lists.StepList.{StepList}
+use Rattle.steplist.specs.Lists.{listed, nthOf, listOf}
+use Rattle.steplist.specs.declared.StepList.{StepList}
 use Rattle.examples.specs.Tables.{Right, Row, holds, fails}
 use Rattle.examples.specs.Drawings.{set, own, near, zeroAt, sevenGrid}
 

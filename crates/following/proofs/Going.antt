@@ -11,12 +11,12 @@ use Rattle.step.specs.declared.Step.{Step}
 use Rattle.rules.specs.Steps.{Holds, Names}
 use Rattle.rules.specs.Weaving.{unlessSeen}
 use Rattle.grid.specs.declared.Case.{Case}
-use Rattle.grid.specs.declared.refusal.Refusal.{Refusal}
-use Rattle.grid.specs.declared.refusal.Refusal.the-variants.{NoSuchBus, AlreadyObserved, ReasonFails}
+use Rattle.refusals.specs.declared.Refusal.{Refusal}
+use Rattle.refusals.specs.declared.Refusal.the-variants.{NoSuchBus, AlreadyObserved, ReasonFails}
 use Rattle.grid.specs.Cases.{gridOf}
-use Rattle.grid.specs.Refusals.{Failed, Passed}
-use Rattle.grid.proofs.Orders.{itself}
-use Rattle.following.specs.Lists.{Listed, listed}
+use Rattle.refusals.specs.Refusals.{Failed, Passed}
+use Rattle.refusals.proofs.Orders.{itself}
+use Rattle.steplist.specs.Lists.{Listed, listed}
 use Rattle.following.specs.Following.{checksAt, Ready, TakenOr, Further, Kept, seenBy, Grown}
 use Rattle.following.specs.declared.Task.{Task}
 use Rattle.following.specs.declared.Task.the-variants.{Replay, Weave}

@@ -1,5 +1,2 @@
-pub mod Listing
 pub mod Going
 pub mod Starts
-pub mod Outcomes
-pub mod Refusing

@@ -7,10 +7,10 @@ use Rattle.step.specs.declared.Step.{Step}
 use Rattle.rules.specs.Steps.{Holds, Names}
 use Rattle.rules.specs.Weaving.{unlessSeen}
 use Rattle.grid.specs.declared.Case.{Case}
-use Rattle.grid.specs.declared.refusal.Refusal.the-variants.{AlreadyObserved}
+use Rattle.refusals.specs.declared.Refusal.the-variants.{AlreadyObserved}
 use Rattle.grid.specs.Cases.{mostSteps, gridOf, Valid}
-use Rattle.grid.specs.Refusals.{Check, check, Passed, Failed}
-use Rattle.following.specs.Lists.{Listed, listed, Pushed}
+use Rattle.refusals.specs.Refusals.{Check, check, Passed, Failed}
+use Rattle.steplist.specs.Lists.{Listed, listed, Pushed}
 use Rattle.following.specs.declared.Task.{Task}
 use Rattle.following.specs.declared.Task.the-variants.{Replay, Weave}
 use Rattle.following.specs.declared.Standing.{Standing}

@@ -1,22 +1,15 @@
 // Following a desk's list step by step: where it begins, where it stands after each step, and how it ends.
 ghost use mathlib.Core.Path.{_≡_};
 ghost use Prim.Native.Nat.{suc, _<_};
-ghost use Rattle.busset.specs.Deciding.{Decides};
-ghost use Rattle.busset.specs.Sets.{Bus, width, setOf};
-ghost use Rattle.rules.specs.Steps.{Finished};
-ghost use Rattle.grid.specs.Cases.{gridOf};
+ghost use Rattle.busset.specs.Sets.{Bus, width};
 ghost use Rattle.following.specs.Following.{Starting, Kept, seenBy, Grown, Ready, Further, Applied, Begun};
-ghost use Rattle.following.specs.Replies.{EndedAt, SettledAt, countOf};
-
-pub mod lists;
-
 use busset::BusSet;
 use grid::Case;
-use grid::Refusal;
-use lists::StepList;
-use lists::no_steps;
-use lists::push;
+use refusals::Refusal;
 use step::Step;
+use steplist::StepList;
+use steplist::no_steps;
+use steplist::push;
 
 // Replay refuses a step for an observed bus; weaving passes over it.
 pub enum Task {
@@ -36,18 +29,6 @@ pub struct Following {
     pub read: usize,
     pub standing: Standing,
     pub list: StepList,
-}
-
-// What replay answers: the set reached and whether the list is finished.
-pub enum Replayed {
-    Reached(BusSet, bool),
-    Refused(Refusal),
-}
-
-// What weaving answers: the count written and the set reached.
-pub enum Wove {
-    Written(usize, BusSet),
-    Refused(Refusal),
 }
 
 fn starting(task: Task, standing: Standing) -> Following
@@ -142,13 +123,13 @@ fn go_on(case: Case, st: Following, x: Step) -> Following
     if 64 < n {
         return st;
     }
-    if !observe::testing::names(n, x) {
+    if !testing::names(n, x) {
         return kept(st, k, Standing::Bad(Refusal::NoSuchBus(k)));
     }
     if busset::has(st.set, b) {
         return seen(st, k);
     }
-    if !observe::testing::holds(case, st.set, x) {
+    if !testing::holds(case, st.set, x) {
         return kept(st, k, Standing::Bad(Refusal::ReasonFails(k)));
     }
     taken(st, k, x)
@@ -162,56 +143,5 @@ pub fn apply(case: Case, st: Following, x: Step) -> Following
     match standing {
         Standing::Good => go_on(case, st, x),
         Standing::Bad(_) => st,
-    }
-}
-
-// Whether no step is allowed where s is observed.
-pub fn is_finished(case: Case, s: BusSet) -> bool
-    ensures { λ r. ⌜ Decides (Finished (gridOf case) (setOf s)) r ⌝ }
-{
-    let nbr = case.nbr;
-    if !busset::is_subset(observe::sweeps::start(&nbr, case.units), s) {
-        return false;
-    }
-    busset::same(observe::sweeps::sweep(&nbr, case.zero, s), s)
-}
-
-// Replay's answer.
-pub fn ended(case: Case, st: Following) -> Replayed
-    ensures { λ r. ⌜ EndedAt case st r (st .standing) ⌝ }
-{
-    let standing = st.standing;
-    match standing {
-        Standing::Good => Replayed::Reached(st.set, is_finished(case, st.set)),
-        Standing::Bad(refusal) => Replayed::Refused(refusal),
-    }
-}
-
-// Weaving's answer, where there is room for so many records.
-pub fn settled(st: Following, room: usize) -> Wove
-    ensures { λ r. ⌜ SettledAt st room r (st .standing) ⌝ }
-{
-    let standing = st.standing;
-    let list = st.list;
-    let n = list.n;
-    match standing {
-        Standing::Good => {
-            if n <= room {
-                Wove::Written(n, st.set)
-            } else {
-                Wove::Refused(Refusal::NoRoom)
-            }
-        }
-        Standing::Bad(refusal) => Wove::Refused(refusal),
-    }
-}
-
-// How many records are written.
-pub fn count_of(w: Wove) -> usize
-    ensures { λ r. ⌜ r ≡ countOf w ⌝ }
-{
-    match w {
-        Wove::Written(count, _) => count,
-        Wove::Refused(_) => 0,
     }
 }

@@ -1,5 +1,4 @@
 pub mod Rows
 pub mod Checking
 pub mod Summing
-pub mod Orders
 pub mod Drawn

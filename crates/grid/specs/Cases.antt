@@ -17,6 +17,14 @@ mostLines = 256
 abbrev pub mostSteps : ℕ
 mostSteps = 1024
 
+-- of a case text
+abbrev pub mostBytes : ℕ
+mostBytes = 8192
+
+-- of a step text
+abbrev pub mostStepBytes : ℕ
+mostStepBytes = 16384
+
 -- ---- the view
 
 -- the neighbours of bus b: the rows stand in bus order, that of bus 1 first, and any other number has no neighbour

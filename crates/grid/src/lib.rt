@@ -1,13 +1,11 @@
-// The case value and its view, when it is valid, and the refusals.
+// The case value and its view, and when it is valid.
 ghost use mathlib.Core.Path.{_≡_};
 ghost use Rattle.busset.specs.Sets.{Bus, width, setOf};
 ghost use Rattle.grid.specs.Cases.{neighbours};
 
-pub mod refusal;
 pub mod validity;
 
 use busset::BusSet;
-pub use refusal::Refusal;
 
 // A grid as a caller lends it: the neighbours of bus b stand at b - 1.
 pub struct Case {

@@ -18,7 +18,7 @@ use Rattle.grid.specs.declared.Case.{Case}
 use Rattle.reader.specs.declared.CaseRead.{CaseRead}
 use Rattle.judging.specs.declared.Verdict.{Verdict}
 use Rattle.judging.specs.declared.Verdict.the-variants.{Next, Last, Form, Range, Order}
-use Rattle.grid.specs.declared.refusal.Refusal.{Refusal}
+use Rattle.refusals.specs.declared.Refusal.{Refusal}
 use Rattle.reader.specs.declared.ReadAnswer.the-variants.{Read, Refused}
 use Rattle.judging.proofs.Judged.{accepted-of, last-of, small-of, bounded, line-ends, apart}
 use Rattle.judging.specs.declared.Place.{Place}

@@ -11,7 +11,8 @@ use Rattle.record.specs.declared.Record.the-variants.{Pmu}
 use Rattle.grid.specs.Cases.{neighbours, gridOf, Valid}
 use Rattle.grid.specs.declared.Case.{Case}
 use Rattle.rules.specs.Grids.{Proper as ProperGrid}
-use Rattle.reader.specs.Reading.{mostBytes, start, got, readLines, readCase}
+use Rattle.grid.specs.Cases.{mostBytes}
+use Rattle.reader.specs.Reading.{start, got, readLines, readCase}
 use Rattle.inverse.specs.Grammar.{Reads}
 use Rattle.reader.specs.Writing.{records, caseText, lineRecords}
 use Rattle.reader.proofs.Lengths.{lines-length, buses-length, members-length}

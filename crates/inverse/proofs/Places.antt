@@ -20,7 +20,7 @@ use Rattle.record.specs.declared.Record.the-variants.{Grid, Bus, Line, Pmu, End
 use Rattle.grid.specs.Cases.{neighbours, mostBuses}
 use Rattle.grid.specs.declared.Case.{Case}
 use Rattle.grid.proofs.Rows.{row-at, row-zero}
-use Rattle.reader.specs.Building.{withEnd, withLine}
+use Rattle.building.specs.Building.{withEnd, withLine}
 use Rattle.judging.specs.Judging.{isAfter, pastBuses}
 use Rattle.reader.specs.Reading.{Reader, caseOf, next}
 use Rattle.judging.specs.declared.Place.{Place}

@@ -19,7 +19,7 @@ use Rattle.record.specs.declared.Record.the-variants.{Grid, Bus, Line, Pmu, End
 use Rattle.rules.specs.Grids.{Proper as ProperGrid, Line as HasLine}
 use Rattle.grid.specs.Cases.{neighbours, gridOf, Lines}
 use Rattle.grid.specs.declared.Case.{Case}
-use Rattle.reader.specs.Building.{withLine}
+use Rattle.building.specs.Building.{withLine}
 use Rattle.judging.specs.Judging.{inRange}
 use Rattle.reader.specs.Reading.{Reader, caseOf, next, start}
 use Rattle.inverse.specs.Grammar.{Reads}

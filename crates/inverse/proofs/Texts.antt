@@ -19,12 +19,12 @@ use Rattle.record.specs.declared.Record.{Record}
 use Rattle.record.specs.declared.Record.the-variants.{Grid, Bus, Line, Pmu, End, Wrong}
 use Rattle.judging.specs.Judging.{verdict, pastBuses}
 use Rattle.reader.specs.Reading.{caseOf, Reader, next, start, refused, got, readLines, readText, readCase}
-use Rattle.reader.specs.Building.{noRows}
+use Rattle.building.specs.Building.{noRows}
 use Rattle.inverse.specs.Grammar.{Reads}
 use Rattle.inverse.specs.Grammar.Reads.{ends, goes}
 use Rattle.grid.specs.declared.Case.{Case}
 use Rattle.judging.specs.declared.Verdict.the-variants.{Next}
-use Rattle.grid.specs.declared.refusal.Refusal.the-variants.{TextTooLong}
+use Rattle.refusals.specs.declared.Refusal.the-variants.{TextTooLong}
 use Rattle.judging.proofs.Judged.{accepted-of, last-place, inside, apart}
 use Rattle.inverse.proofs.Grammars.{not-got, reads-read, read-reads}
 use Rattle.inverse.proofs.Places.{Ask, place, answer, same-n}

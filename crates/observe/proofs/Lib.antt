@@ -1,5 +1,3 @@
 pub mod Counting
 pub mod Firing
 pub mod Passing
-pub mod Signed
-pub mod Holding

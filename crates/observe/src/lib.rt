@@ -1,4 +1,2 @@
-// Observation: the observed set, the firing figure, and the test of one step.
-pub mod figures;
+// Observation: the observed set.
 pub mod sweeps;
-pub mod testing;

@@ -9,7 +9,7 @@ use Rattle.rules.specs.Steps.{Holds, Names}
 use Rattle.rules.specs.Figures.{figure}
 use Rattle.grid.specs.declared.Case.{Case}
 use Rattle.grid.specs.Cases.{gridOf, Valid}
-use Rattle.grid.specs.Refusals.{Check, check, Passed, Failed}
+use Rattle.refusals.specs.Refusals.{Check, check, Passed, Failed}
 use Rattle.observing.specs.declared.Observed.{Observed}
 use Rattle.observing.specs.declared.Observed.the-variants as observed
 use Rattle.observing.specs.declared.Figured.{Figured}

@@ -1,8 +1,8 @@
-// What one bus asks: the observed set, a firing figure, the test of one step.
+// The calls on a case, and on a stated set of observed buses: the observed set, a firing figure, the test of one step.
 ghost use Rattle.observing.specs.Replies.{ObservedReply, FigureReply, StepReply};
 use busset::BusSet;
 use grid::Case;
-use grid::Refusal;
+use refusals::Refusal;
 use step::Step;
 
 pub enum Observed {
@@ -49,7 +49,7 @@ pub fn firing_figure(case: Case, s: BusSet, i: usize, j: usize) -> Figured
     if !busset::has(grid::row(&nbr, i), j) {
         return Figured::Refused(Refusal::NotJoined);
     }
-    Figured::Figure(observe::figures::figure_of(&nbr, busset::up_to(s, n), i, j))
+    Figured::Figure(figures::figure_of(&nbr, busset::up_to(s, n), i, j))
 }
 
 // Whether the step is allowed where the buses of s are observed.
@@ -61,14 +61,14 @@ pub fn test_step(case: Case, s: BusSet, x: Step) -> Tested
     if !grid::validity::is_valid(case) {
         return Tested::Refused(Refusal::InvalidCase);
     }
-    if !observe::testing::names(n, x) {
+    if !testing::names(n, x) {
         return Tested::Refused(Refusal::NoSuchBus(1));
     }
     let stated = busset::up_to(s, n);
     if busset::has(stated, b) {
         return Tested::Refused(Refusal::AlreadyObserved(1));
     }
-    if !observe::testing::holds(case, stated, x) {
+    if !testing::holds(case, stated, x) {
         return Tested::Refused(Refusal::ReasonFails(1));
     }
     Tested::Allowed

@@ -1,5 +1,5 @@
 // The planning program: a plan line and a case text on standard input, its report on standard output.
-ghost use Rattle.writer.specs.Printing.{Printed};
+ghost use Rattle.printer.specs.Printing.{Printed};
 ghost use Rattle.planreport.specs.Plan.{Plan};
 use wozgrzyt::Written;
 use wozgrzyt::plan_report;

@@ -21,10 +21,11 @@ use Rattle.reader.specs.Writing.{has, members, linesText}
 use Rattle.reader.specs.declared.ReadAnswer.{ReadAnswer}
 use Rattle.reader.specs.declared.ReadAnswer.the-variants.{Read, Refused}
 use Rattle.inverse.proofs.Counts.{members-few}
-use Rattle.writer.proofs.Printed.{refused-length}
-use Rattle.planreport.specs.Plan.{planText, readPlan, PlanReport, PlanFor, Plan}
+use Rattle.printer.proofs.Printed.{refused-length}
+use Rattle.planreport.specs.Plan.{planText, PlanReport, PlanFor, Plan}
+use Rattle.planinput.specs.Asking.{readPlan}
 use Rattle.planreport.specs.Plan.PlanReport.{found, none}
-use Rattle.planreport.proofs.Inputs.{plan-valid}
+use Rattle.planinput.proofs.Inputs.{plan-valid}
 
 one-line : (t : Bool) (k : ℕ) (rs : List Record) → k < 100 → length (linesText rs) ≤ 7 * length rs →
     length (linesText (cond t (Pmu k ∷ rs) rs)) ≤ 7 * length (cond t (Pmu k ∷ rs) rs)

@@ -1,4 +1,3 @@
-pub mod Inputs
 pub mod Reports
 pub mod Unique
 pub mod Lengths

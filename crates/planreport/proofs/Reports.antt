@@ -1,5 +1,5 @@
 -- What is printed for a case: the lines of the fewest, and the reply by what is found.
-use mathlib.Core.Path.{_≡_}
+use mathlib.Core.Path.{_≡_, subst, subst⁻¹}
 use mathlib.Core.Logic.{inl, inr}
 use mathlib.Core.List.{List, [], _∷_}
 use Prim.Native.Nat.{ℕ, _≤_, _<_}
@@ -11,16 +11,19 @@ use Rattle.field.specs.Number.{numberText}
 use Rattle.record.specs.declared.Record.the-variants.{Pmu}
 use Rattle.grid.specs.Cases.{gridOf}
 use Rattle.grid.specs.declared.Case.{Case}
-use Rattle.grid.specs.declared.refusal.Refusal.the-variants.{OverBudget, NoCover}
-use Rattle.grid.proofs.Orders.{itself}
+use Rattle.refusals.specs.declared.Refusal.the-variants.{OverBudget, NoCover}
+use Rattle.refusals.proofs.Orders.{itself}
 use Rattle.fewest.specs.Answers.{FewestIs}
 use Rattle.fewest.specs.declared.Found.{Found}
 use Rattle.fewest.specs.declared.Found.the-variants.{Sites, Nothing}
 use Rattle.reader.specs.Writing.{members, linesText}
-use Rattle.writer.specs.Put.{Put}
-use Rattle.writer.specs.Printing.{printed, RefusedText}
-use Rattle.writer.proofs.Putting.{put-then}
-use Rattle.planreport.specs.Plan.{planText, PlanText, PlanReport}
+use Rattle.reader.specs.declared.ReadAnswer.{ReadAnswer}
+use Rattle.planinput.specs.Asking.{readPlan}
+use Rattle.planinput.specs.declared.Asked.{Asked}
+use Rattle.putting.specs.Put.{Put}
+use Rattle.printer.specs.Printing.{printed, RefusedText}
+use Rattle.putting.proofs.Putting.{put-then}
+use Rattle.planreport.specs.Plan.{planText, PlanText, PlanReport, PlanFor, Plan}
 use Rattle.planreport.specs.Plan.PlanReport.{found, none}
 
 -- the lines of the fewest, put one after another
@@ -38,3 +41,9 @@ module _ (c : Case) (budget : ℕ) {r : Found} (h : budget ≤ 8) (is : FewestIs
 
   pub fewest-found : {m : ℕ} → r ≡ Sites m → (t : List ℕ) → PlanText (c .n) (setOf m) t → PlanReport c budget t
   fewest-found e t i = let f = rw e at is in found _ (h, (fewest-some f, tt)) f i
+
+-- what is printed for what was read is what the input asks for
+pub plan-by : (x : List ℕ) {a : Asked} {r : ReadAnswer} → a ≡ readPlan x → a .read .answer ≡ r → (t : List ℕ) → PlanFor r (a .read .case) (a .budget) t → Plan x t
+plan-by x {a} {r} is told t p =
+    subst (λ (b : Asked). PlanFor (b .read .answer) (b .read .case) (b .budget) t) is
+    (subst⁻¹ (λ (q : ReadAnswer). PlanFor q (a .read .case) (a .budget) t) told p)

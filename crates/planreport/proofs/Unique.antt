@@ -4,11 +4,12 @@ use mathlib.Core.List.{List}
 use Prim.Native.Nat.{ℕ}
 use Rattle.rules.proofs.Ordering.{fewest-set-unique}
 use Rattle.grid.specs.declared.Case.{Case}
-use Rattle.grid.proofs.Orders.{failed-unique, failed-or-passed}
+use Rattle.refusals.proofs.Orders.{failed-unique, failed-or-passed}
 use Rattle.reader.specs.declared.ReadAnswer.{ReadAnswer}
 use Rattle.reader.specs.declared.ReadAnswer.the-variants.{Read, Refused}
-use Rattle.writer.specs.Printing.{refusedText}
-use Rattle.planreport.specs.Plan.{planChecks, planText, readPlan, PlanReport, PlanFor, Plan}
+use Rattle.printer.specs.Printing.{refusedText}
+use Rattle.planreport.specs.Plan.{planChecks, planText, PlanReport, PlanFor, Plan}
+use Rattle.planinput.specs.Asking.{readPlan}
 use Rattle.planreport.specs.Plan.PlanReport.{found, none}
 
 report-unique : (c : Case) (budget : ℕ) (s t : List ℕ) → PlanReport c budget s → PlanReport c budget t → s ≡ t

@@ -1,18 +1,17 @@
 // The planning program's reply to an input.
 ghost use Rattle.grid.specs.Cases.{Valid};
-ghost use Rattle.writer.specs.Printing.{PrintedReply};
+ghost use Rattle.printer.specs.Printing.{PrintedReply};
 ghost use Rattle.planreport.specs.Plan.{PlanReport, Plan};
 
-mod asking;
 mod printing;
 
 use fewest::Found;
 use fewest::fewest;
 use grid::Case;
-use grid::Refusal;
+use printer::print_refused;
+use putting::Written;
 use reader::ReadAnswer;
-use writer::Written;
-use writer::printing::print_refused;
+use refusals::Refusal;
 
 // The fewest of a case within the budget, or the line of the refusal.
 fn report(case: Case, budget: usize, out: &mut [u8]) -> Written
@@ -35,7 +34,7 @@ fn report(case: Case, budget: usize, out: &mut [u8]) -> Written
 pub fn plan_report(input: &[u8], out: &mut [u8]) -> Written
     ensures { λ r. ⌜ PrintedReply (Plan (now (input .entry))) (now (out .entry)) (now (out .exit)) r ⌝ }
 {
-    let asked = asking::read_plan(input);
+    let asked = planinput::read_plan(input);
     let read = asked.read;
     let answer = read.answer;
     match answer {

@@ -1,22 +1,22 @@
 // What is printed for the fewest.
 ghost use Prim.Native.Nat.{_≤_};
 ghost use Rattle.busset.specs.Sets.{width, setOf};
-ghost use Rattle.writer.specs.Put.{Put};
-ghost use Rattle.writer.specs.Printing.{PrintedReply};
+ghost use Rattle.putting.specs.Put.{Put};
+ghost use Rattle.printer.specs.Printing.{PrintedReply};
 ghost use Rattle.planreport.specs.Plan.{planText, PlanText};
 use busset::BusSet;
-use grid::Refusal;
-use writer::Written;
+use putting::Written;
+use refusals::Refusal;
 
 // `fewest count`, one `pmu` line for each site, and `end`, from the first byte on.
 fn put_plan(out: &mut [u8], n: usize, sites: BusSet) -> usize
     requires { ⌜ n ≤ width ⌝ }
     ensures { λ k. ⌜ Put (now (out .entry)) 0 (planText n (setOf sites)) (now (out .exit)) k ⌝ }
 {
-    let a = writer::put_tagged(out, 0, b"fewest\t", busset::count(sites));
-    let b = writer::put_byte(out, a, 10);
+    let a = putting::put_tagged(out, 0, b"fewest\t", busset::count(sites));
+    let b = putting::put_byte(out, a, 10);
     let d = writer::cases::put_units(out, b, n, sites);
-    writer::put_all(out, d, b"end\n")
+    putting::put_all(out, d, b"end\n")
 }
 
 // The same, in the bytes lent.

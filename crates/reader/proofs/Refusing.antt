@@ -11,11 +11,12 @@ use Rattle.field.specs.Split.{split, lineFeed}
 use Rattle.field.proofs.Cutting.{rest-few}
 use Rattle.record.specs.Record.{recordOf}
 use Rattle.grid.specs.declared.Case.{Case}
-use Rattle.grid.specs.declared.refusal.Refusal.{Refusal}
-use Rattle.grid.specs.declared.refusal.Refusal.the-variants.{TextTooLong}
-use Rattle.grid.specs.Refusals.{placeOf}
+use Rattle.refusals.specs.declared.Refusal.{Refusal}
+use Rattle.refusals.specs.declared.Refusal.the-variants.{TextTooLong}
+use Rattle.refusals.specs.Refusals.{placeOf}
 use Rattle.judging.specs.Judging.{verdict}
-use Rattle.reader.specs.Reading.{Reader, mostBytes, next, start, caseOf, refused, closed, said, readLines, readText, readCase}
+use Rattle.reader.specs.Reading.{Reader, next, start, caseOf, refused, closed, said, readLines, readText, readCase}
+use Rattle.grid.specs.Cases.{mostBytes}
 use Rattle.judging.specs.declared.Verdict.{Verdict}
 use Rattle.judging.specs.declared.Verdict.the-variants.{Next, Last, Form, Range, Order}
 use Rattle.reader.specs.declared.ReadAnswer.{ReadAnswer}

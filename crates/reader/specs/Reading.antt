@@ -7,21 +7,18 @@ use lib.ListN.{length}
 use Rattle.field.specs.Split.{split, lineFeed}
 use Rattle.record.specs.Record.{recordOf}
 use Rattle.record.specs.declared.Record.{Record}
+use Rattle.grid.specs.Cases.{mostBytes}
 use Rattle.grid.specs.declared.Case.{Case}
-use Rattle.grid.specs.declared.refusal.Refusal.{Refusal}
-use Rattle.grid.specs.declared.refusal.Refusal.the-variants.{TextTooLong, WrongForm, OutOfRange, OutOfOrder}
+use Rattle.refusals.specs.declared.Refusal.{Refusal}
+use Rattle.refusals.specs.declared.Refusal.the-variants.{TextTooLong, WrongForm, OutOfRange, OutOfOrder}
 use Rattle.judging.specs.Judging.{verdict, nextPlace}
 use Rattle.judging.specs.declared.Place.{Place}
 use Rattle.judging.specs.declared.Verdict.{Verdict}
 use Rattle.judging.specs.declared.Verdict.the-variants.{Next, Last, Form, Range, Order}
-use Rattle.reader.specs.Building.{nextRows, nextMarks, noRows, noMarks, caseWith, noCase}
-use Rattle.reader.specs.declared.Marks.{Marks}
+use Rattle.building.specs.Building.{nextRows, nextMarks, noRows, noMarks, caseWith, noCase}
+use Rattle.building.specs.declared.Marks.{Marks}
 use Rattle.reader.specs.declared.ReadAnswer.the-variants.{Read, Refused}
 use Rattle.reader.specs.declared.CaseRead.{CaseRead}
-
--- a case text has at most so many bytes
-abbrev pub mostBytes : ℕ
-mostBytes = 8192
 
 -- where the reader stands, and what it has read
 pub record Reader : Type 0 where

@@ -3,24 +3,16 @@ ghost use mathlib.Core.Path.{_≡_};
 ghost use Prim.Native.Nat.{_+_, _<_, _≤_};
 ghost use lib.ListN.{length, drop};
 ghost use Rattle.field.specs.Split.{split};
-ghost use Rattle.reader.specs.Reading.{mostBytes, caseOf, refused, closed, readText, readCase};
-
-pub mod building;
-
+ghost use Rattle.grid.specs.Cases.{mostBytes};
+ghost use Rattle.reader.specs.Reading.{caseOf, refused, closed, readText, readCase};
+use building::Marks;
 use busset::BusSet;
 use field::piece_end;
 use grid::Case;
-use grid::Refusal;
 use judging::Place;
 use judging::Verdict;
 use record::Record;
-
-// The Z buses, the Y sites and the units read.
-pub struct Marks {
-    pub zero: BusSet,
-    pub site: BusSet,
-    pub units: BusSet,
-}
+use refusals::Refusal;
 
 pub enum ReadAnswer {
     Read,

@@ -1,11 +1,8 @@
-// One line of a text, read as a record: of a case text here, of a step text in `steps`.
+// One line of a case text, read as a record.
 ghost use mathlib.Core.Path.{_≡_};
 ghost use Rattle.field.specs.Split.{after};
 ghost use Rattle.record.specs.Fields.{markOf, oneNumber, oneSite};
 ghost use Rattle.record.specs.Record.{wordOf, gridOf, busOf, lineOf, pmuOf, busFields, lineFields, noFields, recordOf};
-
-pub mod steps;
-
 use field::Numeral;
 
 // A record of a case text; `zero` says class Z, `site` says site Y.

@@ -1,6 +1,6 @@
 // Texts, numbers, sets and refusals, printed.
 use busset::BusSet;
-use grid::Refusal;
+use refusals::Refusal;
 
 pub fn text(bytes: &[u8]) {
     io::write_all(1, bytes);
@@ -17,8 +17,8 @@ pub fn spaced(b: usize) {
 
 pub fn refused(r: Refusal) {
     text(b" refused");
-    spaced(grid::refusal::number(r) as usize);
-    spaced(grid::refusal::place(r));
+    spaced(refusals::number(r) as usize);
+    spaced(refusals::place(r));
 }
 
 // The buses of a set.

@@ -9,7 +9,7 @@ use Rattle.rules.specs.Placing as placing
 use Rattle.rules.specs.Choosing as choosing
 use Rattle.grid.specs.declared.Case.{Case}
 use Rattle.grid.specs.Cases.{gridOf, Valid}
-use Rattle.grid.specs.Refusals.{Check, check, Passed, Failed}
+use Rattle.refusals.specs.Refusals.{Check, check, Passed, Failed}
 use Rattle.siting.specs.declared.Verdict.{Verdict}
 use Rattle.siting.specs.declared.Verdict.the-variants as verdict
 use Rattle.siting.specs.declared.Greedy.{Greedy}

@@ -2,7 +2,7 @@
 ghost use Rattle.siting.specs.Replies.{VerdictReply, GreedyReply, FewestReply};
 use busset::BusSet;
 use grid::Case;
-use grid::Refusal;
+use refusals::Refusal;
 
 pub enum Verdict {
     Unconfirmed(BusSet),

@@ -12,9 +12,9 @@ use Rattle.rules.specs.Grids.{Grid}
 use Rattle.rules.proofs.Choices.{greedy-unique}
 use Rattle.rules.proofs.Ordering.{fewest-some}
 use Rattle.rules.proofs.Sought.{unconfirmedTest, unconfirmed-passes, greedyTest, greedy-passes, none, some, smallest, fewest-passes}
-use Rattle.grid.specs.declared.refusal.Refusal.the-variants.{NoCover}
+use Rattle.refusals.specs.declared.Refusal.the-variants.{NoCover}
 use Rattle.grid.specs.Cases.{gridOf, Valid}
-use Rattle.grid.proofs.Orders.{itself}
+use Rattle.refusals.proofs.Orders.{itself}
 use Rattle.grid.proofs.Drawn.{withinTest, validTest, valid-passes}
 use Rattle.siting.specs.declared.Verdict.the-variants as verdict
 use Rattle.siting.specs.declared.Greedy.the-variants as greedy

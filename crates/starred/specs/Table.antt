@@ -8,9 +8,9 @@ use lib.ListN.{length, drop}
 use Rattle.step.specs.declared.Reason.the-variants.{ZeroInjection}
 use Rattle.step.specs.declared.Step.{Step}
 use Rattle.grid.specs.declared.Case.{Case}
-use Rattle.grid.specs.declared.refusal.Refusal.the-variants.{ReasonFails, NoCover}
-use Rattle.following.specs.Replies.{ReplayReply}
-use Rattle.following.specs.declared.Replayed.the-variants as replayed
+use Rattle.refusals.specs.declared.Refusal.the-variants.{ReasonFails, NoCover}
+use Rattle.ending.specs.Replies.{ReplayReply}
+use Rattle.ending.specs.declared.Replayed.the-variants as replayed
 use Rattle.observing.specs.declared.Observed.the-variants as observed
 use Rattle.observing.specs.declared.Figured.the-variants as figured
 use Rattle.siting.specs.declared.Verdict.the-variants as verdict

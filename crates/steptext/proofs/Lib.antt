@@ -1,4 +1,3 @@
 pub mod Stepping
 pub mod Found
-pub mod Taking
 pub mod Refusing

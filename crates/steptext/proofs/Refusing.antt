@@ -9,14 +9,15 @@ use lib.Dec.{ltb}
 use lib.ListN.{length}
 use Rattle.field.specs.Split.{split, lineFeed}
 use Rattle.field.proofs.Cutting.{rest-few}
-use Rattle.record.specs.StepLine.{stepLineOf}
-use Rattle.record.specs.declared.steps.StepLine.{StepLine}
-use Rattle.record.specs.declared.steps.StepLine.the-variants.{Step as StepOf, End, Wrong}
-use Rattle.grid.specs.declared.refusal.Refusal.{Refusal}
-use Rattle.grid.specs.declared.refusal.Refusal.the-variants.{TextTooLong, OutOfRange, TooManySteps}
-use Rattle.grid.specs.Refusals.{placeOf}
+use Rattle.stepline.specs.StepLine.{stepLineOf}
+use Rattle.stepline.specs.declared.StepLine.{StepLine}
+use Rattle.stepline.specs.declared.StepLine.the-variants.{Step as StepOf, End, Wrong}
+use Rattle.refusals.specs.declared.Refusal.{Refusal}
+use Rattle.refusals.specs.declared.Refusal.the-variants.{TextTooLong, OutOfRange, TooManySteps}
+use Rattle.refusals.specs.Refusals.{placeOf}
 use Rattle.grid.specs.Cases.{mostSteps}
-use Rattle.steptext.specs.Steps.{mostStepBytes, stepInRange, ended, lineSaid, stepLines, readSteps}
+use Rattle.grid.specs.Cases.{mostStepBytes}
+use Rattle.steptext.specs.Steps.{stepInRange, ended, lineSaid, stepLines, readSteps}
 use Rattle.steptext.specs.declared.StepsRead.{StepsRead}
 use Rattle.steptext.specs.declared.StepsRead.the-variants.{Steps, Refused}
 

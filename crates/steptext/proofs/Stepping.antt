@@ -10,12 +10,13 @@ use lib.ListN.{length, drop}
 use Rattle.field.specs.Split.{split, part, PieceEnd}
 use Rattle.field.proofs.Cutting.{after-none, after-some}
 use Rattle.step.specs.declared.Step.{Step}
-use Rattle.record.specs.StepLine.{stepLineOf}
-use Rattle.record.specs.declared.steps.StepLine.{StepLine}
-use Rattle.record.specs.declared.steps.StepLine.the-variants.{Step as StepOf}
+use Rattle.stepline.specs.StepLine.{stepLineOf}
+use Rattle.stepline.specs.declared.StepLine.{StepLine}
+use Rattle.stepline.specs.declared.StepLine.the-variants.{Step as StepOf}
 use Rattle.grid.specs.Cases.{mostSteps}
-use Rattle.grid.specs.declared.refusal.Refusal.the-variants.{TextTooLong, WrongForm, TooManySteps}
-use Rattle.steptext.specs.Steps.{mostStepBytes, stepInRange, ended, lineSaid, stepLines, readSteps, andSteps, stepsIn, stepsFrom, StepHere}
+use Rattle.refusals.specs.declared.Refusal.the-variants.{TextTooLong, WrongForm, TooManySteps}
+use Rattle.grid.specs.Cases.{mostStepBytes}
+use Rattle.steptext.specs.Steps.{stepInRange, ended, lineSaid, stepLines, readSteps, andSteps, stepsIn, stepsFrom, StepHere}
 use Rattle.steptext.specs.declared.StepsRead.{StepsRead}
 use Rattle.steptext.specs.declared.StepsRead.the-variants.{Refused}
 

@@ -4,28 +4,20 @@ use mathlib.Core.List.{List, [], _∷_}
 use Prim.Native.Nat.{ℕ, _+_, _-_, _≤_, _<_}
 use mathlib.Core.Path.{_≡_}
 use lib.Dec.{ltb}
-use lib.ListN.{length, drop, getD}
+use lib.ListN.{length, drop}
 use Rattle.field.specs.Split.{split, lineFeed}
-use Rattle.step.specs.Records.{noStep, written}
 use Rattle.step.specs.declared.Reason.{Reason}
 use Rattle.step.specs.declared.Reason.the-variants.{OwnUnit, NeighbourOf, ZeroInjection}
 use Rattle.step.specs.declared.Step.{Step}
-use Rattle.record.specs.StepLine.{stepLineOf}
-use Rattle.record.specs.declared.steps.StepLine.{StepLine}
-use Rattle.record.specs.declared.steps.StepLine.the-variants.{Step as StepOf, End, Wrong}
-use Rattle.grid.specs.Cases.{mostBuses, mostSteps}
-use Rattle.grid.specs.declared.refusal.Refusal.the-variants.{TextTooLong, WrongForm, OutOfRange, NoRoom, TooManySteps}
+use Rattle.stepline.specs.StepLine.{stepLineOf}
+use Rattle.stepline.specs.declared.StepLine.{StepLine}
+use Rattle.stepline.specs.declared.StepLine.the-variants.{Step as StepOf, End, Wrong}
+use Rattle.grid.specs.Cases.{mostBuses, mostSteps, mostStepBytes}
+use Rattle.refusals.specs.declared.Refusal.the-variants.{TextTooLong, WrongForm, OutOfRange, TooManySteps}
 use Rattle.rules.specs.Steps.{Names}
 use Rattle.judging.specs.Judging.{isBus}
 use Rattle.steptext.specs.declared.StepsRead.{StepsRead}
 use Rattle.steptext.specs.declared.StepsRead.the-variants.{Steps, Refused}
-use Rattle.steptext.specs.declared.NextStep.{NextStep}
-use Rattle.steptext.specs.declared.NextStep.the-variants.{At, Nothing}
-use Rattle.steptext.specs.declared.Taken.{Taken}
-
--- a step text has at most so many bytes
-abbrev pub mostStepBytes : ℕ
-mostStepBytes = 16384
 
 -- ---- one line
 
@@ -91,38 +83,7 @@ pub record StepHere (text : List ℕ) (a : ℕ) (x : Step) (e : ℕ) : Type 0 wh
   pub later : a < e
   pub high : e ≤ length text
 
--- by whether there is one
-abbrev pub StepAt : List ℕ → ℕ → NextStep → Type 0
-StepAt text a (At x e) = StepHere text a x e
-StepAt text a Nothing = stepsFrom text a ≡ []
-
 -- each step, in its bus and its reason, names buses 1 to 64
 abbrev pub AllNamed : List Step → Type 0
 AllNamed [] = Unit {0}
 AllNamed (x ∷ xs) = Names mostBuses x × AllNamed xs
-
--- ---- a step text read into lent records, which hold `before` and then `after`
-
--- what is said where there is room for so many records: 6 comes last
-abbrev pub withRoom : ℕ → StepsRead → StepsRead
-withRoom room (Steps n) = cond (ltb room n) (Refused NoRoom) (Steps n)
-withRoom room (Refused q) = Refused q
-
--- what the records hold afterwards: the steps, and then what they held; a refusal leaves every record
-abbrev pub leaves : StepsRead → List Step → List Step → List Step
-leaves (Steps n) xs before = written xs before
-leaves (Refused q) xs before = before
-
--- the reply, and what every record lent holds afterwards
-abbrev pub StepsReadReply : List ℕ → List Step → List Step → StepsRead → Type 0
-StepsReadReply text before after r = (r ≡ withRoom (length before) (readSteps text)) × (after ≡ leaves r (stepsOf text) before)
-
--- how many records are written
-abbrev pub countOf : StepsRead → ℕ
-countOf (Steps n) = n
-countOf (Refused q) = 0
-
--- the first step from index a on, and the next line's start: the other steps are those from there on
-pub record Takes (text : List ℕ) (a : ℕ) (r : Taken) : Type 0 where
-  pub step : r .step ≡ getD (stepsFrom text a) 0 noStep
-  pub rest : stepsFrom text (r .next) ≡ drop 1 (stepsFrom text a)

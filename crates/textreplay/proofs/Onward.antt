@@ -6,18 +6,19 @@ use native.Mathlib.Omega.{arith}
 use lib.ListN.{length}
 use Rattle.step.specs.declared.Step.{Step}
 use Rattle.grid.specs.declared.Case.{Case}
-use Rattle.grid.specs.declared.refusal.Refusal.{Refusal}
+use Rattle.refusals.specs.declared.Refusal.{Refusal}
 use Rattle.following.specs.Following.{AppliedTo, Applied, Begun, Follows, none, next}
 use Rattle.following.specs.declared.Standing.the-variants.{Bad}
-use Rattle.following.specs.Replies.{ReplayReply, EndedAt}
+use Rattle.ending.specs.Replies.{ReplayReply, EndedAt}
 use Rattle.following.specs.declared.Following.{Following}
 use Rattle.following.specs.declared.Task.the-variants.{Replay}
-use Rattle.following.specs.declared.Replayed.{Replayed}
-use Rattle.following.specs.declared.Replayed.the-variants as replayed
-use Rattle.following.proofs.Outcomes.{replay-law}
-use Rattle.steptext.specs.Steps.{readSteps, stepsFrom, stepsOf, StepHere, StepAt}
-use Rattle.steptext.specs.declared.NextStep.{NextStep}
-use Rattle.steptext.specs.declared.NextStep.the-variants.{At, Nothing}
+use Rattle.ending.specs.declared.Replayed.{Replayed}
+use Rattle.ending.specs.declared.Replayed.the-variants as replayed
+use Rattle.ending.proofs.Outcomes.{replay-law}
+use Rattle.steptext.specs.Steps.{readSteps, stepsFrom, stepsOf, StepHere}
+use Rattle.taking.specs.Taking.{StepAt}
+use Rattle.taking.specs.declared.NextStep.{NextStep}
+use Rattle.taking.specs.declared.NextStep.the-variants.{At, Nothing}
 use Rattle.steptext.specs.declared.StepsRead.{StepsRead}
 use Rattle.steptext.specs.declared.StepsRead.the-variants as read
 use Rattle.textreplay.specs.Replying.{TextReplayAt, TextReplayReply, Followed}

@@ -6,10 +6,10 @@ use lib.ListN.{length}
 use Rattle.step.specs.declared.Step.{Step}
 use Rattle.grid.specs.declared.Case.{Case}
 use Rattle.following.specs.Following.{Begun, Follows}
-use Rattle.following.specs.Replies.{ReplayReply}
+use Rattle.ending.specs.Replies.{ReplayReply}
 use Rattle.following.specs.declared.Following.{Following}
 use Rattle.following.specs.declared.Task.the-variants.{Replay}
-use Rattle.following.specs.declared.Replayed.the-variants as replayed
+use Rattle.ending.specs.declared.Replayed.the-variants as replayed
 use Rattle.steptext.specs.Steps.{readSteps, stepsOf}
 use Rattle.steptext.specs.declared.StepsRead.{StepsRead}
 use Rattle.steptext.specs.declared.StepsRead.the-variants as read

@@ -4,19 +4,19 @@ ghost use lib.ListN.{length};
 ghost use Rattle.steptext.specs.Steps.{stepsOf};
 ghost use Rattle.textreplay.specs.Replying.{Followed, TextReplayReply};
 use busset::BusSet;
+use ending::Replayed;
+use ending::ended;
 use following::Following;
-use following::Replayed;
 use following::Standing;
 use following::Task;
 use following::apply;
 use following::begin;
-use following::ended;
 use grid::Case;
-use grid::Refusal;
-use steptext::NextStep;
+use refusals::Refusal;
 use steptext::StepsRead;
 use steptext::check_steps;
-use steptext::step_at;
+use taking::NextStep;
+use taking::step_at;
 
 // The set reached and whether the list is finished; a refusal of the list; a refusal in reading its text.
 pub enum TextReplayed {

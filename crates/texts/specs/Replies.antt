@@ -1,18 +1,18 @@
--- What each call on texts promises; for `read_steps` it is steptext's `StepsReadReply`.
+-- What each call on texts promises; for `read_steps` it is `StepsReadReply` (crate taking).
 use mathlib.Core.Path.{_≡_}
 use mathlib.Core.List.{List, [], _∷_, _++_}
 use Prim.Native.Nat.{ℕ, _≤_}
 use lib.ListN.{length, drop}
 use Rattle.grid.specs.declared.Case.{Case}
 use Rattle.grid.specs.Cases.{Valid}
-use Rattle.grid.specs.Refusals.{Check, check, Passed, Failed}
+use Rattle.refusals.specs.Refusals.{Check, check, Passed, Failed}
 use Rattle.reader.specs.Reading.{readCase}
 use Rattle.reader.specs.Writing.{caseText}
 use Rattle.reader.specs.declared.CaseRead.{CaseRead}
 use Rattle.steptext.specs.Steps.{readSteps}
 use Rattle.steptext.specs.declared.StepsRead.{StepsRead}
-use Rattle.writer.specs.declared.Written.{Written}
-use Rattle.writer.specs.declared.Written.the-variants as written
+use Rattle.putting.specs.declared.Written.{Written}
+use Rattle.putting.specs.declared.Written.the-variants as written
 
 -- ---- a case text read: 1, then the first bad line, in it 2, 3, 4
 

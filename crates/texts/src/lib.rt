@@ -1,10 +1,10 @@
 // The texts: a case text read and written, a step text checked.
 ghost use Rattle.texts.specs.Replies.{CaseReadReply, CaseWrittenReply, StepsCheckedReply};
 use grid::Case;
-use grid::Refusal;
+use putting::Written;
 use reader::CaseRead;
+use refusals::Refusal;
 use steptext::StepsRead;
-use writer::Written;
 
 // The case that a text says.
 pub fn read_case(text: &[u8]) -> CaseRead

@@ -1,8 +1,8 @@
 // Reads the case text on standard input 20,000 times and prints the last answer: 100 times the place plus the refusal number, or 0.
 ghost use mathlib.Core.Path.{_≡_};
-use grid::Refusal;
-use grid::refusal::number;
-use grid::refusal::place;
+use refusals::Refusal;
+use refusals::number;
+use refusals::place;
 use wozgrzyt::ReadAnswer;
 use wozgrzyt::read_case;
 

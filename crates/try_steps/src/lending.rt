@@ -2,9 +2,9 @@
 ghost use Prim.Native.Nat.{_≤_};
 ghost use lib.ListN.{take, drop};
 ghost use mathlib.Core.Path.{_≡_};
-ghost use Rattle.following.specs.Replies.{ReplayReply, WeaveReply};
-use following::Replayed;
-use following::Wove;
+ghost use Rattle.ending.specs.Replies.{ReplayReply, WeaveReply};
+use ending::Replayed;
+use ending::Wove;
 use grid::Case;
 use step::Step;
 

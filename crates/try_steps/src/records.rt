@@ -3,9 +3,9 @@ use crate::lending::Shown;
 use crate::lending::weave_first;
 use crate::plans;
 use crate::plans::Plan;
-use following::Wove;
+use ending::Wove;
 use grid::Case;
-use grid::Refusal;
+use refusals::Refusal;
 use step::Reason;
 use step::Step;
 

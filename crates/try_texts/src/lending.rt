@@ -2,9 +2,9 @@
 ghost use Prim.Native.Nat.{_≤_};
 ghost use lib.ListN.{take, drop};
 ghost use mathlib.Core.Path.{_≡_};
-ghost use Rattle.steptext.specs.Steps.{StepsReadReply};
-use desks::texts::read_steps;
+ghost use Rattle.taking.specs.Taking.{StepsReadReply};
 use step::Step;
+use stepreader::read_steps;
 use steptext::StepsRead;
 
 // What reading says, and the records after it.

@@ -9,11 +9,11 @@ mod lending;
 mod records;
 mod splice;
 
-use grid::Refusal;
-use grid::refusal::number;
-use grid::refusal::place;
 use lending::Filled;
 use lending::read_first;
+use refusals::Refusal;
+use refusals::number;
+use refusals::place;
 use splice::Room;
 use splice::pad;
 use splice::spliced;

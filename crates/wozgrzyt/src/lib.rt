@@ -3,7 +3,7 @@
 // what is asked with, and why it is refused
 pub use busset::BusSet;
 pub use grid::Case;
-pub use grid::Refusal;
+pub use refusals::Refusal;
 pub use step::Reason;
 pub use step::Step;
 
@@ -21,9 +21,9 @@ pub use deriving::Derived;
 pub use deriving::derivation;
 pub use desks::replay;
 pub use desks::weave;
-pub use following::Replayed;
-pub use following::Wove;
-pub use following::lists::StepList;
+pub use ending::Replayed;
+pub use ending::Wove;
+pub use steplist::StepList;
 
 // the siting group: cross-validation, greedy placement and the fewest units
 pub use siting::Fewest;
@@ -34,16 +34,16 @@ pub use siting::place_fewest;
 pub use siting::place_greedy;
 
 // texts: a case text read and written, a step text checked, read and replayed
-pub use desks::texts::read_steps;
+pub use putting::Written;
 pub use reader::CaseRead;
 pub use reader::ReadAnswer;
+pub use stepreader::read_steps;
 pub use steptext::StepsRead;
 pub use textreplay::TextReplayed;
 pub use textreplay::replay_text;
 pub use texts::check_steps;
 pub use texts::read_case;
 pub use texts::write_case;
-pub use writer::Written;
 
 // what the programs print
 pub use dayreport::day_report;

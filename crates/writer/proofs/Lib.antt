@@ -1,5 +1,1 @@
-pub mod Putting
 pub mod Turns
-pub mod Whole
-pub mod Printed
-pub mod StepLines

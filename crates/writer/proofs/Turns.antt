@@ -1,4 +1,4 @@
--- The text of a case, turn after turn: putting the whole from where it begins is putting what is left from here.
+-- The text of a case, turn after turn.
 use mathlib.Core.Path.{_≡_, refl, sym, ap, _∙_}
 use mathlib.Core.Bool.{Bool, true, false, cond}
 use mathlib.Core.List.{List, [], _∷_, _++_, append-assoc}
@@ -6,7 +6,6 @@ use Prim.Native.Nat.{ℕ, suc, _+_, _-_, _*_, _≤_, _<_}
 use native.Mathlib.Omega.{arith}
 use borrow.Author.Tests.{eq-eqb, ne-eqb}
 use lib.ListN.{length, length-append}
-use lib.Seq.{sets}
 use Rattle.busset.specs.Deciding.{Decides}
 use Rattle.busset.specs.Sets.{bit, In}
 use Rattle.busset.proofs.Tests.{refutes}
@@ -16,31 +15,9 @@ use Rattle.record.specs.declared.Record.the-variants.{Line}
 use Rattle.record.proofs.Lengths.{record-length}
 use Rattle.reader.specs.Writing.{has, busRecord, busRecords, members, lineRecords, linesText}
 use Rattle.reader.proofs.Lengths.{lines-length, members-length}
-use Rattle.writer.specs.Put.{Put, lineText}
-use Rattle.writer.proofs.Putting.{sets-append, put-length}
-
--- ---- what is left
-
-pub record Left (l : List ℕ) (at : ℕ) (whole m : List ℕ) (k : ℕ) (rest : List ℕ) : Type 0 where
-  pub is : sets m k rest ≡ sets l at whole
-  pub next : k + length rest ≡ at + length whole
-  pub size : length m ≡ length l
-
-pub left-none : {l whole rest : List ℕ} {at : ℕ} → rest ≡ whole → Left l at whole l at rest
-left-none {l} {at = at} e = record { is = ap (sets l at) e; next = ap (λ (t : List ℕ). at + length t) e; size = refl }
-
-pub left-more : {l whole m rest t u n : List ℕ} {at k q : ℕ} → Left l at whole m k rest → rest ≡ t ++ u → Put m k t n q → Left l at whole n q u
-left-more {l} {whole} {m} {rest} {t} {u} {n} {at} {k} {q} w e p = record {
-  is = rw (p .put, p .next) (sets-append m t u k) ∙ ap (sets m k) (sym e) ∙ w .is;
-  next = omega (arith, w .next, p .next, ap length e, length-append t u);
-  size = put-length p ∙ w .size;
-}
-
-pub left-all : {l whole m rest : List ℕ} {at k : ℕ} → Left l at whole m k rest → rest ≡ [] → Put l at whole m k
-left-all {l} {whole} {m} {rest} {at} {k} w e = record {
-  put = ap (sets m k) (sym e) ∙ w .is;
-  next = omega (arith, w .next, ap length e);
-}
+use Rattle.putting.specs.Put.{Put}
+use Rattle.writer.specs.Lines.{lineText}
+use Rattle.putting.proofs.Left.{Left, left-none, left-more, left-all}
 
 -- ---- a record's line
 

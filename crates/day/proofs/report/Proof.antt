@@ -1,5 +1,5 @@
 use native.Mathlib.Omega.{arith}
-use Rattle.writer.proofs.Printed.{in-bytes, no-refusal}
+use Rattle.printer.proofs.Printed.{in-bytes, no-refusal}
 use Rattle.dayreport.proofs.Days.{day-fits}
 use borrow.Author.Needs.{needs}
 use Rattle.day.proofs.report.Statement.{statement}

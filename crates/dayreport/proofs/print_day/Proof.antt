@@ -1,4 +1,4 @@
-use Rattle.writer.proofs.Printed.{put-printed, not-printed}
+use Rattle.printer.proofs.Printed.{put-printed, not-printed}
 use borrow.Author.Needs.{needs}
 use Rattle.dayreport.proofs.print_day.Statement.{statement}
 use Rattle.dayreport.proofs.print_day.Tie as tie

@@ -1,4 +1,4 @@
-use Rattle.writer.proofs.Printed.{printed-by}
+use Rattle.printer.proofs.Printed.{printed-by}
 use Rattle.dayreport.proofs.Reports.{derived-named, reported}
 use borrow.Author.Needs.{needs}
 use Rattle.dayreport.proofs.report.Statement.{statement}

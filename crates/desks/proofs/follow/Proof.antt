@@ -56,10 +56,11 @@ use Rattle.following.proofs.apply as apply
 use Rattle.following.proofs.apply.Symbol as apply-def
 use Rattle.following.proofs.apply.Symbol.{name as #following·apply}
 use Rattle.following.proofs.apply.Met as apply-thm
-use Rattle.desks.proofs.Rows.{case-made, case-typed, following-made, following-typed, step-made, step-typed}
-use Rattle.desks.proofs.Calling.{calls-plain}
-use Rattle.desks.proofs.Counting.{next-fits, next-le, nearer, Nearer, nearer-wf, below, above, drop-next}
-use Rattle.desks.proofs.Walking.{let-go, walk-proves}
+use Rattle.desks.proofs.Rows.{case-made, case-typed, following-made, following-typed}
+use Rattle.walking.proofs.StepRow.{step-made, step-typed}
+use Rattle.walking.proofs.Calling.{calls-plain}
+use Rattle.walking.proofs.Counting.{next-fits, next-le, nearer, Nearer, nearer-wf, below, above, drop-next}
+use Rattle.walking.proofs.Walking.{let-go, walk-proves}
 use Rattle.desks.proofs.follow.Key.{name as #desks·follow}
 use Rattle.desks.proofs.follow as f
 use Rattle.desks.proofs.follow.Statement as stated

@@ -37,21 +37,21 @@ use Rattle.step.proofs.Step as T
 use Rattle.grid.specs.declared.Case.{Case}
 use Rattle.grid.proofs.Case as D
 use Rattle.grid.proofs.Case.Laws as D′
-use Rattle.following.specs.Replies.{EndedAt, ReplayReply}
+use Rattle.ending.specs.Replies.{EndedAt, ReplayReply}
 use Rattle.following.specs.declared.Task.the-variants.{Replay}
-use Rattle.following.specs.declared.Replayed.{Replayed}
-use Rattle.following.proofs.Outcomes.{replay-law}
-use Rattle.following.proofs.Replayed as R
+use Rattle.ending.specs.declared.Replayed.{Replayed}
+use Rattle.ending.proofs.Outcomes.{replay-law}
+use Rattle.ending.proofs.Replayed as R
 use Rattle.following.proofs.begin.Symbol as begin-def
 use Rattle.following.proofs.begin.Symbol.{name as #following·begin}
 use Rattle.following.proofs.begin.Met as begin-thm
-use Rattle.following.proofs.ended as ended
-use Rattle.following.proofs.ended.Symbol as ended-def
-use Rattle.following.proofs.ended.Symbol.{name as #following·ended}
-use Rattle.following.proofs.ended.Met as ended-thm
+use Rattle.ending.proofs.ended as ended
+use Rattle.ending.proofs.ended.Symbol as ended-def
+use Rattle.ending.proofs.ended.Symbol.{name as #ending·ended}
+use Rattle.ending.proofs.ended.Met as ended-thm
 use Rattle.desks.proofs.Rows.{case-made, case-typed, following-made, following-typed, task-is, task-typed, replayed-made, replayed-typed}
-use Rattle.desks.proofs.Calling.{calls-plain}
-use Rattle.desks.proofs.Walking.{let-go, walk-proves}
+use Rattle.walking.proofs.Calling.{calls-plain}
+use Rattle.walking.proofs.Walking.{let-go, walk-proves}
 use Rattle.desks.proofs.Beginning.{Begin, Follow, calls-begin, calls-follow}
 use Rattle.desks.proofs.follow.Symbol as follow-def
 use Rattle.desks.proofs.follow.Symbol.{name as #desks·follow}
@@ -97,7 +97,7 @@ module _ {M : Type 1} (𝓤 : URA M) (H : Heap 𝓤) (A : Atoms 𝓤) (W : Given
       use1 W (‵ (flft κ q) ⊛ ‵ ftrue) (id⊢ 𝓤 _) $ frame ! $ nothing ! $ nothing ! $ fjoin ! $ owned ! D.the-row (Is D.the-row) (case-made 𝓤 H A) cs _ gcs $ fjoin ! $ frame ! $
       owned ! R.the-row (Is R.the-row) (replayed-made 𝓤 H A) r _ is $ done !
 
-  module _ (𝓣 : Tables 𝓤 H) (begins : Triple 𝓤 (𝓣 .C #following·begin) (Begin 𝓤 H A mem run)) (follows : Triple 𝓤 (𝓣 .C #desks·follow) (Follow 𝓤 H A mem run)) (ends : Triple 𝓤 (𝓣 .C #following·ended) (End 𝓤 H A mem run)) where
+  module _ (𝓣 : Tables 𝓤 H) (begins : Triple 𝓤 (𝓣 .C #following·begin) (Begin 𝓤 H A mem run)) (follows : Triple 𝓤 (𝓣 .C #desks·follow) (Follow 𝓤 H A mem run)) (ends : Triple 𝓤 (𝓣 .C #ending·ended) (End 𝓤 H A mem run)) where
     walk : ent 𝓤 (onEntry 𝓤 H A f.signature (κ, tt) (q, tt) a at) (WpFn 𝓤 H (𝓣 .C) (𝓣 .Λ) code.function (cmach ∷ sliceVal (b, o) n ∷ []) Post)
     walk =
         qed W (raw (alive 𝓤 H A f.signature (κ, tt) (q, tt)) ∷ ‵ (owns (D.the-row ∷ ShrSlice (named 0) κ T.the-row ∷ []) a at) ∷ []) ∵ enter ! (𝓣 .C) (𝓣 .Λ) code.function (cmach ∷ sliceVal (b, o) n ∷ []) _ $
@@ -120,7 +120,7 @@ module _ {M : Type 1} (𝓤 : URA M) (H : Heap 𝓤) (A : Atoms 𝓤) (W : Given
         let-go ! $ let-go ! $ let-go ! $ let-go ! $ let-go ! $ let-go ! $ let-go ! $ free0 ! $
         by ! (exits r v gr (replay-law ys r e₁ e₂ e₃))))))))))))
 
-module _ {M : Type 1} (𝓤 : URA M) (H : Heap 𝓤) (A : Atoms 𝓤) (W : Given 𝓤 H A) (mem : Memory → SProp 𝓤) (run : Routine → Fun 𝓤) (𝓣 : Tables 𝓤 H) (begins : Triple 𝓤 (𝓣 .C #following·begin) (Begin 𝓤 H A mem run)) (follows : Triple 𝓤 (𝓣 .C #desks·follow) (Follow 𝓤 H A mem run)) (ends : Triple 𝓤 (𝓣 .C #following·ended) (End 𝓤 H A mem run)) where
+module _ {M : Type 1} (𝓤 : URA M) (H : Heap 𝓤) (A : Atoms 𝓤) (W : Given 𝓤 H A) (mem : Memory → SProp 𝓤) (run : Routine → Fun 𝓤) (𝓣 : Tables 𝓤 H) (begins : Triple 𝓤 (𝓣 .C #following·begin) (Begin 𝓤 H A mem run)) (follows : Triple 𝓤 (𝓣 .C #desks·follow) (Follow 𝓤 H A mem run)) (ends : Triple 𝓤 (𝓣 .C #ending·ended) (End 𝓤 H A mem run)) where
   meets : Meets 𝓤 H A f.signature (WpFn 𝓤 H (𝓣 .C) (𝓣 .Λ) code.function) (f.spec 𝓤 H A mem run)
   meets =
       walk-proves 𝓤 H A W f.ended stayed (f.clauses 𝓤 H A mem run) 𝓣 code.function (goes-none 𝓤 H A W 1 (λ _. D.the-row) yes (λ κs x f. refl), (goes-dropped 𝓤 H A W 1 (shrSliceOf (0 ∷ []) tt (plain (λ _. T.the-row))) yes (λ κs x f. refl), tt))
@@ -135,4 +135,4 @@ replay-spec 𝓤 H 𝓜 𝓖 𝓡 =
     (meets 𝓤 H (𝓖 .A) (givenOf 𝓤 H 𝓜 𝓖) (𝓜 .mem) (𝓡 .run) (tablesOf 𝓤 H 𝓜 (tables 𝓤 H 𝓜 𝓡 code.env))
     (cited 𝓤 H (Begin 𝓤 H (𝓖 .A) (𝓜 .mem) (𝓡 .run)) 𝓜 𝓡 code.env #following·begin begin-def.routine code.calls-following·begin (begin-thm.met 𝓤 H 𝓜 𝓖 𝓡))
     (cited 𝓤 H (Follow 𝓤 H (𝓖 .A) (𝓜 .mem) (𝓡 .run)) 𝓜 𝓡 code.env #desks·follow follow-def.routine code.calls-desks·follow (follow-thm.met 𝓤 H 𝓜 𝓖 𝓡))
-    (cited 𝓤 H (End 𝓤 H (𝓖 .A) (𝓜 .mem) (𝓡 .run)) 𝓜 𝓡 code.env #following·ended ended-def.routine code.calls-following·ended (ended-thm.met 𝓤 H 𝓜 𝓖 𝓡)))
+    (cited 𝓤 H (End 𝓤 H (𝓖 .A) (𝓜 .mem) (𝓡 .run)) 𝓜 𝓡 code.env #ending·ended ended-def.routine code.calls-ending·ended (ended-thm.met 𝓤 H 𝓜 𝓖 𝓡)))

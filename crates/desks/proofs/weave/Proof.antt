@@ -37,18 +37,18 @@ use Rattle.step.proofs.Step as T
 use Rattle.grid.specs.declared.Case.{Case}
 use Rattle.grid.proofs.Case as D
 use Rattle.grid.proofs.Case.Laws as D′
-use Rattle.following.specs.Replies.{Put, WeaveReply}
+use Rattle.ending.specs.Replies.{Put, WeaveReply}
 use Rattle.following.specs.declared.Task.the-variants.{Weave}
-use Rattle.following.specs.declared.Wove.{Wove}
-use Rattle.following.proofs.Outcomes.{weave-law}
+use Rattle.ending.specs.declared.Wove.{Wove}
+use Rattle.ending.proofs.Outcomes.{weave-law}
 use Rattle.following.proofs.Following as S
-use Rattle.following.proofs.Wove as O
+use Rattle.ending.proofs.Wove as O
 use Rattle.following.proofs.begin.Symbol as begin-def
 use Rattle.following.proofs.begin.Symbol.{name as #following·begin}
 use Rattle.following.proofs.begin.Met as begin-thm
 use Rattle.desks.proofs.Rows.{case-made, case-typed, following-made, following-typed, task-is, task-typed, wove-made, wove-typed}
-use Rattle.desks.proofs.Calling.{calls-lent}
-use Rattle.desks.proofs.Walking.{let-go, walk-proves}
+use Rattle.walking.proofs.Calling.{calls-lent}
+use Rattle.walking.proofs.Walking.{let-go, walk-proves}
 use Rattle.desks.proofs.Beginning.{Begin, Follow, calls-begin, calls-follow}
 use Rattle.desks.proofs.follow as follow
 use Rattle.desks.proofs.follow.Symbol as follow-def

@@ -2,7 +2,7 @@ use mathlib.Core.Logic.{inl, inr}
 use native.Mathlib.Omega.{arith}
 use borrow.Author.Tests.{not-true, not-false}
 use Rattle.busset.proofs.Tests.{refutes}
-use Rattle.grid.proofs.Orders.{itself}
+use Rattle.refusals.proofs.Orders.{itself}
 use Rattle.following.proofs.Starts.{begun-bad, begun-good}
 use borrow.Author.Needs.{needs}
 use Rattle.following.proofs.begin.Statement.{statement}

@@ -1,3 +1,4 @@
+use mathlib.Core.Path.{refl}
 use borrow.Author.Needs.{needs}
 use Rattle.judging.proofs.in_order.Statement.{statement}
 use Rattle.judging.proofs.in_order.Tie as tie
@@ -36,13 +37,13 @@ returns : tie.Need-returns
 returns c = search needs
 
 returns-2 : tie.Need-returns-2
-returns-2 c = rw (c .before .before .r .given .1) (cc)
+returns-2 c = rw (c .before .before .r .given .1) (c .is-next .ensures)
 
 returns-3 : tie.Need-returns-3
-returns-3 c = rw (c .before .before .before .before .r2 .given .1) (cc)
+returns-3 c = rw (c .before .before .before .before .r2 .given .1, c .both .ensures, c .before .is-after .ensures, c .before .before .is-less .ensures) refl
 
 returns-4 : tie.Need-returns-4
-returns-4 c = rw (c .before .before .r3 .given .1) (cc)
+returns-4 c = rw (c .before .before .r3 .given .1) refl
 
 returns-5 : tie.Need-returns-5
 returns-5 c = search needs

@@ -1,3 +1,4 @@
+use mathlib.Core.Path.{refl}
 use borrow.Author.Needs.{needs}
 use Rattle.judging.proofs.in_place.Statement.{statement}
 use Rattle.judging.proofs.in_place.Tie as tie
@@ -36,19 +37,19 @@ enum-told-6 : tie.Need-enum-told-6
 enum-told-6 c = search needs
 
 returns : tie.Need-returns
-returns c = rw (c .before .enum-told .given .1) (cc)
+returns c = rw (c .before .enum-told .given .1) refl
 
 returns-2 : tie.Need-returns-2
-returns-2 c = rw (c .before .enum-told2 .given .1) (cc)
+returns-2 c = rw (c .before .enum-told2 .given .1) refl
 
 returns-3 : tie.Need-returns-3
-returns-3 c = rw (c .before .before .before .enum-told3 .given .1) (cc)
+returns-3 c = rw (c .before .before .before .enum-told3 .given .1, c .both .ensures, c .before .is-zero .ensures, c .before .before .is-past-buses .ensures) refl
 
 returns-4 : tie.Need-returns-4
-returns-4 c = rw (c .before .enum-told4 .given .1) (cc)
+returns-4 c = rw (c .before .enum-told4 .given .1) (c .is-past-buses2 .ensures)
 
 returns-5 : tie.Need-returns-5
-returns-5 c = rw (c .before .enum-told5 .given .1) (cc)
+returns-5 c = rw (c .before .enum-told5 .given .1) (c .is-past-buses3 .ensures)
 
 returns-6 : tie.Need-returns-6
 returns-6 c = search needs

@@ -12,7 +12,7 @@ use Rattle.busset.proofs.Tests.{refutes}
 use Rattle.busset.proofs.Members.{bus-more, decides-in}
 use Rattle.rules.specs.Figures.{figure}
 use Rattle.grid.specs.Cases.{neighbours, Valid}
-use Rattle.grid.proofs.Orders.{itself}
+use Rattle.refusals.proofs.Orders.{itself}
 use borrow.Author.Needs.{needs}
 use Rattle.observing.proofs.firing_figure.Statement.{statement}
 use Rattle.observing.proofs.firing_figure.Tie as tie

@@ -1,7 +1,7 @@
 use mathlib.Core.Logic.{inl}
 use borrow.Author.Tests.{not-true, not-false}
 use Rattle.busset.proofs.Tests.{refutes}
-use Rattle.grid.proofs.Orders.{itself}
+use Rattle.refusals.proofs.Orders.{itself}
 use borrow.Author.Needs.{needs}
 use Rattle.observing.proofs.observed_set.Statement.{statement}
 use Rattle.observing.proofs.observed_set.Tie as tie

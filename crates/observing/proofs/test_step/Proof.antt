@@ -10,7 +10,7 @@ use Rattle.busset.proofs.Members.{decides-in, out-of}
 use Rattle.rules.specs.Steps.{Names, Holds}
 use Rattle.rules.proofs.Reasons.{names-more}
 use Rattle.grid.specs.Cases.{gridOf, Valid}
-use Rattle.grid.proofs.Orders.{itself}
+use Rattle.refusals.proofs.Orders.{itself}
 use Rattle.observing.specs.Replies.{stated}
 use borrow.Author.Needs.{needs}
 use Rattle.observing.proofs.test_step.Statement.{statement}

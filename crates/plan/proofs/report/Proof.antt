@@ -1,5 +1,5 @@
 use native.Mathlib.Omega.{arith}
-use Rattle.writer.proofs.Printed.{in-bytes, no-refusal}
+use Rattle.printer.proofs.Printed.{in-bytes, no-refusal}
 use Rattle.planreport.proofs.Lengths.{plan-fits}
 use borrow.Author.Needs.{needs}
 use Rattle.plan.proofs.report.Statement.{statement}

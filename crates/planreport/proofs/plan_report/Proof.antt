@@ -1,6 +1,7 @@
 use native.Mathlib.Omega.{arith}
-use Rattle.writer.proofs.Printed.{printed-by}
-use Rattle.planreport.proofs.Inputs.{asked-valid, asked-placed, plan-by}
+use Rattle.printer.proofs.Printed.{printed-by}
+use Rattle.planinput.proofs.Inputs.{asked-valid, asked-placed}
+use Rattle.planreport.proofs.Reports.{plan-by}
 use borrow.Author.Needs.{needs}
 use Rattle.planreport.proofs.plan_report.Statement.{statement}
 use Rattle.planreport.proofs.plan_report.Tie as tie

@@ -1,4 +1,4 @@
-use Rattle.writer.proofs.Printed.{printed-by}
+use Rattle.printer.proofs.Printed.{printed-by}
 use Rattle.planreport.proofs.Reports.{over-budget, no-cover, fewest-found}
 use borrow.Author.Needs.{needs}
 use Rattle.planreport.proofs.report.Statement.{statement}

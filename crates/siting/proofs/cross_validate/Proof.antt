@@ -2,7 +2,7 @@ use mathlib.Core.Logic.{inl}
 use borrow.Author.Tests.{not-true, not-false}
 use Rattle.busset.proofs.Tests.{refutes}
 use Rattle.grid.specs.Cases.{Valid}
-use Rattle.grid.proofs.Orders.{itself}
+use Rattle.refusals.proofs.Orders.{itself}
 use borrow.Author.Needs.{needs}
 use Rattle.siting.proofs.cross_validate.Statement.{statement}
 use Rattle.siting.proofs.cross_validate.Tie as tie

@@ -5,7 +5,7 @@ use borrow.Author.Tests.{not-true, not-false}
 use Rattle.busset.proofs.Tests.{refutes}
 use Rattle.rules.proofs.Ordering.{fewest-some}
 use Rattle.grid.specs.Cases.{gridOf, Valid}
-use Rattle.grid.proofs.Orders.{itself}
+use Rattle.refusals.proofs.Orders.{itself}
 use Rattle.fewest.specs.declared.Found.{Found}
 use Rattle.fewest.specs.Answers.{FewestIs}
 use borrow.Author.Needs.{needs}

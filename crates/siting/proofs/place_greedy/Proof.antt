@@ -5,7 +5,7 @@ use borrow.Author.Tests.{not-true, not-false}
 use lib.ListN.{take}
 use Rattle.busset.proofs.Tests.{refutes}
 use Rattle.grid.specs.Cases.{gridOf, Valid}
-use Rattle.grid.proofs.Orders.{itself}
+use Rattle.refusals.proofs.Orders.{itself}
 use Rattle.greedy.specs.Choices.{Listed}
 use Rattle.greedy.proofs.Comparing.{listed-count, listed-room, listed-no-room}
 use borrow.Author.Needs.{needs}

@@ -6,12 +6,12 @@ use native.Mathlib.Omega.{arith}
 use borrow.Author.Tests.{not-true, not-false}
 use Rattle.busset.proofs.Tests.{refutes}
 use Rattle.grid.specs.declared.Case.{Case}
-use Rattle.grid.specs.Refusals.{Passed}
-use Rattle.grid.proofs.Orders.{itself}
+use Rattle.refusals.specs.Refusals.{Passed}
+use Rattle.refusals.proofs.Orders.{itself}
 use Rattle.reader.specs.Writing.{caseText}
-use Rattle.writer.specs.Put.{Put}
-use Rattle.writer.specs.declared.Written.the-variants.{Bytes}
-use Rattle.writer.proofs.Whole.{put-whole, put-count}
+use Rattle.putting.specs.Put.{Put}
+use Rattle.putting.specs.declared.Written.the-variants.{Bytes}
+use Rattle.putting.proofs.Whole.{put-whole, put-count}
 use borrow.Author.Needs.{needs}
 use Rattle.texts.specs.Replies.{writeChecks, CaseWrittenReply}
 use Rattle.texts.proofs.write_case.Statement.{statement}

@@ -1,7 +1,7 @@
 use Prim.Native.Nat.{_≤_}
 use Rattle.field.specs.Split.{join}
 use native.Mathlib.Omega.{arith}
-use Rattle.writer.proofs.Putting.{put-then, put-near}
+use Rattle.putting.proofs.Putting.{put-then, put-near}
 use Rattle.dayreport.proofs.Texts.{observed-put, list-length, verdict-length}
 use borrow.Author.Needs.{needs}
 use Rattle.dayreport.proofs.lines.put_day.Statement.{statement}

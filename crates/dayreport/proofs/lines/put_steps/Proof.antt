@@ -2,8 +2,8 @@ use borrow.Author.Needs.{needs}
 use Prim.Native.Nat.{_-_, _≤_}
 use mathlib.Core.Path.{_≡_, refl}
 use native.Mathlib.Omega.{arith}
-use Rattle.following.specs.Lists.{listed}
-use Rattle.writer.proofs.Turns.{Left, left-none, left-more, left-all}
+use Rattle.steplist.specs.Lists.{listed}
+use Rattle.putting.proofs.Left.{Left, left-none, left-more, left-all}
 use Rattle.dayreport.specs.Day.{stepsText}
 use Rattle.dayreport.proofs.Texts.{restSteps, rest-first, rest-next, rest-all, nth-named, list-length}
 use Rattle.dayreport.proofs.lines.put_steps.Statement.{statement}

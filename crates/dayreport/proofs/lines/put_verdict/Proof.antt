@@ -1,7 +1,7 @@
 use native.Mathlib.Omega.{arith}
 use Rattle.field.specs.Split.{join}
 use Rattle.field.proofs.Digits.{text-length}
-use Rattle.writer.proofs.Putting.{put-then}
+use Rattle.putting.proofs.Putting.{put-then}
 use Rattle.dayreport.proofs.Texts.{verdict-some}
 use borrow.Author.Needs.{needs}
 use Rattle.dayreport.proofs.lines.put_verdict.Statement.{statement}

@@ -1,4 +1,4 @@
-use Rattle.writer.proofs.Printed.{put-printed, not-printed}
+use Rattle.printer.proofs.Printed.{put-printed, not-printed}
 use borrow.Author.Needs.{needs}
 use Rattle.planreport.proofs.printing.print_plan.Statement.{statement}
 use Rattle.planreport.proofs.printing.print_plan.Tie as tie

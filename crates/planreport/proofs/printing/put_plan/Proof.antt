@@ -4,7 +4,7 @@ use Rattle.field.specs.Split.{join}
 use Rattle.field.proofs.Digits.{text-length}
 use Rattle.reader.proofs.Lengths.{members-most}
 use Rattle.planreport.proofs.Reports.{plan-put}
-use Rattle.writer.proofs.Putting.{put-near}
+use Rattle.putting.proofs.Putting.{put-near}
 use borrow.Author.Needs.{needs}
 use Rattle.planreport.proofs.printing.put_plan.Statement.{statement}
 use Rattle.planreport.proofs.printing.put_plan.Tie as tie

@@ -46,11 +46,12 @@ use Rattle.step.proofs.Step.Laws as T′
 use Rattle.grid.specs.declared.Case.{Case}
 use Rattle.grid.proofs.Case as D
 use Rattle.grid.proofs.Case.Laws as D′
-use Rattle.following.specs.Replies.{ReplayReply}
-use Rattle.following.specs.declared.Replayed.{Replayed}
-use Rattle.following.proofs.Replayed as R
-use Rattle.desks.proofs.Rows.{case-made, case-typed, step-made, replayed-made, replayed-typed}
-use Rattle.desks.proofs.Calling.{calls-lent}
+use Rattle.ending.specs.Replies.{ReplayReply}
+use Rattle.ending.specs.declared.Replayed.{Replayed}
+use Rattle.ending.proofs.Replayed as R
+use Rattle.desks.proofs.Rows.{case-made, case-typed, replayed-made, replayed-typed}
+use Rattle.walking.proofs.StepRow.{step-made}
+use Rattle.walking.proofs.Calling.{calls-lent}
 use Rattle.desks.proofs.replay as replay
 use Rattle.desks.proofs.replay.Symbol as replay-def
 use Rattle.desks.proofs.replay.Symbol.{name as #desks·replay}

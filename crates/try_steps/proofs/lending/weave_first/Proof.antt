@@ -47,11 +47,12 @@ use Rattle.step.proofs.Step.Laws as T′
 use Rattle.grid.specs.declared.Case.{Case}
 use Rattle.grid.proofs.Case as D
 use Rattle.grid.proofs.Case.Laws as D′
-use Rattle.following.specs.Replies.{WeaveReply}
-use Rattle.following.specs.declared.Wove.{Wove}
-use Rattle.following.proofs.Wove as O
-use Rattle.desks.proofs.Rows.{case-made, case-typed, step-made, wove-typed}
-use Rattle.desks.proofs.Calling.{calls-lent}
+use Rattle.ending.specs.Replies.{WeaveReply}
+use Rattle.ending.specs.declared.Wove.{Wove}
+use Rattle.ending.proofs.Wove as O
+use Rattle.desks.proofs.Rows.{case-made, case-typed, wove-typed}
+use Rattle.walking.proofs.StepRow.{step-made}
+use Rattle.walking.proofs.Calling.{calls-lent}
 use Rattle.desks.proofs.weave as weave
 use Rattle.desks.proofs.weave.Symbol as weave-def
 use Rattle.desks.proofs.weave.Symbol.{name as #desks·weave}

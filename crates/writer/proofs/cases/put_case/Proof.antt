@@ -2,7 +2,7 @@ use Prim.Native.Nat.{_≤_}
 use native.Mathlib.Omega.{arith}
 use Rattle.reader.proofs.Lengths.{buses-most, rows-most, members-most}
 use Rattle.writer.proofs.Turns.{line-length, whole}
-use Rattle.writer.proofs.Putting.{put-then, put-same, put-near}
+use Rattle.putting.proofs.Putting.{put-then, put-same, put-near}
 use borrow.Author.Needs.{needs}
 use Rattle.writer.proofs.cases.put_case.Statement.{statement}
 use Rattle.writer.proofs.cases.put_case.Tie as tie

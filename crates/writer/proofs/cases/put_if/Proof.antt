@@ -1,4 +1,4 @@
-use Rattle.writer.proofs.Putting.{put-none}
+use Rattle.putting.proofs.Putting.{put-none}
 use borrow.Author.Needs.{needs}
 use Rattle.writer.proofs.cases.put_if.Statement.{statement}
 use Rattle.writer.proofs.cases.put_if.Tie as tie

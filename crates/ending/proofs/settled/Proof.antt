@@ -1,0 +1,22 @@
+use Rattle.ending.proofs.Ends.{settled-good, settled-full, settled-bad}
+use borrow.Author.Needs.{needs}
+use Rattle.ending.proofs.settled.Statement.{statement}
+use Rattle.ending.proofs.settled.Tie as tie
+
+enum-told : tie.Need-enum-told
+enum-told c = search needs
+
+enum-known-standing : tie.Need-enum-known-standing
+enum-known-standing c = search needs
+
+returns : tie.Need-returns
+returns c = settled-good _ _ (c .before .enum-told .given .1) (c .if1 .taken)
+
+returns-2 : tie.Need-returns-2
+returns-2 c = settled-full _ _ (c .before .enum-told .given .1) (c .if1 .left)
+
+returns-3 : tie.Need-returns-3
+returns-3 c = settled-bad _ _ (c .before .standing .given .1)
+
+pub settled-spec : {M : Type 1} → statement M
+settled-spec = tie.close (tie.spec enum-told enum-known-standing returns returns-2 returns-3)

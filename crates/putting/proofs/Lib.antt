@@ -1,0 +1,3 @@
+pub mod Putting
+pub mod Left
+pub mod Whole

@@ -1,0 +1,4 @@
+pub mod Calling
+pub mod Counting
+pub mod Walking
+pub mod StepRow
