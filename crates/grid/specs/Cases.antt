@@ -8,20 +8,23 @@ use Rattle.grid.specs.declared.Case.{Case}
 
 -- ---- the limits
 
+-- buses of a grid
 abbrev pub mostBuses : ℕ
 mostBuses = 64
 
+-- its lines
 abbrev pub mostLines : ℕ
 mostLines = 256
 
+-- steps of a list
 abbrev pub mostSteps : ℕ
 mostSteps = 1024
 
--- of a case text
+-- bytes of a case text
 abbrev pub mostBytes : ℕ
 mostBytes = 8192
 
--- of a step text
+-- bytes of a step text
 abbrev pub mostStepBytes : ℕ
 mostStepBytes = 16384
 

@@ -17,7 +17,7 @@ use Rattle.taking.specs.declared.Taken.{Taken}
 
 -- ---- one step
 
--- by whether there is one
+-- the step of the line that starts at index a, and where the next line starts; or that no step stands from there on
 abbrev pub StepAt : List ℕ → ℕ → NextStep → Type 0
 StepAt text a (At x e) = StepHere text a x e
 StepAt text a Nothing = stepsFrom text a ≡ []
