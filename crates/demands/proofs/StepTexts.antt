@@ -9,11 +9,10 @@ use Rattle.field.specs.Split.{split, lineFeed}
 use Rattle.stepline.specs.StepLine.{stepLineOf}
 use Rattle.stepline.specs.declared.StepLine.{StepLine}
 use Rattle.stepline.specs.declared.StepLine.the-variants as line
-use Rattle.grid.specs.Cases.{mostSteps}
+use Rattle.grid.specs.Cases.{mostSteps, mostStepBytes}
 use Rattle.refusals.specs.declared.Refusal.the-variants.{WrongForm, OutOfRange, TooManySteps}
 use Rattle.refusals.specs.Refusals.{Check, check}
 use Rattle.refusals.proofs.Orders.{itself}
-use Rattle.grid.specs.Cases.{mostStepBytes}
 use Rattle.steptext.specs.Steps.{stepInRange, ended, lineSaid, stepLines, readSteps}
 use Rattle.steptext.specs.declared.StepsRead.{StepsRead}
 use Rattle.steptext.specs.declared.StepsRead.the-variants.{Steps, Refused}

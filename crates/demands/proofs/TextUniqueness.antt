@@ -5,9 +5,8 @@ use Prim.Native.Nat.{ℕ, _≤_}
 use lib.ListN.{length}
 use Rattle.step.specs.declared.Step.{Step}
 use Rattle.grid.specs.declared.Case.{Case}
-use Rattle.grid.specs.Cases.{mostSteps, Valid}
+use Rattle.grid.specs.Cases.{mostSteps, Valid, mostBytes}
 use Rattle.refusals.proofs.Orders.{failed-unique, failed-or-passed}
-use Rattle.grid.specs.Cases.{mostBytes}
 use Rattle.reader.specs.Reading.{got}
 use Rattle.reader.specs.Writing.{caseText}
 use Rattle.reader.specs.declared.CaseRead.{CaseRead}

@@ -14,13 +14,11 @@ use Rattle.record.specs.declared.Record.the-variants.{Grid, Bus, Line, Pmu, End
 use Rattle.stepline.specs.declared.StepLine.{StepLine}
 use Rattle.stepline.specs.declared.StepLine.the-variants as line
 use Rattle.grid.specs.declared.Case.{Case}
-use Rattle.grid.specs.Cases.{mostSteps}
+use Rattle.grid.specs.Cases.{mostSteps, mostBytes, mostStepBytes}
 use Rattle.refusals.specs.Refusals.{Check, check}
 use Rattle.judging.specs.Judging.{inPlace, inRange, inOrder}
-use Rattle.grid.specs.Cases.{mostBytes}
 use Rattle.reader.specs.Reading.{Reader, start, next, readCase}
 use Rattle.ending.specs.Replies.{replayChecks}
-use Rattle.grid.specs.Cases.{mostStepBytes}
 use Rattle.steptext.specs.Steps.{stepInRange, stepsOf}
 use Rattle.planinput.specs.Asking.{budgetOf}
 

@@ -7,9 +7,7 @@ use lib.ListN.{replicate}
 use Rattle.busset.specs.Sets.{width}
 use Rattle.rules.specs.Grids.{Line, Proper, total, lineCount}
 use Rattle.grid.specs.declared.Case.{Case}
-use Rattle.grid.specs.Cases.{mostBuses, mostLines, mostSteps, neighbours, gridOf, LinesAt, Lines, Valid}
-use Rattle.grid.specs.Cases.{mostBytes}
-use Rattle.grid.specs.Cases.{mostStepBytes}
+use Rattle.grid.specs.Cases.{mostBuses, mostLines, mostSteps, neighbours, gridOf, LinesAt, Lines, Valid, mostBytes, mostStepBytes}
 use Rattle.planinput.specs.Asking.{mostBudget}
 use Rattle.starred.specs.Table.{caseOf, seven, path}
 use Rattle.examples.specs.Tables.{Right, Row, holds, fails}

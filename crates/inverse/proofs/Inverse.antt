@@ -8,10 +8,9 @@ use Rattle.busset.specs.Sets.{Out, Within, setOf}
 use Rattle.busset.proofs.Members.{out-of}
 use Rattle.field.specs.Split.{join}
 use Rattle.record.specs.declared.Record.the-variants.{Pmu}
-use Rattle.grid.specs.Cases.{neighbours, gridOf, Valid}
+use Rattle.grid.specs.Cases.{neighbours, gridOf, Valid, mostBytes}
 use Rattle.grid.specs.declared.Case.{Case}
 use Rattle.rules.specs.Grids.{Proper as ProperGrid}
-use Rattle.grid.specs.Cases.{mostBytes}
 use Rattle.reader.specs.Reading.{start, got, readLines, readCase}
 use Rattle.inverse.specs.Grammar.{Reads}
 use Rattle.reader.specs.Writing.{records, caseText, lineRecords}

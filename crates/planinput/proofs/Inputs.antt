@@ -13,10 +13,9 @@ use Rattle.field.specs.declared.Numeral.{Numeral}
 use Rattle.field.specs.declared.Numeral.the-variants.{Is, Wrong}
 use Rattle.field.proofs.Cutting.{after-none, after-some, rest-few}
 use Rattle.record.specs.Fields.{one, oneNumber}
-use Rattle.grid.specs.Cases.{Valid}
+use Rattle.grid.specs.Cases.{Valid, mostBytes}
 use Rattle.refusals.specs.declared.Refusal.{Refusal}
 use Rattle.refusals.specs.declared.Refusal.the-variants.{TextTooLong, WrongForm}
-use Rattle.grid.specs.Cases.{mostBytes}
 use Rattle.reader.specs.Reading.{start, refused, readLines, readText}
 use Rattle.reader.specs.declared.CaseRead.{CaseRead}
 use Rattle.reader.specs.declared.ReadAnswer.{ReadAnswer}

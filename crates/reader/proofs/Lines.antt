@@ -13,13 +13,12 @@ use Rattle.field.specs.Split.{split, part, PieceEnd}
 use Rattle.field.proofs.Cutting.{after-none, after-some}
 use Rattle.record.specs.Record.{recordOf}
 use Rattle.record.specs.declared.Record.{Record}
-use Rattle.grid.specs.Cases.{mostBuses}
+use Rattle.grid.specs.Cases.{mostBuses, mostBytes}
 use Rattle.grid.specs.declared.Case.{Case}
 use Rattle.refusals.specs.declared.Refusal.the-variants.{TextTooLong, WrongForm}
 use Rattle.building.specs.Building.{nextRows, nextMarks, noRows, noMarks}
 use Rattle.judging.specs.Judging.{verdict, nextPlace}
 use Rattle.reader.specs.Reading.{Reader, start, caseOf, refused, closed, said, readLines, readText, readCase}
-use Rattle.grid.specs.Cases.{mostBytes}
 use Rattle.building.specs.declared.Marks.{Marks}
 use Rattle.judging.specs.declared.Place.{Place}
 use Rattle.reader.specs.declared.CaseRead.{CaseRead}

@@ -16,12 +16,11 @@ use Rattle.rules.specs.Steps.{Names, ReasonNames}
 use Rattle.stepline.specs.StepLine.{stepLineOf}
 use Rattle.stepline.specs.declared.StepLine.{StepLine}
 use Rattle.stepline.specs.declared.StepLine.the-variants.{Step as StepOf, End, Wrong}
-use Rattle.grid.specs.Cases.{mostBuses, mostSteps}
+use Rattle.grid.specs.Cases.{mostBuses, mostSteps, mostStepBytes}
 use Rattle.refusals.specs.declared.Refusal.{Refusal}
 use Rattle.refusals.specs.declared.Refusal.the-variants.{TextTooLong, OutOfRange, TooManySteps}
 use Rattle.judging.specs.Judging.{isBus}
 use Rattle.judging.proofs.Judged.{inside, apart}
-use Rattle.grid.specs.Cases.{mostStepBytes}
 use Rattle.steptext.specs.Steps.{reasonInRange, stepInRange, ended, lineSaid, stepLines, readSteps, andSteps, stepsIn, stepsFrom, stepsOf, AllNamed}
 use Rattle.steptext.specs.declared.StepsRead.{StepsRead}
 use Rattle.steptext.specs.declared.StepsRead.the-variants.{Steps, Refused}

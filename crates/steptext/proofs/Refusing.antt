@@ -15,8 +15,7 @@ use Rattle.stepline.specs.declared.StepLine.the-variants.{Step as StepOf, End, 
 use Rattle.refusals.specs.declared.Refusal.{Refusal}
 use Rattle.refusals.specs.declared.Refusal.the-variants.{TextTooLong, OutOfRange, TooManySteps}
 use Rattle.refusals.specs.Refusals.{placeOf}
-use Rattle.grid.specs.Cases.{mostSteps}
-use Rattle.grid.specs.Cases.{mostStepBytes}
+use Rattle.grid.specs.Cases.{mostSteps, mostStepBytes}
 use Rattle.steptext.specs.Steps.{stepInRange, ended, lineSaid, stepLines, readSteps}
 use Rattle.steptext.specs.declared.StepsRead.{StepsRead}
 use Rattle.steptext.specs.declared.StepsRead.the-variants.{Steps, Refused}

@@ -13,9 +13,8 @@ use Rattle.step.specs.declared.Step.{Step}
 use Rattle.stepline.specs.StepLine.{stepLineOf}
 use Rattle.stepline.specs.declared.StepLine.{StepLine}
 use Rattle.stepline.specs.declared.StepLine.the-variants.{Step as StepOf}
-use Rattle.grid.specs.Cases.{mostSteps}
+use Rattle.grid.specs.Cases.{mostSteps, mostStepBytes}
 use Rattle.refusals.specs.declared.Refusal.the-variants.{TextTooLong, WrongForm, TooManySteps}
-use Rattle.grid.specs.Cases.{mostStepBytes}
 use Rattle.steptext.specs.Steps.{stepInRange, ended, lineSaid, stepLines, readSteps, andSteps, stepsIn, stepsFrom, StepHere}
 use Rattle.steptext.specs.declared.StepsRead.{StepsRead}
 use Rattle.steptext.specs.declared.StepsRead.the-variants.{Refused}

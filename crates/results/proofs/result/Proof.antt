@@ -2,8 +2,7 @@ use borrow.Author.Needs.{needs}
 use mathlib.Core.Path.{subst}
 use native.Mathlib.Omega.{arith}
 use Rattle.results.specs.Results.{Placed}
-use Rattle.results.proofs.Replying.{code-small}
-use Rattle.results.proofs.Replying.{result-short, result-set, result-refused, result-unread}
+use Rattle.results.proofs.Replying.{code-small, result-short, result-set, result-refused, result-unread}
 use Rattle.results.proofs.result.Statement.{statement}
 use Rattle.results.proofs.result.Tie as tie
 
