@@ -6,6 +6,7 @@ use native.Mathlib.Omega.{arith}
 use borrow.Author.Tests.{eq-eqb, ne-eqb, eqb-true, eqb-false, leb-true, ltb-true}
 use lib.Dec.{eqb, ltb, leb}
 use Rattle.busset.specs.Sets.{width, Bus as IsBus}
+use Rattle.busset.proofs.Members.{bus-more}
 use Rattle.field.proofs.Tested.{both}
 use Rattle.record.specs.declared.Record.{Record}
 use Rattle.record.specs.declared.Record.the-variants.{Grid, Bus, Line, Pmu, End, Wrong}
@@ -75,7 +76,7 @@ unfolding isBus
 inside n k e = let p = both (leb 1 k) (leb k n) e in record { some = leb-true 1 k (p .0); most = leb-true k n (p .1) }
 
 pub bounded : (n k : ℕ) → n ≤ mostBuses → isBus n k ≡ true → IsBus width k
-bounded n k h e = let b = inside n k e in record { some = b .some; most = omega (arith, b .most) }
+bounded n k h e = bus-more (inside n k e) h
 
 -- the two buses of a line, and room for it
 pub record Ends (s : Place) (a b : ℕ) : Type 0 where
@@ -89,13 +90,10 @@ line-ends s a b e =
     let v = both (isBus (s .n) a) (isBus (s .n) b) (u .0) in
     record { from = inside (s .n) a (v .0); to = inside (s .n) b (v .1); room = ltb-true (s .lines) mostLines (u .1) }
 
-wider : {n k : ℕ} → n ≤ mostBuses → IsBus n k → IsBus width k
-wider h b = record { some = b .some; most = omega (arith, b .most) }
-
 fit : (s : Place) (r : Record) → s .n ≤ mostBuses → inRange s r ≡ true → Fit s r
 fit s (Grid n) h e = tt
 fit s (Bus k z o) h e = bounded (s .n) k h e
-fit s (Line a b) h e = let t = line-ends s a b e in (wider h (t .from), wider h (t .to), t .room)
+fit s (Line a b) h e = let t = line-ends s a b e in (bus-more (t .from) h, bus-more (t .to) h, t .room)
 fit s (Pmu p) h e = bounded (s .n) p h e
 fit s End h e = tt
 fit s Wrong h e = tt

@@ -1,4 +1,4 @@
-// The lines that both programs print: of a refusal here, of a step in `steps`.
+// Lines that the programs print: of a refusal here, which both do, and of a step in `steps`.
 ghost use Prim.Native.Nat.{_<_, _^_};
 ghost use Rattle.refusals.specs.Refusals.{placeOf};
 ghost use Rattle.putting.specs.Put.{Put};

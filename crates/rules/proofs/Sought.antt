@@ -20,7 +20,7 @@ use Rattle.rules.specs.Placing.{at, Full, Free, SomePlan, Fewest}
 use Rattle.rules.specs.Ways.{NoWay, FirstWay}
 use Rattle.rules.specs.Choosing as choosing
 use Rattle.rules.specs.Choosing.{Greedy}
-use Rattle.rules.proofs.Tests.{total-none, gap, gap-none, given, holdsTest, leastTest, least-passes}
+use Rattle.rules.proofs.Tests.{total-none, total-pass, gap, gap-none, given, given-passes, holdsTest, leastTest, least-passes}
 use Rattle.rules.proofs.Leasts.{least-unique}
 use Rattle.rules.proofs.Covering.{covers-full, full-covers}
 use Rattle.rules.proofs.Searching.{way-none, no-way-none, no-way-left, first-take, passed-lowest, passed-no, passed-first, NoFewer, no-fewer-none, no-fewer-more, first-fewest, no-plan}
@@ -32,11 +32,6 @@ unfoldable pub pick : ℕ → ℕ → ℕ → ℕ
 pick zero x y = x
 pick (suc d) x y = y
 
-given-not : (d x : ℕ) → d ≡ 1 → given d x ≡ 0 → x ≡ 0
-unfolding given
-given-not zero x e h = absurd (omega arith)
-given-not (suc d) x e h = h
-
 given-some : (d x : ℕ) → 0 < d → given d x ≡ 0 → x ≡ 0
 unfolding given
 given-some zero x e h = absurd (omega arith)
@@ -46,11 +41,6 @@ given-none : (d x : ℕ) → (0 < d → x ≡ 0) → given d x ≡ 0
 unfolding given
 given-none zero x h = refl
 given-none (suc d) x h = h (omega arith)
-
-total-zero : (n : ℕ) (f : ℕ → ℕ) → ((b : ℕ) → f b ≡ 0) → total n f ≡ 0
-unfolding total
-total-zero zero f h = refl
-total-zero (suc n) f h = omega (arith, total-zero n f h, h (suc n))
 
 -- ---- the observed set, with a list that derives it
 
@@ -132,7 +122,7 @@ module _ (g : Grid) (v : Proper g) where
   alone-none b e a u ne c =
       go c
       (given-some (gap a b) (bit (g .nbr a) b + size (meet (g .nbr a) (g .nbr b))) (apart a b ne)
-      (given-not (bit (g .units) a) (given (gap a b) (bit (g .nbr a) b + size (meet (g .nbr a) (g .nbr b)))) u (total-none (g .n) (confirmTest g b) e a (v .units a u))))
+      (given-passes (bit (g .units) a) (given (gap a b) (bit (g .nbr a) b + size (meet (g .nbr a) (g .nbr b)))) u (total-none (g .n) (confirmTest g b) e a (v .units a u))))
     where
       go : Confirm (g .nbr) a b → bit (g .nbr a) b + size (meet (g .nbr a) (g .nbr b)) ≡ 0 → ⊥
       go (joined j) z = omega arith
@@ -140,7 +130,7 @@ module _ (g : Grid) (v : Proper g) where
 
   alone-all : (b : ℕ) → Unconfirmed (g .nbr) (g .units) b → total (g .n) (confirmTest g b) ≡ 0
   unfolding confirmTest gap
-  alone-all b u = total-zero (g .n) (confirmTest g b)
+  alone-all b u = total-pass (g .n) (confirmTest g b)
       (λ a. given-none (bit (g .units) a) (given (gap a b) (bit (g .nbr a) b + size (meet (g .nbr a) (g .nbr b))))
       (λ h. given-none (gap a b) (bit (g .nbr a) b + size (meet (g .nbr a) (g .nbr b))) (λ d. none a (omega arith) (λ e. omega arith))))
     where

@@ -58,7 +58,7 @@ unfoldable pub given : ℕ → ℕ → ℕ
 given zero x = 0
 given (suc d) x = x
 
-given-passes : (d x : ℕ) → d ≡ 1 → given d x ≡ 0 → x ≡ 0
+pub given-passes : (d x : ℕ) → d ≡ 1 → given d x ≡ 0 → x ≡ 0
 unfolding given
 given-passes zero x e h = absurd (omega arith)
 given-passes (suc d) x e h = h
@@ -88,7 +88,7 @@ holds-passes g s b v (ZeroInjection w) e = record {
     within a h = v .lines w a (omega (arith, less-sub (g .nbr w) b a)) .to
 
 -- and the test passes wherever the reason holds
-total-pass : (n : ℕ) (f : ℕ → ℕ) → ((b : ℕ) → f b ≡ 0) → total n f ≡ 0
+pub total-pass : (n : ℕ) (f : ℕ → ℕ) → ((b : ℕ) → f b ≡ 0) → total n f ≡ 0
 unfolding total
 total-pass zero f h = refl
 total-pass (suc n) f h = omega (arith, total-pass n f h, h (suc n))
