@@ -45,7 +45,8 @@ observed-least c v (observed.Refused q) p = absurd (failed-or-passed (observedCh
 
 -- ---- a list is accepted exactly when each step is allowed where it stands
 
-accepted-checks : (c : Case) → Proper (gridOf c) → (k s : ℕ) (xs : List Step) → AcceptedFrom (gridOf c) s xs → Passed (checksFrom Replay c k s xs [])
+-- steps that are allowed where they stand pass replay's checks, and those that pass are allowed
+pub accepted-checks : (c : Case) → Proper (gridOf c) → (k s : ℕ) (xs : List Step) → AcceptedFrom (gridOf c) s xs → Passed (checksFrom Replay c k s xs [])
 accepted-checks c v k s [] a = tt
 accepted-checks c v k s (x ∷ xs) a = (allowed-names v (a .0), (a .0 .new, (a .0 .holds, accepted-checks c v (suc k) (add s (x .bus)) xs (a .1))))
 

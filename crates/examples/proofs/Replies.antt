@@ -1,7 +1,7 @@
 -- The tables of what each call answers.
 use mathlib.Core.Path.{_≡_, refl, ap}
 use mathlib.Core.List.{List, [], _∷_}
-use Prim.Native.Nat.{ℕ, suc, _+_, _-_, _≤_}
+use Prim.Native.Nat.{ℕ, _+_, _-_, _≤_}
 use native.Mathlib.Omega.{arith}
 use lib.Count.{ones, onesIn}
 use lib.Signed.{mag}
@@ -13,8 +13,8 @@ use Rattle.field.specs.Number.{digits}
 use Rattle.step.specs.Records.{noStep}
 use Rattle.step.specs.declared.Step.{Step}
 use Rattle.record.specs.Record.{recordText}
-use Rattle.rules.specs.Grids.{Proper, total}
-use Rattle.rules.specs.Steps.{ByUnit, Names, AcceptedFrom, Finished}
+use Rattle.rules.specs.Grids.{total}
+use Rattle.rules.specs.Steps.{ByUnit, Names, Finished}
 use Rattle.rules.specs.Figures.{figure}
 use Rattle.rules.specs.Choosing.{Greedy}
 use Rattle.rules.proofs.Choices.{greedy-unique}
@@ -22,12 +22,10 @@ use Rattle.rules.proofs.Derivations.{derived-accepted}
 use Rattle.rules.proofs.Leasts.{least-unique}
 use Rattle.rules.proofs.Lists.{closed-finished}
 use Rattle.rules.proofs.Ordering.{fewest-some}
-use Rattle.rules.proofs.Reasons.{allowed-names}
 use Rattle.rules.proofs.Tests.{gap}
-use Rattle.grid.specs.declared.Case.{Case}
 use Rattle.refusals.specs.declared.Refusal.the-variants.{InvalidCase, NoSuchBus, ReasonFails, OverBudget, NoCover}
-use Rattle.grid.specs.Cases.{neighbours, gridOf, Valid}
-use Rattle.refusals.specs.Refusals.{Passed, Failed, numberOf}
+use Rattle.grid.specs.Cases.{neighbours, Valid}
+use Rattle.refusals.specs.Refusals.{Failed, numberOf}
 use Rattle.refusals.proofs.Orders.{itself, failed-or-passed, failed-unique}
 use Rattle.grid.proofs.Drawn.{withinTest, rowTest, validTest, valid-passes}
 use Rattle.record.specs.Fields.{none}
@@ -36,11 +34,10 @@ use Rattle.taking.specs.Taking.{countOf}
 use Rattle.steptext.specs.Steps.{stepLines, readSteps}
 use Rattle.reader.specs.Reading.{readLines, readText, readCase}
 use Rattle.reader.specs.Writing.{busRecords, members, lineRecords, linesText}
-use Rattle.following.specs.Following.{checksFrom}
 use Rattle.ending.specs.Replies.{replayChecks}
-use Rattle.following.specs.declared.Task.the-variants.{Replay}
 use Rattle.observing.specs.Replies.{observedChecks}
 use Rattle.siting.specs.Replies.{fewestChecks}
+use Rattle.demands.proofs.Demand2.{accepted-checks}
 use Rattle.examples.proofs.Rows.{_&_, _then_, stop}
 use Rattle.examples.proofs.Computed.{known}
 use Rattle.examples.proofs.Deriving.{reasonTest, allowedTest, allowed-passes}
@@ -103,11 +100,6 @@ tests-right =
 
 -- ---- lists
 
--- steps that are allowed where they stand pass replay's checks
-passes : (c : Case) → Proper (gridOf c) → (k s : ℕ) (xs : List Step) → AcceptedFrom (gridOf c) s xs → Passed (checksFrom Replay c k s xs [])
-passes c v k s [] a = tt
-passes c v k s (x ∷ xs) a = (allowed-names v (a .0), (a .0 .new, (a .0 .holds, passes c v (suc k) (add s (x .bus)) xs (a .1))))
-
 -- the list 1 by Z 2 is refused at step 1
 refused-9 : Failed (replayChecks (tables.case (3 ∷ [])) (zeroAt 1 2 ∷ own 8 ∷ [])) (ReasonFails 1)
 unfolding setOf
@@ -116,7 +108,7 @@ refused-9 = known .at3 .valid then omega arith then named12 then refl then stop 
 pub replays-right : AllRight tables.replays
 unfolding reasonTest allowedTest gap neighbours lack add setOf ones onesIn
 replays-right =
-    ((v, (omega arith, passes (tables.case (3 ∷ [])) (v .proper) 1 empty derivation (derived-accepted is-derivation .0))), refl, decides-yes (derived-accepted is-derivation .1))
+    ((v, (omega arith, accepted-checks (tables.case (3 ∷ [])) (v .proper) 1 empty derivation (derived-accepted is-derivation .0))), refl, decides-yes (derived-accepted is-derivation .1))
     & ((v, (omega arith, (named23, (refl, (record { unit = refl; joined = refl }, tt))))), refl, decides-no (λ h. h (own 3) (allowed-passes (sevenGrid (3 ∷ [])) (set (2 ∷ [])) (own 3) refl)))
     & ((v, (omega arith, tt)), refl, decides-no (λ h. h (own 3) (allowed-passes (sevenGrid (3 ∷ [])) (set []) (own 3) refl)))
     & ((known .none .valid, (omega arith, tt)), refl, decides-yes none-allowed)
