@@ -3,8 +3,8 @@ ghost use mathlib.Core.Path.{_≡_};
 ghost use Prim.Native.Nat.{_≤_, _<_};
 ghost use lib.ListN.{length};
 ghost use Rattle.asked.specs.Lines.{past, LineAt};
-use field::Numeral;
-use field::piece_end;
+use text_field::Numeral;
+use text_field::piece_end;
 
 // A line's letter and numbers, where its name starts and ends, and where the next line starts.
 pub struct Line {
@@ -17,7 +17,7 @@ pub struct Line {
 }
 
 fn number(text: &[u8]) -> usize {
-    match field::number_of(text) {
+    match text_field::number_of(text) {
         Numeral::Is(n) => n,
         Numeral::Wrong => 0,
     }

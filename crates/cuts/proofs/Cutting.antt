@@ -14,7 +14,7 @@ use Rattle.rules.specs.Placing.{at, Full}
 use Rattle.rules.specs.Ways.{NoCover, Spared}
 use Rattle.rules.specs.Blocking.{Idle}
 use Rattle.rules.proofs.Blocks.{cover-less, cover-not-idle}
-use Rattle.spread.proofs.Sparing.{without-less, without-out}
+use Rattle.place_light.proofs.Sparing.{without-less, without-out}
 
 -- x is tried, and left out where it does not help
 module _ {sites x rest : ℕ} (w : Without sites x rest) where

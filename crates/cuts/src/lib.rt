@@ -19,7 +19,7 @@ pub fn is_hopeless(
     requires { ⌜ (n ≤ width) × Lines n (neighbours (now nbr)) × Within n (setOf sites) ⌝ }
     ensures { λ r. ⌜ Whatever n (neighbours (now (nbr .entry))) (setOf zero) (λ g. Least g (setOf s) → Cut g (setOf sites) k r) ⌝ }
 {
-    if spread::is_full(n, s) {
+    if place_light::is_full(n, s) {
         return false;
     }
     if k == 0 {
@@ -38,7 +38,7 @@ pub fn is_hopeless(
     while !busset::is_none(tries) {
         let x = busset::lowest(tries);
         left = busset::without(left, x);
-        if !is_hopeless(n, nbr, zero, spread::lit(nbr, zero, s, x), left, k - 1) {
+        if !is_hopeless(n, nbr, zero, place_light::lit(nbr, zero, s, x), left, k - 1) {
             return false;
         }
         tries = busset::without(tries, x);

@@ -1,6 +1,6 @@
 // The day report: a case text on standard input, its report on standard output.
-ghost use Rattle.printer.specs.Printing.{Printed};
-ghost use Rattle.dayreport.specs.Day.{Day};
+ghost use Rattle.report_lines.specs.Printing.{Printed};
+ghost use Rattle.report_day.specs.Day.{Day};
 use wozgrzyt::Written;
 use wozgrzyt::day_report;
 

@@ -10,32 +10,32 @@ use Rattle.grid.specs.declared.Case.{Case}
 use Rattle.refusals.specs.declared.Refusal.{Refusal}
 use Rattle.refusals.specs.Refusals.{Passed}
 use Rattle.ending.specs.Replies.{replayChecks, ReplayReply, weaveChecks, WeaveReply}
-use Rattle.steplist.specs.declared.StepList.{StepList}
+use Rattle.list_value.specs.declared.StepList.{StepList}
 use Rattle.ending.specs.declared.Replayed.{Replayed}
 use Rattle.ending.specs.declared.Replayed.the-variants as replayed
 use Rattle.ending.specs.declared.Wove.{Wove}
 use Rattle.ending.specs.declared.Wove.the-variants as wove
-use Rattle.putting.specs.declared.Written.{Written}
-use Rattle.putting.specs.declared.Written.the-variants as written
-use Rattle.observing.specs.declared.Observed.{Observed}
-use Rattle.observing.specs.declared.Observed.the-variants as observed
-use Rattle.observing.specs.declared.Figured.{Figured}
-use Rattle.observing.specs.declared.Figured.the-variants as figured
-use Rattle.observing.specs.declared.Tested.{Tested}
-use Rattle.observing.specs.declared.Tested.the-variants as tested
-use Rattle.deriving.specs.declared.DerivationAnswer.{DerivationAnswer}
-use Rattle.deriving.specs.declared.DerivationAnswer.the-variants as derived
-use Rattle.deriving.specs.declared.Derived.{Derived}
-use Rattle.siting.specs.declared.Verdict.{Verdict}
-use Rattle.siting.specs.declared.Verdict.the-variants as verdict
-use Rattle.siting.specs.declared.Greedy.{Greedy}
-use Rattle.siting.specs.declared.Greedy.the-variants as greedy
-use Rattle.siting.specs.declared.Fewest.{Fewest}
-use Rattle.siting.specs.declared.Fewest.the-variants as fewest
-use Rattle.observing.specs.Replies.{observedChecks, ObservedReply, figureChecks, FigureReply, stepChecks, StepReply}
-use Rattle.deriving.specs.Replies.{derivationChecks, DerivationAt, DerivationReply}
-use Rattle.siting.specs.Replies.{verdictChecks, VerdictReply, greedyChecks, GreedyReply, fewestChecks, FewestReply}
-use Rattle.texts.specs.Replies.{writeChecks, CaseWrittenReply}
+use Rattle.text_put.specs.declared.Written.{Written}
+use Rattle.text_put.specs.declared.Written.the-variants as written
+use Rattle.observe_calls.specs.declared.Observed.{Observed}
+use Rattle.observe_calls.specs.declared.Observed.the-variants as observed
+use Rattle.observe_calls.specs.declared.Figured.{Figured}
+use Rattle.observe_calls.specs.declared.Figured.the-variants as figured
+use Rattle.observe_calls.specs.declared.Tested.{Tested}
+use Rattle.observe_calls.specs.declared.Tested.the-variants as tested
+use Rattle.list_derive.specs.declared.DerivationAnswer.{DerivationAnswer}
+use Rattle.list_derive.specs.declared.DerivationAnswer.the-variants as derived
+use Rattle.list_derive.specs.declared.Derived.{Derived}
+use Rattle.place_calls.specs.declared.Verdict.{Verdict}
+use Rattle.place_calls.specs.declared.Verdict.the-variants as verdict
+use Rattle.place_calls.specs.declared.Greedy.{Greedy}
+use Rattle.place_calls.specs.declared.Greedy.the-variants as greedy
+use Rattle.place_calls.specs.declared.Fewest.{Fewest}
+use Rattle.place_calls.specs.declared.Fewest.the-variants as fewest
+use Rattle.observe_calls.specs.Replies.{observedChecks, ObservedReply, figureChecks, FigureReply, stepChecks, StepReply}
+use Rattle.list_derive.specs.Replies.{derivationChecks, DerivationAt, DerivationReply}
+use Rattle.place_calls.specs.Replies.{verdictChecks, VerdictReply, greedyChecks, GreedyReply, fewestChecks, FewestReply}
+use Rattle.text_calls.specs.Replies.{writeChecks, CaseWrittenReply}
 use Rattle.demands.specs.ByTable.{noDerivation, Refuses, ByTable, NothingLent}
 use Rattle.demands.proofs.Firsts.{reply-meets}
 use Rattle.demands.proofs.Turns.{replay-ordered, weave-ordered}

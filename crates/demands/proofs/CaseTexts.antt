@@ -3,20 +3,20 @@ use mathlib.Core.Path.{_≡_, refl, sym}
 use mathlib.Core.Bool.{Bool, true, false, cond, true≢false}
 use mathlib.Core.List.{List, [], _∷_}
 use Prim.Native.Nat.{ℕ, _+_}
-use Rattle.field.specs.Split.{split, lineFeed}
-use Rattle.record.specs.Record.{recordOf}
-use Rattle.record.specs.declared.Record.{Record}
-use Rattle.record.specs.declared.Record.the-variants.{Grid, Bus, Line, Pmu, End, Wrong}
+use Rattle.text_field.specs.Split.{split, lineFeed}
+use Rattle.case_line.specs.Record.{recordOf}
+use Rattle.case_line.specs.declared.Record.{Record}
+use Rattle.case_line.specs.declared.Record.the-variants.{Grid, Bus, Line, Pmu, End, Wrong}
 use Rattle.grid.specs.declared.Case.{Case}
 use Rattle.refusals.specs.declared.Refusal.the-variants.{WrongForm, OutOfRange, OutOfOrder}
 use Rattle.refusals.specs.Refusals.{Check, check}
 use Rattle.refusals.proofs.Orders.{itself}
-use Rattle.judging.specs.Judging.{inPlace, inRange, inOrder, accepted, verdict}
+use Rattle.case_judge.specs.Judging.{inPlace, inRange, inOrder, accepted, verdict}
 use Rattle.grid.specs.Cases.{mostBytes}
-use Rattle.reader.specs.Reading.{Reader, start, next, caseOf, got, refused, closed, said, readLines, readText, readCase}
-use Rattle.reader.specs.declared.CaseRead.{CaseRead}
-use Rattle.judging.specs.declared.Verdict.{Verdict}
-use Rattle.judging.specs.declared.Verdict.the-variants.{Form, Range, Order}
+use Rattle.case_read.specs.Reading.{Reader, start, next, caseOf, got, refused, closed, said, readLines, readText, readCase}
+use Rattle.case_read.specs.declared.CaseRead.{CaseRead}
+use Rattle.case_judge.specs.declared.Verdict.{Verdict}
+use Rattle.case_judge.specs.declared.Verdict.the-variants.{Form, Range, Order}
 use Rattle.demands.proofs.Judging.{SaidBy, good, passing, failing, within-limit}
 use Rattle.demands.specs.TextChecks.{NothingFollows, afterRecord, lineChecks, linesFrom, caseChecks}
 

@@ -18,21 +18,21 @@ use Rattle.refusals.specs.declared.Refusal.{Refusal}
 use Rattle.grid.specs.Cases.{mostSteps, gridOf, Valid}
 use Rattle.refusals.specs.Refusals.{Is, Passed, Failed}
 use Rattle.refusals.proofs.Orders.{failed-or-passed}
-use Rattle.following.specs.Following.{checksFrom}
+use Rattle.list_follow.specs.Following.{checksFrom}
 use Rattle.ending.specs.Replies.{replayChecks, ReplayReply}
-use Rattle.following.specs.declared.Task.the-variants.{Replay}
+use Rattle.list_follow.specs.declared.Task.the-variants.{Replay}
 use Rattle.ending.specs.declared.Replayed.{Replayed}
 use Rattle.ending.specs.declared.Replayed.the-variants as replayed
-use Rattle.reader.specs.Reading.{got}
-use Rattle.reader.specs.Writing.{caseText}
-use Rattle.putting.specs.declared.Written.the-variants as written
-use Rattle.observing.specs.declared.Observed.{Observed}
-use Rattle.observing.specs.declared.Observed.the-variants as observed
-use Rattle.siting.specs.declared.Fewest.{Fewest}
-use Rattle.siting.specs.declared.Fewest.the-variants as fewest
-use Rattle.observing.specs.Replies.{observedChecks, ObservedReply}
-use Rattle.siting.specs.Replies.{fewestChecks, FewestReply}
-use Rattle.texts.specs.Replies.{CaseReadReply, CaseWrittenReply}
+use Rattle.case_read.specs.Reading.{got}
+use Rattle.case_read.specs.Writing.{caseText}
+use Rattle.text_put.specs.declared.Written.the-variants as written
+use Rattle.observe_calls.specs.declared.Observed.{Observed}
+use Rattle.observe_calls.specs.declared.Observed.the-variants as observed
+use Rattle.place_calls.specs.declared.Fewest.{Fewest}
+use Rattle.place_calls.specs.declared.Fewest.the-variants as fewest
+use Rattle.observe_calls.specs.Replies.{observedChecks, ObservedReply}
+use Rattle.place_calls.specs.Replies.{fewestChecks, FewestReply}
+use Rattle.text_calls.specs.Replies.{CaseReadReply, CaseWrittenReply}
 use Rattle.demands.specs.ByTable.{Refuses}
 use Rattle.demands.specs.Demand2.{AcceptedExactly, FirstSmallest, Demand2}
 use Rattle.demands.proofs.TextUniqueness.{written-then-read, read-then-written}

@@ -15,9 +15,9 @@ use Rattle.grid.specs.declared.Case.{Case}
 use Rattle.grid.specs.Cases.{mostSteps, gridOf, Valid}
 use Rattle.refusals.specs.Refusals.{Check, check, Passed}
 use Rattle.refusals.proofs.Orders.{failed-or-passed}
-use Rattle.following.specs.Following.{checksFrom}
+use Rattle.list_follow.specs.Following.{checksFrom}
 use Rattle.ending.specs.Replies.{weaveChecks, WeaveReply}
-use Rattle.following.specs.declared.Task.the-variants.{Weave}
+use Rattle.list_follow.specs.declared.Task.the-variants.{Weave}
 use Rattle.ending.specs.declared.Wove.{Wove}
 use Rattle.ending.specs.declared.Wove.the-variants as wove
 use Rattle.demands.specs.Demand3.{Demand3}

@@ -12,25 +12,25 @@ use Rattle.grid.specs.declared.Case.{Case}
 use Rattle.refusals.specs.declared.Refusal.{Refusal}
 use Rattle.refusals.specs.Refusals.{numberOf, placeOf, Is, Check, Failed}
 use Rattle.refusals.proofs.Orders.{itself, number-some, number-most}
-use Rattle.reader.specs.Reading.{refused, readCase}
-use Rattle.reader.specs.declared.CaseRead.{CaseRead}
+use Rattle.case_read.specs.Reading.{refused, readCase}
+use Rattle.case_read.specs.declared.CaseRead.{CaseRead}
 use Rattle.ending.specs.Replies.{replayChecks}
-use Rattle.steptext.specs.Steps.{stepsOf}
-use Rattle.textreplay.specs.Replying.{TextReplayReply}
-use Rattle.textreplay.specs.declared.TextReplayed.{TextReplayed}
-use Rattle.textreplay.specs.declared.TextReplayed.the-variants as told
-use Rattle.observing.specs.Replies.{observedChecks, ObservedReply}
-use Rattle.siting.specs.Replies.{verdictChecks, VerdictReply, fewestChecks, FewestReply}
-use Rattle.observing.specs.declared.Observed.{Observed}
-use Rattle.observing.specs.declared.Observed.the-variants as observed
-use Rattle.siting.specs.declared.Verdict.{Verdict}
-use Rattle.siting.specs.declared.Verdict.the-variants as verdict
-use Rattle.siting.specs.declared.Fewest.{Fewest}
-use Rattle.siting.specs.declared.Fewest.the-variants as fewest
-use Rattle.results.specs.declared.Answer.{Answer}
-use Rattle.results.specs.declared.Answer.the-variants.{Set, Refused, Unread}
+use Rattle.step_text.specs.Steps.{stepsOf}
+use Rattle.step_replay.specs.Replying.{TextReplayReply}
+use Rattle.step_replay.specs.declared.TextReplayed.{TextReplayed}
+use Rattle.step_replay.specs.declared.TextReplayed.the-variants as told
+use Rattle.observe_calls.specs.Replies.{observedChecks, ObservedReply}
+use Rattle.place_calls.specs.Replies.{verdictChecks, VerdictReply, fewestChecks, FewestReply}
+use Rattle.observe_calls.specs.declared.Observed.{Observed}
+use Rattle.observe_calls.specs.declared.Observed.the-variants as observed
+use Rattle.place_calls.specs.declared.Verdict.{Verdict}
+use Rattle.place_calls.specs.declared.Verdict.the-variants as verdict
+use Rattle.place_calls.specs.declared.Fewest.{Fewest}
+use Rattle.place_calls.specs.declared.Fewest.the-variants as fewest
+use Rattle.estimator_reply.specs.declared.Answer.{Answer}
+use Rattle.estimator_reply.specs.declared.Answer.the-variants.{Set, Refused, Unread}
 use Rattle.estimator.specs.Answers.{ofObserved, ofVerdict, ofFewest, ofReplay, Said, ObservedFor, UnconfirmedFor, FewestFor, ReplayFor, OfRead, OfText}
-use Rattle.results.specs.Results.{Replied, Answered}
+use Rattle.estimator_reply.specs.Results.{Replied, Answered}
 use Rattle.demands.specs.Order.{InOrder, FirstFails}
 use Rattle.demands.specs.TextChecks.{caseChecks, stepTextChecks, withFifty, textReplayChecks, roomForSet, estimatorChecks}
 use Rattle.demands.specs.ByTable as asked

@@ -4,18 +4,18 @@ use mathlib.Core.List.{List}
 use Prim.Native.Nat.{ℕ}
 use lib.ListN.{length}
 use Rattle.grid.specs.declared.Case.{Case}
-use Rattle.reader.specs.Reading.{readCase}
-use Rattle.reader.specs.declared.ReadAnswer.{ReadAnswer}
-use Rattle.reader.specs.declared.ReadAnswer.the-variants as read
-use Rattle.textreplay.specs.Replying.{TextReplayReply}
-use Rattle.observing.specs.Replies.{ObservedReply}
-use Rattle.siting.specs.Replies.{VerdictReply, FewestReply}
+use Rattle.case_read.specs.Reading.{readCase}
+use Rattle.case_read.specs.declared.ReadAnswer.{ReadAnswer}
+use Rattle.case_read.specs.declared.ReadAnswer.the-variants as read
+use Rattle.step_replay.specs.Replying.{TextReplayReply}
+use Rattle.observe_calls.specs.Replies.{ObservedReply}
+use Rattle.place_calls.specs.Replies.{VerdictReply, FewestReply}
 use Rattle.demands.proofs.Uniqueness.{observed-unique}
 use Rattle.demands.proofs.SitingUniqueness.{verdict-unique, fewest-unique}
 use Rattle.demands.proofs.ListUniqueness.{text-replay-unique}
 use Rattle.estimator.specs.Answers.{ofObserved, ofVerdict, ofFewest, ofReplay, Said, ObservedFor, UnconfirmedFor, FewestFor, ReplayFor, OfRead, OfText}
-use Rattle.results.specs.Results.{resultOf, leftBy, Answered}
-use Rattle.results.specs.declared.Answer.{Answer}
+use Rattle.estimator_reply.specs.Results.{resultOf, leftBy, Answered}
+use Rattle.estimator_reply.specs.declared.Answer.{Answer}
 
 -- P says one answer
 abbrev Unique : (Answer → Type 0) → Type 0

@@ -8,8 +8,8 @@ use Rattle.rules.specs.Figures.{Runs}
 use Rattle.rules.proofs.Figures.{figure-runs, figure-one, one-figure}
 use Rattle.grid.specs.declared.Case.{Case}
 use Rattle.grid.specs.Cases.{gridOf}
-use Rattle.observing.specs.declared.Figured.the-variants as figured
-use Rattle.observing.specs.Replies.{stated, FigureReply}
+use Rattle.observe_calls.specs.declared.Figured.the-variants as figured
+use Rattle.observe_calls.specs.Replies.{stated, FigureReply}
 
 pub figure-range : (c : Case) (s i j : ℕ) (z : ℤ) → FigureReply c s i j (figured.Figure z) → Runs 62 z
 figure-range c s i j z p =

@@ -10,25 +10,25 @@ use Rattle.rules.specs.Grids.{Grid}
 use Rattle.rules.proofs.Derivations.{derived-unique}
 use Rattle.grid.specs.declared.Case.{Case}
 use Rattle.refusals.proofs.Orders.{failed-unique, failed-or-passed}
-use Rattle.steplist.specs.Lists.{listOf}
-use Rattle.deriving.specs.Deriving.{Derives}
+use Rattle.list_value.specs.Lists.{listOf}
+use Rattle.list_derive.specs.Deriving.{Derives}
 use Rattle.ending.specs.Replies.{replayChecks, ReplayReply, weaveChecks, WeaveReply}
-use Rattle.steplist.specs.declared.StepList.{StepList}
+use Rattle.list_value.specs.declared.StepList.{StepList}
 use Rattle.ending.specs.declared.Replayed.{Replayed}
 use Rattle.ending.specs.declared.Replayed.the-variants as replayed
 use Rattle.ending.specs.declared.Wove.{Wove}
 use Rattle.ending.specs.declared.Wove.the-variants as wove
-use Rattle.steptext.specs.Steps.{readSteps, stepsOf}
-use Rattle.steptext.specs.declared.StepsRead.{StepsRead}
-use Rattle.steptext.specs.declared.StepsRead.the-variants as read
-use Rattle.textreplay.specs.Replying.{TextReplayAt, TextReplayReply}
-use Rattle.textreplay.specs.declared.TextReplayed.{TextReplayed}
-use Rattle.textreplay.specs.declared.TextReplayed.the-variants as told
-use Rattle.textreplay.proofs.Onward.{answerOf}
-use Rattle.deriving.specs.declared.DerivationAnswer.{DerivationAnswer}
-use Rattle.deriving.specs.declared.DerivationAnswer.the-variants.{Found, Refused}
-use Rattle.deriving.specs.declared.Derived.{Derived}
-use Rattle.deriving.specs.Replies.{derivationChecks, DerivationAt, DerivationReply}
+use Rattle.step_text.specs.Steps.{readSteps, stepsOf}
+use Rattle.step_text.specs.declared.StepsRead.{StepsRead}
+use Rattle.step_text.specs.declared.StepsRead.the-variants as read
+use Rattle.step_replay.specs.Replying.{TextReplayAt, TextReplayReply}
+use Rattle.step_replay.specs.declared.TextReplayed.{TextReplayed}
+use Rattle.step_replay.specs.declared.TextReplayed.the-variants as told
+use Rattle.step_replay.proofs.Onward.{answerOf}
+use Rattle.list_derive.specs.declared.DerivationAnswer.{DerivationAnswer}
+use Rattle.list_derive.specs.declared.DerivationAnswer.the-variants.{Found, Refused}
+use Rattle.list_derive.specs.declared.Derived.{Derived}
+use Rattle.list_derive.specs.Replies.{derivationChecks, DerivationAt, DerivationReply}
 
 derives-unique : {g : Grid} {l m : StepList} → Derives g l → Derives g m → l ≡ m
 derives-unique p q = p .is ∙ ap listOf (derived-unique (p .derived) (q .steps) (q .derived)) ∙ sym (q .is)

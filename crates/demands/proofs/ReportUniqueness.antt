@@ -2,13 +2,13 @@
 use mathlib.Core.Path.{_≡_, ap}
 use mathlib.Core.List.{List}
 use Prim.Native.Nat.{ℕ}
-use Rattle.putting.specs.declared.Written.{Written}
-use Rattle.printer.specs.Printing.{PrintedReply}
-use Rattle.printer.proofs.Printed.{PrintReply, printed-unique}
-use Rattle.dayreport.specs.Day.{Day}
-use Rattle.dayreport.proofs.Days.{day-unique}
-use Rattle.planreport.specs.Plan.{Plan}
-use Rattle.planreport.proofs.Unique.{plan-unique}
+use Rattle.text_put.specs.declared.Written.{Written}
+use Rattle.report_lines.specs.Printing.{PrintedReply}
+use Rattle.report_lines.proofs.Printed.{PrintReply, printed-unique}
+use Rattle.report_day.specs.Day.{Day}
+use Rattle.report_day.proofs.Days.{day-unique}
+use Rattle.report_plan.specs.Plan.{Plan}
+use Rattle.report_plan.proofs.Unique.{plan-unique}
 
 -- where P asks for one text
 printed-one : (P : List ℕ → Type 0) → ((s t : List ℕ) → P s → P t → s ≡ t) → (lent : List ℕ) (a b : Written) (left right : List ℕ)

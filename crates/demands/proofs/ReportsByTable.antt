@@ -7,25 +7,25 @@ use Prim.Native.Nat.{ℕ, _≤_}
 use native.Mathlib.Omega.{arith}
 use lib.Dec.{T, lit<, ltb, ltb→lt, nltb→le}
 use lib.ListN.{length}
-use Rattle.field.specs.Split.{split, lineFeed}
-use Rattle.field.specs.declared.Numeral.{Numeral}
-use Rattle.field.specs.declared.Numeral.the-variants as numeral
+use Rattle.text_field.specs.Split.{split, lineFeed}
+use Rattle.text_field.specs.declared.Numeral.{Numeral}
+use Rattle.text_field.specs.declared.Numeral.the-variants as numeral
 use Rattle.grid.specs.declared.Case.{Case}
 use Rattle.refusals.specs.declared.Refusal.{Refusal}
 use Rattle.refusals.specs.declared.Refusal.the-variants.{TextTooLong, WrongForm}
 use Rattle.refusals.specs.Refusals.{Check, check, Passed, Failed}
 use Rattle.refusals.proofs.Orders.{itself, failed-unique, failed-or-passed}
 use Rattle.grid.specs.Cases.{mostBytes}
-use Rattle.reader.specs.Reading.{start, refused, readLines, readCase}
-use Rattle.reader.specs.declared.CaseRead.{CaseRead}
-use Rattle.printer.specs.Printing.{RefusedText, PrintedReply}
-use Rattle.putting.specs.declared.Written.{Written}
-use Rattle.putting.specs.declared.Written.the-variants as written
-use Rattle.dayreport.specs.Day.{DayReport, DayFor, Day}
-use Rattle.dayreport.proofs.Days.{day-unique}
-use Rattle.planinput.specs.Asking.{budgetOf, unasked, askedWith, planLines, readPlan}
-use Rattle.planreport.specs.Plan.{planChecks, PlanReport, found, none, PlanFor, Plan}
-use Rattle.planreport.proofs.Unique.{plan-unique}
+use Rattle.case_read.specs.Reading.{start, refused, readLines, readCase}
+use Rattle.case_read.specs.declared.CaseRead.{CaseRead}
+use Rattle.report_lines.specs.Printing.{RefusedText, PrintedReply}
+use Rattle.text_put.specs.declared.Written.{Written}
+use Rattle.text_put.specs.declared.Written.the-variants as written
+use Rattle.report_day.specs.Day.{DayReport, DayFor, Day}
+use Rattle.report_day.proofs.Days.{day-unique}
+use Rattle.plan_input.specs.Asking.{budgetOf, unasked, askedWith, planLines, readPlan}
+use Rattle.report_plan.specs.Plan.{planChecks, PlanReport, found, none, PlanFor, Plan}
+use Rattle.report_plan.proofs.Unique.{plan-unique}
 use Rattle.demands.specs.Order.{turn, InOrder}
 use Rattle.demands.specs.TextChecks.{IsNumber, planLineChecks, inputChecks, caseChecks, lineChecks, printChecks}
 use Rattle.demands.specs.ByTable.{Refuses, ByTable, PrintedByTable, FewestPrinted}

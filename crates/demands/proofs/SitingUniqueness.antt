@@ -10,13 +10,13 @@ use Rattle.rules.proofs.Choices.{unconfirmed-unique, greedy-unique}
 use Rattle.grid.specs.declared.Case.{Case}
 use Rattle.grid.specs.Cases.{gridOf}
 use Rattle.refusals.proofs.Orders.{failed-unique, failed-or-passed}
-use Rattle.siting.specs.declared.Verdict.{Verdict}
-use Rattle.siting.specs.declared.Verdict.the-variants as verdict
-use Rattle.siting.specs.declared.Greedy.{Greedy}
-use Rattle.siting.specs.declared.Greedy.the-variants as greedy
-use Rattle.siting.specs.declared.Fewest.{Fewest}
-use Rattle.siting.specs.declared.Fewest.the-variants as fewest
-use Rattle.siting.specs.Replies.{verdictChecks, VerdictReply, greedyChecks, GreedyReply, fewestChecks, FewestReply}
+use Rattle.place_calls.specs.declared.Verdict.{Verdict}
+use Rattle.place_calls.specs.declared.Verdict.the-variants as verdict
+use Rattle.place_calls.specs.declared.Greedy.{Greedy}
+use Rattle.place_calls.specs.declared.Greedy.the-variants as greedy
+use Rattle.place_calls.specs.declared.Fewest.{Fewest}
+use Rattle.place_calls.specs.declared.Fewest.the-variants as fewest
+use Rattle.place_calls.specs.Replies.{verdictChecks, VerdictReply, greedyChecks, GreedyReply, fewestChecks, FewestReply}
 
 pub verdict-unique : (c : Case) (a b : Verdict) → VerdictReply c a → VerdictReply c b → a ≡ b
 verdict-unique c (verdict.Unconfirmed s) (verdict.Unconfirmed t) p q = ap verdict.Unconfirmed (set-inj s t (unconfirmed-unique (setOf s) (setOf t) (p .1) (q .1)))

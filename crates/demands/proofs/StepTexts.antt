@@ -5,17 +5,17 @@ use mathlib.Core.List.{List, [], _∷_}
 use Prim.Native.Nat.{ℕ, _+_, _-_, _≤_}
 use native.Mathlib.Omega.{arith}
 use lib.Dec.{T, ltb, ltb→lt, nltb→le}
-use Rattle.field.specs.Split.{split, lineFeed}
-use Rattle.stepline.specs.StepLine.{stepLineOf}
-use Rattle.stepline.specs.declared.StepLine.{StepLine}
-use Rattle.stepline.specs.declared.StepLine.the-variants as line
+use Rattle.text_field.specs.Split.{split, lineFeed}
+use Rattle.step_line.specs.StepLine.{stepLineOf}
+use Rattle.step_line.specs.declared.StepLine.{StepLine}
+use Rattle.step_line.specs.declared.StepLine.the-variants as line
 use Rattle.grid.specs.Cases.{mostSteps, mostStepBytes}
 use Rattle.refusals.specs.declared.Refusal.the-variants.{WrongForm, OutOfRange, TooManySteps}
 use Rattle.refusals.specs.Refusals.{Check, check}
 use Rattle.refusals.proofs.Orders.{itself}
-use Rattle.steptext.specs.Steps.{stepInRange, ended, lineSaid, stepLines, readSteps}
-use Rattle.steptext.specs.declared.StepsRead.{StepsRead}
-use Rattle.steptext.specs.declared.StepsRead.the-variants.{Steps, Refused}
+use Rattle.step_text.specs.Steps.{stepInRange, ended, lineSaid, stepLines, readSteps}
+use Rattle.step_text.specs.declared.StepsRead.{StepsRead}
+use Rattle.step_text.specs.declared.StepsRead.the-variants.{Steps, Refused}
 use Rattle.demands.proofs.Judging.{SaidBy, good, passing, failing, within-limit}
 use Rattle.demands.specs.TextChecks.{NothingFollows, isFormed, isRanged, HasTurn, afterStep, stepLineChecks, stepTextChecks}
 

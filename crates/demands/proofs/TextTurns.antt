@@ -9,16 +9,16 @@ use lib.Dec.{lit<, lit≤}
 use lib.ListN.{length}
 use Rattle.step.specs.declared.Step.{Step}
 use Rattle.refusals.specs.Refusals.{Check, check}
-use Rattle.field.specs.Split.{split, lineFeed}
-use Rattle.record.specs.Record.{recordOf}
-use Rattle.stepline.specs.StepLine.{stepLineOf}
-use Rattle.record.specs.declared.Record.{Record}
-use Rattle.record.specs.declared.Record.the-variants.{Grid, Bus, Line, Pmu, End, Wrong}
-use Rattle.stepline.specs.declared.StepLine.{StepLine}
-use Rattle.stepline.specs.declared.StepLine.the-variants as line
-use Rattle.judging.specs.Judging.{inOrder}
+use Rattle.text_field.specs.Split.{split, lineFeed}
+use Rattle.case_line.specs.Record.{recordOf}
+use Rattle.step_line.specs.StepLine.{stepLineOf}
+use Rattle.case_line.specs.declared.Record.{Record}
+use Rattle.case_line.specs.declared.Record.the-variants.{Grid, Bus, Line, Pmu, End, Wrong}
+use Rattle.step_line.specs.declared.StepLine.{StepLine}
+use Rattle.step_line.specs.declared.StepLine.the-variants as line
+use Rattle.case_judge.specs.Judging.{inOrder}
 use Rattle.grid.specs.Cases.{mostBytes}
-use Rattle.reader.specs.Reading.{Reader, start, next}
+use Rattle.case_read.specs.Reading.{Reader, start, next}
 use Rattle.demands.specs.Order.{turnOf12, turn, Precedes, InOrder}
 use Rattle.demands.proofs.Turns.{Ahead, ahead-first, TurnsBy, Follows}
 use Rattle.demands.specs.TextChecks.{NothingFollows, afterRecord, lineChecks, caseChecks, HasTurn, afterStep, stepLineChecks, stepTextChecks, withFifty, planLineChecks, inputChecks}

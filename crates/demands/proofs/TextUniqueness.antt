@@ -7,18 +7,18 @@ use Rattle.step.specs.declared.Step.{Step}
 use Rattle.grid.specs.declared.Case.{Case}
 use Rattle.grid.specs.Cases.{mostSteps, Valid, mostBytes}
 use Rattle.refusals.proofs.Orders.{failed-unique, failed-or-passed}
-use Rattle.reader.specs.Reading.{got}
-use Rattle.reader.specs.Writing.{caseText}
-use Rattle.reader.specs.declared.CaseRead.{CaseRead}
-use Rattle.inverse.proofs.Inverse as inverse
-use Rattle.steptext.specs.Steps.{stepsOf, AllNamed}
+use Rattle.case_read.specs.Reading.{got}
+use Rattle.case_read.specs.Writing.{caseText}
+use Rattle.case_read.specs.declared.CaseRead.{CaseRead}
+use Rattle.case_inverse.proofs.Inverse as inverse
+use Rattle.step_text.specs.Steps.{stepsOf, AllNamed}
 use Rattle.taking.specs.Taking.{leaves, StepsReadReply}
-use Rattle.steptext.specs.declared.StepsRead.{StepsRead}
-use Rattle.steptext.specs.declared.StepsRead.the-variants.{Steps}
-use Rattle.steptext.proofs.Found as found
-use Rattle.putting.specs.declared.Written.{Written}
-use Rattle.putting.specs.declared.Written.the-variants as written
-use Rattle.texts.specs.Replies.{CaseReadReply, writeChecks, CaseWrittenReply, StepsCheckedReply}
+use Rattle.step_text.specs.declared.StepsRead.{StepsRead}
+use Rattle.step_text.specs.declared.StepsRead.the-variants.{Steps}
+use Rattle.step_text.proofs.Found as found
+use Rattle.text_put.specs.declared.Written.{Written}
+use Rattle.text_put.specs.declared.Written.the-variants as written
+use Rattle.text_calls.specs.Replies.{CaseReadReply, writeChecks, CaseWrittenReply, StepsCheckedReply}
 
 -- ---- uniqueness
 

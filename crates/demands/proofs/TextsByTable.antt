@@ -14,18 +14,18 @@ use Rattle.refusals.specs.declared.Refusal.the-variants.{NoRoom}
 use Rattle.refusals.specs.Refusals.{numberOf, placeOf, Check, check, Passed, Failed}
 use Rattle.refusals.proofs.Orders.{itself}
 use Rattle.ending.specs.Replies.{replayChecks}
-use Rattle.reader.specs.Reading.{got, refused}
-use Rattle.reader.specs.declared.CaseRead.{CaseRead}
-use Rattle.reader.specs.declared.ReadAnswer.the-variants as read
-use Rattle.steptext.specs.Steps.{readSteps, stepsOf}
+use Rattle.case_read.specs.Reading.{got, refused}
+use Rattle.case_read.specs.declared.CaseRead.{CaseRead}
+use Rattle.case_read.specs.declared.ReadAnswer.the-variants as read
+use Rattle.step_text.specs.Steps.{readSteps, stepsOf}
 use Rattle.taking.specs.Taking.{withRoom, leaves, StepsReadReply}
-use Rattle.steptext.specs.declared.StepsRead.{StepsRead}
-use Rattle.steptext.specs.declared.StepsRead.the-variants.{Steps, Refused}
-use Rattle.steptext.proofs.Found.{steps-count}
-use Rattle.textreplay.specs.Replying.{TextReplayAt, TextReplayReply}
-use Rattle.textreplay.specs.declared.TextReplayed.{TextReplayed}
-use Rattle.textreplay.specs.declared.TextReplayed.the-variants as told
-use Rattle.texts.specs.Replies.{CaseReadReply, StepsCheckedReply}
+use Rattle.step_text.specs.declared.StepsRead.{StepsRead}
+use Rattle.step_text.specs.declared.StepsRead.the-variants.{Steps, Refused}
+use Rattle.step_text.proofs.Found.{steps-count}
+use Rattle.step_replay.specs.Replying.{TextReplayAt, TextReplayReply}
+use Rattle.step_replay.specs.declared.TextReplayed.{TextReplayed}
+use Rattle.step_replay.specs.declared.TextReplayed.the-variants as told
+use Rattle.text_calls.specs.Replies.{CaseReadReply, StepsCheckedReply}
 use Rattle.demands.specs.Order.{FirstFails}
 use Rattle.demands.specs.TextChecks.{caseChecks, stepTextChecks, withFifty, stepsReadChecks, textReplayChecks}
 use Rattle.demands.specs.ByTable.{Refuses, Unread, TextRefuses, ByTable}

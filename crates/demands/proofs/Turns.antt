@@ -11,10 +11,10 @@ use Rattle.busset.specs.Sets.{empty, add}
 use Rattle.rules.specs.Weaving.{woven}
 use Rattle.grid.specs.declared.Case.{Case}
 use Rattle.refusals.specs.Refusals.{Check, check}
-use Rattle.following.specs.Following.{checksFrom}
+use Rattle.list_follow.specs.Following.{checksFrom}
 use Rattle.ending.specs.Replies.{replayChecks, weaveChecks}
-use Rattle.following.specs.declared.Task.{Task}
-use Rattle.following.specs.declared.Task.the-variants.{Replay, Weave}
+use Rattle.list_follow.specs.declared.Task.{Task}
+use Rattle.list_follow.specs.declared.Task.the-variants.{Replay, Weave}
 use Rattle.demands.specs.Order.{turn, Precedes, InOrder}
 
 -- ---- one after another

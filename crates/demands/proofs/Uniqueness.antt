@@ -8,13 +8,13 @@ use Rattle.rules.proofs.Leasts.{least-unique}
 use Rattle.grid.specs.declared.Case.{Case}
 use Rattle.grid.specs.Cases.{gridOf}
 use Rattle.refusals.proofs.Orders.{failed-unique, failed-or-passed}
-use Rattle.observing.specs.declared.Observed.{Observed}
-use Rattle.observing.specs.declared.Observed.the-variants as observed
-use Rattle.observing.specs.declared.Figured.{Figured}
-use Rattle.observing.specs.declared.Figured.the-variants as figured
-use Rattle.observing.specs.declared.Tested.{Tested}
-use Rattle.observing.specs.declared.Tested.the-variants as tested
-use Rattle.observing.specs.Replies.{observedChecks, ObservedReply, figureChecks, FigureReply, stepChecks, StepReply}
+use Rattle.observe_calls.specs.declared.Observed.{Observed}
+use Rattle.observe_calls.specs.declared.Observed.the-variants as observed
+use Rattle.observe_calls.specs.declared.Figured.{Figured}
+use Rattle.observe_calls.specs.declared.Figured.the-variants as figured
+use Rattle.observe_calls.specs.declared.Tested.{Tested}
+use Rattle.observe_calls.specs.declared.Tested.the-variants as tested
+use Rattle.observe_calls.specs.Replies.{observedChecks, ObservedReply, figureChecks, FigureReply, stepChecks, StepReply}
 
 pub observed-unique : (c : Case) (a b : Observed) → ObservedReply c a → ObservedReply c b → a ≡ b
 observed-unique c (observed.Set s) (observed.Set t) p q = ap observed.Set (set-inj s t (least-unique (gridOf c) (setOf s) (setOf t) (p .1) (q .1)))

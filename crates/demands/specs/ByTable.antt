@@ -8,13 +8,13 @@ use Rattle.grid.specs.declared.Case.{Case}
 use Rattle.refusals.specs.declared.Refusal.{Refusal}
 use Rattle.grid.specs.Cases.{gridOf}
 use Rattle.rules.specs.Placing.{Fewest}
-use Rattle.planreport.specs.Plan.{PlanText}
-use Rattle.steplist.specs.Lists.{listOf}
-use Rattle.textreplay.specs.declared.TextReplayed.{TextReplayed}
-use Rattle.textreplay.specs.declared.TextReplayed.the-variants as told
-use Rattle.printer.specs.Printing.{RefusedText}
-use Rattle.deriving.specs.declared.DerivationAnswer.the-variants as derived
-use Rattle.deriving.specs.declared.Derived.{Derived}
+use Rattle.report_plan.specs.Plan.{PlanText}
+use Rattle.list_value.specs.Lists.{listOf}
+use Rattle.step_replay.specs.declared.TextReplayed.{TextReplayed}
+use Rattle.step_replay.specs.declared.TextReplayed.the-variants as told
+use Rattle.report_lines.specs.Printing.{RefusedText}
+use Rattle.list_derive.specs.declared.DerivationAnswer.the-variants as derived
+use Rattle.list_derive.specs.declared.Derived.{Derived}
 use Rattle.demands.specs.Order.{InOrder, FirstFails}
 
 -- ---- a reply that refuses

@@ -10,38 +10,38 @@ use Rattle.ending.specs.declared.Replayed.{Replayed}
 use Rattle.ending.specs.declared.Replayed.the-variants as replayed
 use Rattle.ending.specs.declared.Wove.{Wove}
 use Rattle.ending.specs.declared.Wove.the-variants as wove
-use Rattle.reader.specs.Reading.{refused, readCase}
-use Rattle.reader.specs.declared.CaseRead.{CaseRead}
+use Rattle.case_read.specs.Reading.{refused, readCase}
+use Rattle.case_read.specs.declared.CaseRead.{CaseRead}
 use Rattle.taking.specs.Taking.{StepsReadReply}
-use Rattle.steptext.specs.declared.StepsRead.{StepsRead}
-use Rattle.steptext.specs.declared.StepsRead.the-variants as steps
-use Rattle.textreplay.specs.Replying.{TextReplayReply}
-use Rattle.textreplay.specs.declared.TextReplayed.{TextReplayed}
-use Rattle.printer.specs.Printing.{PrintedReply}
-use Rattle.putting.specs.declared.Written.{Written}
-use Rattle.putting.specs.declared.Written.the-variants as written
-use Rattle.dayreport.specs.Day.{DayReport, Day}
-use Rattle.planinput.specs.Asking.{readPlan}
-use Rattle.planreport.specs.Plan.{planChecks, Plan}
-use Rattle.observing.specs.declared.Observed.{Observed}
-use Rattle.observing.specs.declared.Observed.the-variants as observed
-use Rattle.observing.specs.declared.Figured.{Figured}
-use Rattle.observing.specs.declared.Figured.the-variants as figured
-use Rattle.observing.specs.declared.Tested.{Tested}
-use Rattle.observing.specs.declared.Tested.the-variants as tested
-use Rattle.deriving.specs.declared.Derived.{Derived}
-use Rattle.siting.specs.declared.Verdict.{Verdict}
-use Rattle.siting.specs.declared.Verdict.the-variants as verdict
-use Rattle.siting.specs.declared.Greedy.{Greedy}
-use Rattle.siting.specs.declared.Greedy.the-variants as greedy
-use Rattle.siting.specs.declared.Fewest.{Fewest}
-use Rattle.siting.specs.declared.Fewest.the-variants as fewest
-use Rattle.observing.specs.Replies.{observedChecks, ObservedReply, figureChecks, FigureReply, stepChecks, StepReply}
-use Rattle.deriving.specs.Replies.{derivationChecks, DerivationReply}
-use Rattle.siting.specs.Replies.{verdictChecks, VerdictReply, greedyChecks, GreedyReply, fewestChecks, FewestReply}
-use Rattle.texts.specs.Replies.{CaseReadReply, writeChecks, CaseWrittenReply, StepsCheckedReply}
+use Rattle.step_text.specs.declared.StepsRead.{StepsRead}
+use Rattle.step_text.specs.declared.StepsRead.the-variants as steps
+use Rattle.step_replay.specs.Replying.{TextReplayReply}
+use Rattle.step_replay.specs.declared.TextReplayed.{TextReplayed}
+use Rattle.report_lines.specs.Printing.{PrintedReply}
+use Rattle.text_put.specs.declared.Written.{Written}
+use Rattle.text_put.specs.declared.Written.the-variants as written
+use Rattle.report_day.specs.Day.{DayReport, Day}
+use Rattle.plan_input.specs.Asking.{readPlan}
+use Rattle.report_plan.specs.Plan.{planChecks, Plan}
+use Rattle.observe_calls.specs.declared.Observed.{Observed}
+use Rattle.observe_calls.specs.declared.Observed.the-variants as observed
+use Rattle.observe_calls.specs.declared.Figured.{Figured}
+use Rattle.observe_calls.specs.declared.Figured.the-variants as figured
+use Rattle.observe_calls.specs.declared.Tested.{Tested}
+use Rattle.observe_calls.specs.declared.Tested.the-variants as tested
+use Rattle.list_derive.specs.declared.Derived.{Derived}
+use Rattle.place_calls.specs.declared.Verdict.{Verdict}
+use Rattle.place_calls.specs.declared.Verdict.the-variants as verdict
+use Rattle.place_calls.specs.declared.Greedy.{Greedy}
+use Rattle.place_calls.specs.declared.Greedy.the-variants as greedy
+use Rattle.place_calls.specs.declared.Fewest.{Fewest}
+use Rattle.place_calls.specs.declared.Fewest.the-variants as fewest
+use Rattle.observe_calls.specs.Replies.{observedChecks, ObservedReply, figureChecks, FigureReply, stepChecks, StepReply}
+use Rattle.list_derive.specs.Replies.{derivationChecks, DerivationReply}
+use Rattle.place_calls.specs.Replies.{verdictChecks, VerdictReply, greedyChecks, GreedyReply, fewestChecks, FewestReply}
+use Rattle.text_calls.specs.Replies.{CaseReadReply, writeChecks, CaseWrittenReply, StepsCheckedReply}
 use Rattle.estimator.specs.Answers.{ObservedFor, UnconfirmedFor, FewestFor, ReplayFor, OfText}
-use Rattle.results.specs.Results.{Answered}
+use Rattle.estimator_reply.specs.Results.{Answered}
 use Rattle.demands.specs.TextChecks.{caseChecks, stepTextChecks, stepsReadChecks, textReplayChecks, estimatorChecks, inputChecks, printChecks}
 use Rattle.demands.specs.ByTable.{noDerivation, Refuses, TextRefuses, Coded, ByTable, NothingLent, PrintedByTable, FewestPrinted}
 use Rattle.demands.specs.Calls.{EveryCall}

@@ -17,15 +17,15 @@ use Rattle.refusals.specs.Refusals.{Is}
 use Rattle.ending.specs.Replies.{ReplayReply}
 use Rattle.ending.specs.declared.Replayed.{Replayed}
 use Rattle.ending.specs.declared.Replayed.the-variants as replayed
-use Rattle.reader.specs.Reading.{got}
-use Rattle.putting.specs.declared.Written.the-variants as written
-use Rattle.observing.specs.declared.Observed.{Observed}
-use Rattle.observing.specs.declared.Observed.the-variants as observed
-use Rattle.siting.specs.declared.Fewest.{Fewest}
-use Rattle.siting.specs.declared.Fewest.the-variants as fewest
-use Rattle.observing.specs.Replies.{ObservedReply}
-use Rattle.siting.specs.Replies.{FewestReply}
-use Rattle.texts.specs.Replies.{CaseReadReply, CaseWrittenReply}
+use Rattle.case_read.specs.Reading.{got}
+use Rattle.text_put.specs.declared.Written.the-variants as written
+use Rattle.observe_calls.specs.declared.Observed.{Observed}
+use Rattle.observe_calls.specs.declared.Observed.the-variants as observed
+use Rattle.place_calls.specs.declared.Fewest.{Fewest}
+use Rattle.place_calls.specs.declared.Fewest.the-variants as fewest
+use Rattle.observe_calls.specs.Replies.{ObservedReply}
+use Rattle.place_calls.specs.Replies.{FewestReply}
+use Rattle.text_calls.specs.Replies.{CaseReadReply, CaseWrittenReply}
 use Rattle.demands.specs.ByTable.{Refuses}
 
 -- replay's reply accepts the list exactly when each step is allowed where it stands

@@ -7,28 +7,28 @@ use Rattle.grid.specs.declared.Case.{Case}
 use Rattle.ending.specs.Replies.{ReplayReply, WeaveReply}
 use Rattle.ending.specs.declared.Replayed.{Replayed}
 use Rattle.ending.specs.declared.Wove.{Wove}
-use Rattle.reader.specs.declared.CaseRead.{CaseRead}
+use Rattle.case_read.specs.declared.CaseRead.{CaseRead}
 use Rattle.taking.specs.Taking.{StepsReadReply}
-use Rattle.steptext.specs.declared.StepsRead.{StepsRead}
-use Rattle.textreplay.specs.Replying.{TextReplayReply}
-use Rattle.textreplay.specs.declared.TextReplayed.{TextReplayed}
-use Rattle.printer.specs.Printing.{PrintedReply}
-use Rattle.putting.specs.declared.Written.{Written}
-use Rattle.dayreport.specs.Day.{Day}
-use Rattle.planreport.specs.Plan.{Plan}
-use Rattle.observing.specs.declared.Observed.{Observed}
-use Rattle.observing.specs.declared.Figured.{Figured}
-use Rattle.observing.specs.declared.Tested.{Tested}
-use Rattle.deriving.specs.declared.Derived.{Derived}
-use Rattle.siting.specs.declared.Verdict.{Verdict}
-use Rattle.siting.specs.declared.Greedy.{Greedy}
-use Rattle.siting.specs.declared.Fewest.{Fewest}
-use Rattle.observing.specs.Replies.{ObservedReply, FigureReply, StepReply}
-use Rattle.deriving.specs.Replies.{DerivationReply}
-use Rattle.siting.specs.Replies.{VerdictReply, GreedyReply, FewestReply}
-use Rattle.texts.specs.Replies.{CaseReadReply, CaseWrittenReply, StepsCheckedReply}
+use Rattle.step_text.specs.declared.StepsRead.{StepsRead}
+use Rattle.step_replay.specs.Replying.{TextReplayReply}
+use Rattle.step_replay.specs.declared.TextReplayed.{TextReplayed}
+use Rattle.report_lines.specs.Printing.{PrintedReply}
+use Rattle.text_put.specs.declared.Written.{Written}
+use Rattle.report_day.specs.Day.{Day}
+use Rattle.report_plan.specs.Plan.{Plan}
+use Rattle.observe_calls.specs.declared.Observed.{Observed}
+use Rattle.observe_calls.specs.declared.Figured.{Figured}
+use Rattle.observe_calls.specs.declared.Tested.{Tested}
+use Rattle.list_derive.specs.declared.Derived.{Derived}
+use Rattle.place_calls.specs.declared.Verdict.{Verdict}
+use Rattle.place_calls.specs.declared.Greedy.{Greedy}
+use Rattle.place_calls.specs.declared.Fewest.{Fewest}
+use Rattle.observe_calls.specs.Replies.{ObservedReply, FigureReply, StepReply}
+use Rattle.list_derive.specs.Replies.{DerivationReply}
+use Rattle.place_calls.specs.Replies.{VerdictReply, GreedyReply, FewestReply}
+use Rattle.text_calls.specs.Replies.{CaseReadReply, CaseWrittenReply, StepsCheckedReply}
 use Rattle.estimator.specs.Answers.{ObservedFor, UnconfirmedFor, FewestFor, ReplayFor, OfText}
-use Rattle.results.specs.Results.{Answered}
+use Rattle.estimator_reply.specs.Results.{Answered}
 
 -- P allows one reply
 abbrev pub One : {R : Type 0} → (R → Type 0) → Type 0

@@ -4,23 +4,23 @@ use mathlib.Core.Bool.{Bool, true, false}
 use mathlib.Core.List.{List, [], _∷_, _++_}
 use Prim.Native.Nat.{ℕ, _+_, _≤_}
 use lib.ListN.{length}
-use Rattle.field.specs.Split.{split, lineFeed}
-use Rattle.field.specs.declared.Numeral.{Numeral}
-use Rattle.field.specs.declared.Numeral.the-variants as numeral
-use Rattle.record.specs.Record.{recordOf}
-use Rattle.stepline.specs.StepLine.{stepLineOf}
-use Rattle.record.specs.declared.Record.{Record}
-use Rattle.record.specs.declared.Record.the-variants.{Grid, Bus, Line, Pmu, End, Wrong}
-use Rattle.stepline.specs.declared.StepLine.{StepLine}
-use Rattle.stepline.specs.declared.StepLine.the-variants as line
+use Rattle.text_field.specs.Split.{split, lineFeed}
+use Rattle.text_field.specs.declared.Numeral.{Numeral}
+use Rattle.text_field.specs.declared.Numeral.the-variants as numeral
+use Rattle.case_line.specs.Record.{recordOf}
+use Rattle.step_line.specs.StepLine.{stepLineOf}
+use Rattle.case_line.specs.declared.Record.{Record}
+use Rattle.case_line.specs.declared.Record.the-variants.{Grid, Bus, Line, Pmu, End, Wrong}
+use Rattle.step_line.specs.declared.StepLine.{StepLine}
+use Rattle.step_line.specs.declared.StepLine.the-variants as line
 use Rattle.grid.specs.declared.Case.{Case}
 use Rattle.grid.specs.Cases.{mostSteps, mostBytes, mostStepBytes}
 use Rattle.refusals.specs.Refusals.{Check, check}
-use Rattle.judging.specs.Judging.{inPlace, inRange, inOrder}
-use Rattle.reader.specs.Reading.{Reader, start, next, readCase}
+use Rattle.case_judge.specs.Judging.{inPlace, inRange, inOrder}
+use Rattle.case_read.specs.Reading.{Reader, start, next, readCase}
 use Rattle.ending.specs.Replies.{replayChecks}
-use Rattle.steptext.specs.Steps.{stepInRange, stepsOf}
-use Rattle.planinput.specs.Asking.{budgetOf}
+use Rattle.step_text.specs.Steps.{stepInRange, stepsOf}
+use Rattle.plan_input.specs.Asking.{budgetOf}
 
 -- nothing follows `end`
 abbrev pub NothingFollows : List ℕ → List (List ℕ) → Type 0

@@ -19,8 +19,8 @@ use Rattle.grid.specs.Cases.{gridOf}
 use Rattle.refusals.proofs.Orders.{itself}
 use Rattle.observe.specs.Passes.{Started, Swept}
 use Rattle.ending.specs.Replies.{EndedAt, SettledAt}
-use Rattle.following.specs.declared.Standing.the-variants.{Good, Bad}
-use Rattle.following.specs.declared.Following.{Following}
+use Rattle.list_follow.specs.declared.Standing.the-variants.{Good, Bad}
+use Rattle.list_follow.specs.declared.Following.{Following}
 use Rattle.ending.specs.declared.Replayed.the-variants as replayed
 use Rattle.ending.specs.declared.Wove.the-variants as wove
 

@@ -19,14 +19,14 @@ use Rattle.grid.specs.declared.Case.{Case}
 use Rattle.refusals.specs.declared.Refusal.{Refusal}
 use Rattle.grid.specs.Cases.{mostSteps, gridOf, Valid}
 use Rattle.refusals.specs.Refusals.{Check, check, Passed, Failed}
-use Rattle.steplist.specs.Lists.{nthOf, Listed, listed}
-use Rattle.following.specs.Following.{checksAt, checksFrom, Taken, TakenOr, Further, AppliedTo, Applied, Follows, none, next, beginChecks, BegunAt, Begun}
-use Rattle.steplist.proofs.Listing.{nth-in}
-use Rattle.following.specs.declared.Task.{Task}
-use Rattle.following.specs.declared.Task.the-variants.{Replay, Weave}
-use Rattle.following.specs.declared.Standing.{Standing}
-use Rattle.following.specs.declared.Standing.the-variants.{Good, Bad}
-use Rattle.following.specs.declared.Following.{Following}
+use Rattle.list_value.specs.Lists.{nthOf, Listed, listed}
+use Rattle.list_follow.specs.Following.{checksAt, checksFrom, Taken, TakenOr, Further, AppliedTo, Applied, Follows, none, next, beginChecks, BegunAt, Begun}
+use Rattle.list_value.proofs.Listing.{nth-in}
+use Rattle.list_follow.specs.declared.Task.{Task}
+use Rattle.list_follow.specs.declared.Task.the-variants.{Replay, Weave}
+use Rattle.list_follow.specs.declared.Standing.{Standing}
+use Rattle.list_follow.specs.declared.Standing.the-variants.{Good, Bad}
+use Rattle.list_follow.specs.declared.Following.{Following}
 use Rattle.ending.specs.declared.Replayed.{Replayed}
 use Rattle.ending.specs.declared.Replayed.the-variants as replayed
 use Rattle.ending.specs.declared.Wove.{Wove}

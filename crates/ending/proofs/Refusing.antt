@@ -11,9 +11,9 @@ use Rattle.refusals.specs.declared.Refusal.{Refusal}
 use Rattle.refusals.specs.Refusals.{placeOf}
 use Rattle.refusals.proofs.Orders.{PlacesBy, failed-place}
 use Rattle.grid.specs.Cases.{mostSteps}
-use Rattle.following.specs.Following.{checksFrom}
+use Rattle.list_follow.specs.Following.{checksFrom}
 use Rattle.ending.specs.Replies.{ReplayReply}
-use Rattle.following.specs.declared.Task.the-variants.{Replay}
+use Rattle.list_follow.specs.declared.Task.the-variants.{Replay}
 use Rattle.ending.specs.declared.Replayed.the-variants as replayed
 
 -- the checks of the steps from step k on

@@ -12,12 +12,12 @@ use Rattle.rules.specs.Weaving.{woven}
 use Rattle.grid.specs.declared.Case.{Case}
 use Rattle.grid.specs.Cases.{gridOf}
 use Rattle.refusals.specs.Refusals.{Check, check, Passed, Failed}
-use Rattle.steplist.specs.Lists.{nthOf}
-use Rattle.following.specs.Following.{checksFrom, beginChecks}
-use Rattle.following.specs.declared.Task.the-variants.{Replay, Weave}
-use Rattle.following.specs.declared.Standing.{Standing}
-use Rattle.following.specs.declared.Standing.the-variants.{Good, Bad}
-use Rattle.following.specs.declared.Following.{Following}
+use Rattle.list_value.specs.Lists.{nthOf}
+use Rattle.list_follow.specs.Following.{checksFrom, beginChecks}
+use Rattle.list_follow.specs.declared.Task.the-variants.{Replay, Weave}
+use Rattle.list_follow.specs.declared.Standing.{Standing}
+use Rattle.list_follow.specs.declared.Standing.the-variants.{Good, Bad}
+use Rattle.list_follow.specs.declared.Following.{Following}
 use Rattle.ending.specs.declared.Replayed.{Replayed}
 use Rattle.ending.specs.declared.Replayed.the-variants as replayed
 use Rattle.ending.specs.declared.Wove.{Wove}

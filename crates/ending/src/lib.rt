@@ -6,9 +6,9 @@ ghost use Rattle.rules.specs.Steps.{Finished};
 ghost use Rattle.grid.specs.Cases.{gridOf};
 ghost use Rattle.ending.specs.Replies.{EndedAt, SettledAt, countOf};
 use busset::BusSet;
-use following::Following;
-use following::Standing;
 use grid::Case;
+use list_follow::Following;
+use list_follow::Standing;
 use refusals::Refusal;
 
 // What replay answers: the set reached and whether the list is finished.

@@ -7,28 +7,28 @@ use Rattle.grid.specs.declared.Case.{Case}
 use Rattle.refusals.specs.Refusals.{placeOf}
 use Rattle.refusals.proofs.Orders.{failed-place}
 use Rattle.ending.proofs.Refusing.{replay-place}
-use Rattle.reader.specs.Reading.{readCase}
-use Rattle.reader.specs.declared.ReadAnswer.{ReadAnswer}
-use Rattle.reader.specs.declared.ReadAnswer.the-variants as read
-use Rattle.reader.proofs.Refusing.{read-place}
-use Rattle.steptext.specs.Steps.{readSteps, stepsOf}
-use Rattle.steptext.specs.declared.StepsRead.{StepsRead}
-use Rattle.steptext.specs.declared.StepsRead.the-variants as steps
-use Rattle.steptext.proofs.Refusing.{steps-place}
-use Rattle.textreplay.specs.Replying.{TextReplayAt, TextReplayReply}
-use Rattle.textreplay.specs.declared.TextReplayed.{TextReplayed}
-use Rattle.textreplay.specs.declared.TextReplayed.the-variants as replayed
-use Rattle.observing.specs.Replies.{observedChecks, ObservedReply}
-use Rattle.siting.specs.Replies.{verdictChecks, VerdictReply, fewestChecks, FewestReply}
-use Rattle.observing.specs.declared.Observed.{Observed}
-use Rattle.observing.specs.declared.Observed.the-variants as observed
-use Rattle.siting.specs.declared.Verdict.{Verdict}
-use Rattle.siting.specs.declared.Verdict.the-variants as verdict
-use Rattle.siting.specs.declared.Fewest.{Fewest}
-use Rattle.siting.specs.declared.Fewest.the-variants as fewest
+use Rattle.case_read.specs.Reading.{readCase}
+use Rattle.case_read.specs.declared.ReadAnswer.{ReadAnswer}
+use Rattle.case_read.specs.declared.ReadAnswer.the-variants as read
+use Rattle.case_read.proofs.Refusing.{read-place}
+use Rattle.step_text.specs.Steps.{readSteps, stepsOf}
+use Rattle.step_text.specs.declared.StepsRead.{StepsRead}
+use Rattle.step_text.specs.declared.StepsRead.the-variants as steps
+use Rattle.step_text.proofs.Refusing.{steps-place}
+use Rattle.step_replay.specs.Replying.{TextReplayAt, TextReplayReply}
+use Rattle.step_replay.specs.declared.TextReplayed.{TextReplayed}
+use Rattle.step_replay.specs.declared.TextReplayed.the-variants as replayed
+use Rattle.observe_calls.specs.Replies.{observedChecks, ObservedReply}
+use Rattle.place_calls.specs.Replies.{verdictChecks, VerdictReply, fewestChecks, FewestReply}
+use Rattle.observe_calls.specs.declared.Observed.{Observed}
+use Rattle.observe_calls.specs.declared.Observed.the-variants as observed
+use Rattle.place_calls.specs.declared.Verdict.{Verdict}
+use Rattle.place_calls.specs.declared.Verdict.the-variants as verdict
+use Rattle.place_calls.specs.declared.Fewest.{Fewest}
+use Rattle.place_calls.specs.declared.Fewest.the-variants as fewest
 use Rattle.estimator.specs.Answers.{ofObserved, ofVerdict, ofFewest, ofReplay, Said, ObservedFor, UnconfirmedFor, FewestFor, ReplayFor, OfRead, OfText}
-use Rattle.results.specs.Results.{farthest, Placed}
-use Rattle.results.specs.declared.Answer.{Answer}
+use Rattle.estimator_reply.specs.Results.{farthest, Placed}
+use Rattle.estimator_reply.specs.declared.Answer.{Answer}
 
 -- ---- of a case
 

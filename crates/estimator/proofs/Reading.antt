@@ -4,13 +4,13 @@ use mathlib.Core.List.{List}
 use Prim.Native.Nat.{ℕ}
 use Rattle.grid.specs.declared.Case.{Case}
 use Rattle.refusals.specs.declared.Refusal.{Refusal}
-use Rattle.reader.specs.Reading.{readCase}
-use Rattle.reader.specs.declared.CaseRead.{CaseRead}
-use Rattle.reader.specs.declared.ReadAnswer.{ReadAnswer}
-use Rattle.reader.specs.declared.ReadAnswer.the-variants as read
+use Rattle.case_read.specs.Reading.{readCase}
+use Rattle.case_read.specs.declared.CaseRead.{CaseRead}
+use Rattle.case_read.specs.declared.ReadAnswer.{ReadAnswer}
+use Rattle.case_read.specs.declared.ReadAnswer.the-variants as read
 use Rattle.estimator.specs.Answers.{OfRead, OfText}
-use Rattle.results.specs.declared.Answer.{Answer}
-use Rattle.results.specs.declared.Answer.the-variants.{Refused}
+use Rattle.estimator_reply.specs.declared.Answer.{Answer}
+use Rattle.estimator_reply.specs.declared.Answer.the-variants.{Refused}
 
 module _ (text : List ℕ) (P : Case → Answer → Type 0) {r : CaseRead} (e : r ≡ readCase text) where
   pub of-read : {a : Answer} → r .answer ≡ read.Read → P (r .case) a → OfText text P a

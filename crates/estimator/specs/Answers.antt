@@ -3,22 +3,22 @@ use mathlib.Core.Path.{_≡_}
 use mathlib.Core.List.{List}
 use Prim.Native.Nat.{ℕ}
 use Rattle.grid.specs.declared.Case.{Case}
-use Rattle.reader.specs.Reading.{readCase}
-use Rattle.reader.specs.declared.ReadAnswer.{ReadAnswer}
-use Rattle.reader.specs.declared.ReadAnswer.the-variants as read
-use Rattle.textreplay.specs.Replying.{TextReplayReply}
-use Rattle.textreplay.specs.declared.TextReplayed.{TextReplayed}
-use Rattle.textreplay.specs.declared.TextReplayed.the-variants as replayed
-use Rattle.observing.specs.Replies.{ObservedReply}
-use Rattle.siting.specs.Replies.{VerdictReply, FewestReply}
-use Rattle.observing.specs.declared.Observed.{Observed}
-use Rattle.observing.specs.declared.Observed.the-variants as observed
-use Rattle.siting.specs.declared.Verdict.{Verdict}
-use Rattle.siting.specs.declared.Verdict.the-variants as verdict
-use Rattle.siting.specs.declared.Fewest.{Fewest}
-use Rattle.siting.specs.declared.Fewest.the-variants as fewest
-use Rattle.results.specs.declared.Answer.{Answer}
-use Rattle.results.specs.declared.Answer.the-variants.{Set, Refused, Unread}
+use Rattle.case_read.specs.Reading.{readCase}
+use Rattle.case_read.specs.declared.ReadAnswer.{ReadAnswer}
+use Rattle.case_read.specs.declared.ReadAnswer.the-variants as read
+use Rattle.step_replay.specs.Replying.{TextReplayReply}
+use Rattle.step_replay.specs.declared.TextReplayed.{TextReplayed}
+use Rattle.step_replay.specs.declared.TextReplayed.the-variants as replayed
+use Rattle.observe_calls.specs.Replies.{ObservedReply}
+use Rattle.place_calls.specs.Replies.{VerdictReply, FewestReply}
+use Rattle.observe_calls.specs.declared.Observed.{Observed}
+use Rattle.observe_calls.specs.declared.Observed.the-variants as observed
+use Rattle.place_calls.specs.declared.Verdict.{Verdict}
+use Rattle.place_calls.specs.declared.Verdict.the-variants as verdict
+use Rattle.place_calls.specs.declared.Fewest.{Fewest}
+use Rattle.place_calls.specs.declared.Fewest.the-variants as fewest
+use Rattle.estimator_reply.specs.declared.Answer.{Answer}
+use Rattle.estimator_reply.specs.declared.Answer.the-variants.{Set, Refused, Unread}
 
 -- ---- what is answered of a call's reply
 

@@ -1,10 +1,10 @@
 // The state estimator's functions, for C. Each is given the case as its text and fills the set into the first eight bytes lent.
 ghost use Rattle.estimator.specs.Answers.{OfText, ObservedFor, UnconfirmedFor, FewestFor, ReplayFor};
-ghost use Rattle.results.specs.Results.{Answered};
+ghost use Rattle.estimator_reply.specs.Results.{Answered};
 
 mod answers;
 
-use results::reply;
+use estimator_reply::reply;
 
 // The observed set.
 #[no_mangle]

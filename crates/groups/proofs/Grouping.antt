@@ -15,8 +15,8 @@ use Rattle.rules.specs.Blocking.{Group}
 use Rattle.rules.proofs.Blocks.{Grouped, grouped-more, grouped-stuck}
 use Rattle.grid.specs.Cases.{Lines}
 use Rattle.observe.specs.Passes.{Started}
-use Rattle.spread.specs.Spreads.{Spread, LitAll}
-use Rattle.spread.proofs.Lighting.{lit-all-closed}
+use Rattle.place_light.specs.Spreads.{Spread, LitAll}
+use Rattle.place_light.proofs.Lighting.{lit-all-closed}
 use Rattle.groups.specs.Shrinking.{Shrunk}
 
 -- ---- trial units

@@ -3,7 +3,7 @@ ghost use Prim.Native.Nat.{_≤_};
 ghost use Rattle.busset.specs.Sets.{Bus, Within, width, setOf};
 ghost use Rattle.rules.specs.Blocking.{Group};
 ghost use Rattle.grid.specs.Cases.{neighbours, Lines};
-ghost use Rattle.spread.specs.Spares.{Spares};
+ghost use Rattle.place_light.specs.Spares.{Spares};
 ghost use Rattle.groups.specs.Shrinking.{Shrunk};
 use busset::BusSet;
 
@@ -16,8 +16,8 @@ pub fn tried(n: usize, nbr: &[BusSet; 64], zero: BusSet, c: BusSet, x: usize) ->
     if busset::is_subset(here, c) {
         return c;
     }
-    let d = spread::spread(nbr, zero, busset::union(c, here));
-    if spread::is_full(n, d) {
+    let d = place_light::spread(nbr, zero, busset::union(c, here));
+    if place_light::is_full(n, d) {
         return c;
     }
     d
@@ -63,7 +63,7 @@ pub fn narrowed(
     let mut t = s;
     let mut m: usize = 0;
     while m < k {
-        if spread::is_full(n, t) {
+        if place_light::is_full(n, t) {
             return sites;
         }
         let c = shrunk(n, nbr, zero, t);
@@ -72,10 +72,10 @@ pub fn narrowed(
             return busset::none();
         }
         q = busset::union(q, next);
-        t = spread::lit_all(nbr, zero, t, next);
+        t = place_light::lit_all(nbr, zero, t, next);
         m += 1;
     }
-    if spread::is_full(n, t) {
+    if place_light::is_full(n, t) {
         return q;
     }
     busset::none()

@@ -12,10 +12,10 @@ use Rattle.busset.proofs.Digits.{bit-zero}
 use Rattle.busset.proofs.Members.{in-or, add-sub, without-sub}
 use Rattle.rules.proofs.Blocks.{cover-other}
 use Rattle.grid.specs.Cases.{neighbours}
-use Rattle.spread.specs.Spreads.{Lit}
-use Rattle.spread.specs.Spares.{Spares}
-use Rattle.spread.proofs.Lighting.{lit-gives}
-use Rattle.spread.proofs.Sparing.{spares-same, spares-more, without-less, without-out}
+use Rattle.place_light.specs.Spreads.{Lit}
+use Rattle.place_light.specs.Spares.{Spares}
+use Rattle.place_light.proofs.Lighting.{lit-gives}
+use Rattle.place_light.proofs.Sparing.{spares-same, spares-more, without-less, without-out}
 use Rattle.outlit.specs.Rows.{LitRows, Outlit}
 use Rattle.outlit.proofs.Storing.{row-set-same, row-set-other}
 

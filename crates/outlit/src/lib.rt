@@ -4,7 +4,7 @@ ghost use mathlib.Core.Bool.{true};
 ghost use Prim.Native.Nat.{ℕ};
 ghost use Rattle.busset.specs.Sets.{Bus, width, setOf};
 ghost use Rattle.grid.specs.Cases.{neighbours};
-ghost use Rattle.spread.specs.Spares.{Spares};
+ghost use Rattle.place_light.specs.Spares.{Spares};
 ghost use Rattle.outlit.specs.Rows.{LitRows, Outlit};
 use busset::BusSet;
 
@@ -16,7 +16,7 @@ pub fn lit_rows(nbr: &[BusSet; 64], zero: BusSet, s: BusSet, sites: BusSet) -> [
     let mut left = sites;
     while !busset::is_none(left) {
         let x = busset::lowest(left);
-        rows[x - 1] = spread::lit(nbr, zero, s, x);
+        rows[x - 1] = place_light::lit(nbr, zero, s, x);
         left = busset::without(left, x);
     }
     rows

@@ -1,6 +1,6 @@
 // The planning program: a plan line and a case text on standard input, its report on standard output.
-ghost use Rattle.printer.specs.Printing.{Printed};
-ghost use Rattle.planreport.specs.Plan.{Plan};
+ghost use Rattle.report_lines.specs.Printing.{Printed};
+ghost use Rattle.report_plan.specs.Plan.{Plan};
 use wozgrzyt::Written;
 use wozgrzyt::plan_report;
 

@@ -20,7 +20,7 @@ use Rattle.rules.proofs.Sought.{Sought, pick, reasonFor, reasonAt, stepFor, pas
 use Rattle.refusals.proofs.Orders.{itself}
 use Rattle.grid.specs.Cases.{neighbours, gridOf, Valid}
 use Rattle.grid.proofs.Drawn.{withinTest, rowTest, validTest, valid-passes}
-use Rattle.observing.specs.Replies.{stated}
+use Rattle.observe_calls.specs.Replies.{stated}
 use Rattle.starred.proofs.SitingRows.{grid, free, verdict-right, greedy-right, fewest-right, uncovered-right}
 use Rattle.starred.specs.Table.{wordOf, caseOf, Row, observes, figures, fails, unconfirmed, adds, fewestIs, uncovered, Right, AllRight, table}
 

@@ -16,10 +16,10 @@ use Rattle.refusals.specs.declared.Refusal.the-variants.{NoCover}
 use Rattle.grid.specs.Cases.{gridOf, Valid}
 use Rattle.refusals.proofs.Orders.{itself}
 use Rattle.grid.proofs.Drawn.{withinTest, validTest, valid-passes}
-use Rattle.siting.specs.declared.Verdict.the-variants as verdict
-use Rattle.siting.specs.declared.Greedy.the-variants as greedy
-use Rattle.siting.specs.declared.Fewest.the-variants as fewest
-use Rattle.siting.specs.Replies.{VerdictReply, GreedyReply, FewestReply}
+use Rattle.place_calls.specs.declared.Verdict.the-variants as verdict
+use Rattle.place_calls.specs.declared.Greedy.the-variants as greedy
+use Rattle.place_calls.specs.declared.Fewest.the-variants as fewest
+use Rattle.place_calls.specs.Replies.{VerdictReply, GreedyReply, FewestReply}
 use Rattle.starred.specs.Table.{Drawing, wordOf, caseOf}
 
 -- ---- a row, from its test

@@ -11,13 +11,13 @@ use Rattle.grid.specs.declared.Case.{Case}
 use Rattle.refusals.specs.declared.Refusal.the-variants.{ReasonFails, NoCover}
 use Rattle.ending.specs.Replies.{ReplayReply}
 use Rattle.ending.specs.declared.Replayed.the-variants as replayed
-use Rattle.observing.specs.declared.Observed.the-variants as observed
-use Rattle.observing.specs.declared.Figured.the-variants as figured
-use Rattle.siting.specs.declared.Verdict.the-variants as verdict
-use Rattle.siting.specs.declared.Greedy.the-variants as greedy
-use Rattle.siting.specs.declared.Fewest.the-variants as fewest
-use Rattle.observing.specs.Replies.{ObservedReply, FigureReply}
-use Rattle.siting.specs.Replies.{VerdictReply, GreedyReply, FewestReply}
+use Rattle.observe_calls.specs.declared.Observed.the-variants as observed
+use Rattle.observe_calls.specs.declared.Figured.the-variants as figured
+use Rattle.place_calls.specs.declared.Verdict.the-variants as verdict
+use Rattle.place_calls.specs.declared.Greedy.the-variants as greedy
+use Rattle.place_calls.specs.declared.Fewest.the-variants as fewest
+use Rattle.observe_calls.specs.Replies.{ObservedReply, FigureReply}
+use Rattle.place_calls.specs.Replies.{VerdictReply, GreedyReply, FewestReply}
 
 -- ---- a grid, drawn
 

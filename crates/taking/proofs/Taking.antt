@@ -8,20 +8,20 @@ use borrow.Author.Tests.{lt-ltb, le-ltb, ltb-false}
 use lib.Dec.{ltb}
 use lib.ListN.{length, take, drop, getD, drop-of-length-le}
 use lib.Seq.{take-length, getD-drop, drop-drop}
-use Rattle.field.specs.Split.{split}
+use Rattle.text_field.specs.Split.{split}
 use Rattle.step.specs.Records.{noStep, putFirst}
 use Rattle.step.specs.declared.Step.{Step}
 use Rattle.step.proofs.Records.{put-first}
 use Rattle.refusals.specs.declared.Refusal.{Refusal}
 use Rattle.refusals.specs.declared.Refusal.the-variants.{NoRoom}
-use Rattle.steptext.specs.Steps.{readSteps, stepsIn, stepsFrom, stepsOf, StepHere}
+use Rattle.step_text.specs.Steps.{readSteps, stepsIn, stepsFrom, stepsOf, StepHere}
 use Rattle.taking.specs.Taking.{StepAt, withRoom, leaves, StepsReadReply, countOf, Takes}
-use Rattle.steptext.specs.declared.StepsRead.{StepsRead}
-use Rattle.steptext.specs.declared.StepsRead.the-variants.{Steps, Refused}
+use Rattle.step_text.specs.declared.StepsRead.{StepsRead}
+use Rattle.step_text.specs.declared.StepsRead.the-variants.{Steps, Refused}
 use Rattle.taking.specs.declared.NextStep.{NextStep}
 use Rattle.taking.specs.declared.NextStep.the-variants.{At, Nothing}
 use Rattle.taking.specs.declared.Taken.{Taken}
-use Rattle.steptext.proofs.Found.{not-steps, steps-count}
+use Rattle.step_text.proofs.Found.{not-steps, steps-count}
 
 -- ---- a step taken
 

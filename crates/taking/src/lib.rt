@@ -2,15 +2,15 @@
 ghost use mathlib.Core.Path.{_≡_};
 ghost use Prim.Native.Nat.{_≤_};
 ghost use lib.ListN.{length};
-ghost use Rattle.steptext.specs.Steps.{readSteps};
+ghost use Rattle.step_text.specs.Steps.{readSteps};
 ghost use Rattle.taking.specs.Taking.{StepAt, Takes, withRoom, countOf};
-use field::piece_end;
 use refusals::Refusal;
 use step::Reason;
 use step::Step;
-use stepline::StepLine;
-use steptext::StepsRead;
-use steptext::check_steps;
+use step_line::StepLine;
+use step_text::StepsRead;
+use step_text::check_steps;
+use text_field::piece_end;
 
 // A step, and where the line after it starts.
 pub struct Taken {
@@ -33,7 +33,7 @@ pub fn step_at(text: &[u8], at: usize) -> NextStep
     if text.len() <= e {
         return NextStep::Nothing;
     }
-    match stepline::step_line_of(&text[at..e]) {
+    match step_line::step_line_of(&text[at..e]) {
         StepLine::Step(x) => NextStep::At(x, e + 1),
         StepLine::End => NextStep::Nothing,
         StepLine::Wrong => NextStep::Nothing,

@@ -14,7 +14,7 @@ fn question(text: &[u8], at: usize) -> usize
     let name = l.name;
     let end = l.end;
     let case = l.next;
-    let e = field::piece_end(text, case, b'#');
+    let e = text_field::piece_end(text, case, b'#');
     asking::answer(&text[name..end], l.letter, l.a, l.b, &text[case..e]);
     asked::after(text, e)
 }

@@ -19,7 +19,7 @@ pub fn replay_first(case: Case, plan: [Step; 1025], count: usize) -> Replayed
     requires { ⌜ count ≤ 1025 ⌝ }
     ensures { λ r. ⌜ ReplayReply case (take count plan) r ⌝ }
 {
-    desks::replay(case, &plan[..count])
+    list_calls::replay(case, &plan[..count])
 }
 
 // Weaves the first `count` steps into the first `room` records.
@@ -34,7 +34,7 @@ pub fn weave_first(
     ensures { λ r. ⌜ WeaveReply case (take count plan) (take room out) (take room (r .out)) (r .answer) × (drop room (r .out) ≡ drop room out) ⌝ }
 {
     let mut records = out;
-    let answer = desks::weave(case, &plan[..count], &mut records[..room]);
+    let answer = list_calls::weave(case, &plan[..count], &mut records[..room]);
     Shown {
         answer,
         out: records,

@@ -1,7 +1,7 @@
 // Lists of up to 1,025 steps by value: one more than a list may have.
+use list_value::StepList;
 use step::Reason;
 use step::Step;
-use steplist::StepList;
 
 pub struct Plan {
     pub n: usize,
@@ -58,7 +58,7 @@ pub fn of_list(l: StepList) -> Plan {
     let mut r = none();
     let n = l.n;
     for i in 0..n {
-        r = add(r, steplist::nth(l, i));
+        r = add(r, list_value::nth(l, i));
     }
     r
 }

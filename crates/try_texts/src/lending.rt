@@ -4,8 +4,8 @@ ghost use lib.ListN.{take, drop};
 ghost use mathlib.Core.Path.{_≡_};
 ghost use Rattle.taking.specs.Taking.{StepsReadReply};
 use step::Step;
-use stepreader::read_steps;
-use steptext::StepsRead;
+use step_records::read_steps;
+use step_text::StepsRead;
 
 // What reading says, and the records after it.
 pub struct Filled {

@@ -47,7 +47,7 @@ pub fn is_start(out: &[u8], k: usize, text: &[u8]) -> bool {
     if out.len() < k {
         return false;
     }
-    field::is_same(&out[0..k], text)
+    text_field::is_same(&out[0..k], text)
 }
 
 // Where the line that starts at a ends: after its line feed, or with the text.
@@ -55,7 +55,7 @@ pub fn line_end(text: &[u8], a: usize) -> usize
     requires { ⌜ a ≤ length (now text) ⌝ }
     ensures { λ r. ⌜ LineEnd (now (text .entry)) a r ⌝ }
 {
-    let e = field::piece_end(text, a, b'\n');
+    let e = text_field::piece_end(text, a, b'\n');
     if e < text.len() {
         return e + 1;
     }
@@ -67,8 +67,8 @@ pub fn field_end(text: &[u8], a: usize) -> usize
     requires { ⌜ a ≤ length (now text) ⌝ }
     ensures { λ r. ⌜ FieldEnd (now (text .entry)) a r ⌝ }
 {
-    let e = field::piece_end(text, a, b'\n');
-    let t = field::piece_end(text, a, b'\t');
+    let e = text_field::piece_end(text, a, b'\n');
+    let t = text_field::piece_end(text, a, b'\t');
     if t < e {
         return t;
     }

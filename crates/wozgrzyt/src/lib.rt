@@ -8,43 +8,43 @@ pub use step::Reason;
 pub use step::Step;
 
 // one case: the observed set, a firing figure, the test of one step
-pub use observing::Figured;
-pub use observing::Observed;
-pub use observing::Tested;
-pub use observing::firing_figure;
-pub use observing::observed_set;
-pub use observing::test_step;
+pub use observe_calls::Figured;
+pub use observe_calls::Observed;
+pub use observe_calls::Tested;
+pub use observe_calls::firing_figure;
+pub use observe_calls::observed_set;
+pub use observe_calls::test_step;
 
 // lists: the derivation, replay and weaving
-pub use deriving::DerivationAnswer;
-pub use deriving::Derived;
-pub use deriving::derivation;
-pub use desks::replay;
-pub use desks::weave;
 pub use ending::Replayed;
 pub use ending::Wove;
-pub use steplist::StepList;
+pub use list_calls::replay;
+pub use list_calls::weave;
+pub use list_derive::DerivationAnswer;
+pub use list_derive::Derived;
+pub use list_derive::derivation;
+pub use list_value::StepList;
 
 // the siting group: cross-validation, greedy placement and the fewest units
-pub use siting::Fewest;
-pub use siting::Greedy;
-pub use siting::Verdict;
-pub use siting::cross_validate;
-pub use siting::place_fewest;
-pub use siting::place_greedy;
+pub use place_calls::Fewest;
+pub use place_calls::Greedy;
+pub use place_calls::Verdict;
+pub use place_calls::cross_validate;
+pub use place_calls::place_fewest;
+pub use place_calls::place_greedy;
 
 // texts: a case text read and written, a step text checked, read and replayed
-pub use putting::Written;
-pub use reader::CaseRead;
-pub use reader::ReadAnswer;
-pub use stepreader::read_steps;
-pub use steptext::StepsRead;
-pub use textreplay::TextReplayed;
-pub use textreplay::replay_text;
-pub use texts::check_steps;
-pub use texts::read_case;
-pub use texts::write_case;
+pub use case_read::CaseRead;
+pub use case_read::ReadAnswer;
+pub use step_records::read_steps;
+pub use step_replay::TextReplayed;
+pub use step_replay::replay_text;
+pub use step_text::StepsRead;
+pub use text_calls::check_steps;
+pub use text_calls::read_case;
+pub use text_calls::write_case;
+pub use text_put::Written;
 
 // what the programs print
-pub use dayreport::day_report;
-pub use planreport::plan_report;
+pub use report_day::day_report;
+pub use report_plan::plan_report;

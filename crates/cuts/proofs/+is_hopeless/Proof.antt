@@ -10,7 +10,7 @@ use Rattle.busset.proofs.Sizes.{size-le}
 use Rattle.rules.specs.Observation.{Least}
 use Rattle.rules.specs.Ways.{Whatever, Spared}
 use Rattle.grid.specs.Cases.{neighbours}
-use Rattle.spread.proofs.Lighting.{lit-least}
+use Rattle.place_light.proofs.Lighting.{lit-least}
 use Rattle.groups.proofs.Grouping.{shrunk-closed}
 use Rattle.cuts.proofs.Cutting.{IdleBut, idle-tried, idle-no-cover, lacks-no-cover, spared-tried}
 use borrow.Fn.Kinds.{In}
@@ -25,8 +25,8 @@ use Rattle.groups.proofs.group.Reads as group-reads
 use Rattle.groups.proofs.narrowed.Reads as narrowed-reads
 use Rattle.groups.proofs.shrunk.Reads as shrunk-reads
 use Rattle.outlit.proofs.undominated.Reads as undominated-reads
-use Rattle.spread.proofs.is_full.Reads as is-full-reads
-use Rattle.spread.proofs.lit.Reads as lit-reads
+use Rattle.place_light.proofs.is_full.Reads as is-full-reads
+use Rattle.place_light.proofs.lit.Reads as lit-reads
 use Rattle.cuts.proofs.+is_hopeless.{statement}
 use Rattle.cuts.proofs.+is_hopeless.Tie.{close}
 

@@ -1,6 +1,6 @@
 use native.Mathlib.Omega.{arith}
-use Rattle.printer.proofs.Printed.{in-bytes, no-refusal}
-use Rattle.dayreport.proofs.Days.{day-fits}
+use Rattle.report_lines.proofs.Printed.{in-bytes, no-refusal}
+use Rattle.report_day.proofs.Days.{day-fits}
 use borrow.Author.Needs.{needs}
 use Rattle.day.proofs.report.Statement.{statement}
 use Rattle.day.proofs.report.Tie as tie

@@ -8,7 +8,7 @@ use Rattle.rules.specs.Observation.{Least}
 use Rattle.rules.specs.Ways.{Whatever}
 use Rattle.rules.proofs.Blocks.{Grouped, grouped-none, grouped-spared, grouped-lacks}
 use Rattle.grid.specs.Cases.{neighbours}
-use Rattle.spread.proofs.Sparing.{spares-same, spares-none}
+use Rattle.place_light.proofs.Sparing.{spares-same, spares-none}
 use Rattle.groups.proofs.Grouping.{no-group, next-group}
 use borrow.Author.Needs.{needs}
 use Rattle.groups.proofs.narrowed.Statement.{statement}

@@ -6,7 +6,7 @@ use borrow.Author.Tests.{not-true}
 use Rattle.busset.specs.Sets.{setOf, size}
 use Rattle.busset.proofs.Tests.{refutes}
 use Rattle.grid.specs.Cases.{neighbours}
-use Rattle.spread.proofs.Sparing.{spares-same}
+use Rattle.place_light.proofs.Sparing.{spares-same}
 use Rattle.outlit.proofs.Thinning.{Thinned, thinned-none, thinned-yes, thinned-no, thinned-to}
 use borrow.Author.Needs.{needs}
 use Rattle.outlit.proofs.undominated.Statement.{statement}

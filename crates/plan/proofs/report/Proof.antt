@@ -1,6 +1,6 @@
 use native.Mathlib.Omega.{arith}
-use Rattle.printer.proofs.Printed.{in-bytes, no-refusal}
-use Rattle.planreport.proofs.Lengths.{plan-fits}
+use Rattle.report_lines.proofs.Printed.{in-bytes, no-refusal}
+use Rattle.report_plan.proofs.Lengths.{plan-fits}
 use borrow.Author.Needs.{needs}
 use Rattle.plan.proofs.report.Statement.{statement}
 use Rattle.plan.proofs.report.Tie as tie

@@ -1,4 +1,4 @@
-use Rattle.steptext.proofs.Stepping.{steps-none, steps-said, step-here}
+use Rattle.step_text.proofs.Stepping.{steps-none, steps-said, step-here}
 use borrow.Author.Needs.{needs}
 use Rattle.taking.proofs.step_at.Statement.{statement}
 use Rattle.taking.proofs.step_at.Tie as tie

@@ -49,13 +49,13 @@ use Rattle.grid.proofs.Case.Laws as D′
 use Rattle.ending.specs.Replies.{ReplayReply}
 use Rattle.ending.specs.declared.Replayed.{Replayed}
 use Rattle.ending.proofs.Replayed as R
-use Rattle.desks.proofs.Rows.{case-made, case-typed, replayed-made, replayed-typed}
+use Rattle.list_calls.proofs.Rows.{case-made, case-typed, replayed-made, replayed-typed}
 use Rattle.walking.proofs.StepRow.{step-made}
 use Rattle.walking.proofs.Calling.{calls-lent}
-use Rattle.desks.proofs.replay as replay
-use Rattle.desks.proofs.replay.Symbol as replay-def
-use Rattle.desks.proofs.replay.Symbol.{name as #desks·replay}
-use Rattle.desks.proofs.replay.Met as replay-thm
+use Rattle.list_calls.proofs.replay as replay
+use Rattle.list_calls.proofs.replay.Symbol as replay-def
+use Rattle.list_calls.proofs.replay.Symbol.{name as #desks·replay}
+use Rattle.list_calls.proofs.replay.Met as replay-thm
 use Rattle.try_steps.proofs.lending.replay_first.Key.{name as #replay-first}
 use Rattle.try_steps.proofs.lending.replay_first as f
 use Rattle.try_steps.proofs.lending.replay_first.Statement as stated

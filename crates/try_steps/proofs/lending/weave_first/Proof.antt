@@ -50,13 +50,13 @@ use Rattle.grid.proofs.Case.Laws as D′
 use Rattle.ending.specs.Replies.{WeaveReply}
 use Rattle.ending.specs.declared.Wove.{Wove}
 use Rattle.ending.proofs.Wove as O
-use Rattle.desks.proofs.Rows.{case-made, case-typed, wove-typed}
+use Rattle.list_calls.proofs.Rows.{case-made, case-typed, wove-typed}
 use Rattle.walking.proofs.StepRow.{step-made}
 use Rattle.walking.proofs.Calling.{calls-lent}
-use Rattle.desks.proofs.weave as weave
-use Rattle.desks.proofs.weave.Symbol as weave-def
-use Rattle.desks.proofs.weave.Symbol.{name as #desks·weave}
-use Rattle.desks.proofs.weave.Met as weave-thm
+use Rattle.list_calls.proofs.weave as weave
+use Rattle.list_calls.proofs.weave.Symbol as weave-def
+use Rattle.list_calls.proofs.weave.Symbol.{name as #desks·weave}
+use Rattle.list_calls.proofs.weave.Met as weave-thm
 use Rattle.try_steps.specs.declared.lending.Shown.{Shown}
 use Rattle.try_steps.proofs.lending.Shown as S
 use Rattle.try_steps.proofs.lending.Shown.Laws as S′

@@ -46,15 +46,15 @@ use Rattle.step.proofs.Parted.{Steps, machs, mach, stepsTy, First, Past, Others
 use Rattle.step.proofs.Step as T
 use Rattle.step.proofs.Step.Laws as T′
 use Rattle.taking.specs.Taking.{StepsReadReply}
-use Rattle.steptext.specs.declared.StepsRead.{StepsRead}
-use Rattle.steptext.proofs.StepsRead as O
+use Rattle.step_text.specs.declared.StepsRead.{StepsRead}
+use Rattle.step_text.proofs.StepsRead as O
 use Rattle.walking.proofs.StepRow.{step-made}
-use Rattle.stepreader.proofs.Rows.{steps-read-typed}
+use Rattle.step_records.proofs.Rows.{steps-read-typed}
 use Rattle.walking.proofs.Calling.{calls-lent}
-use Rattle.stepreader.proofs.read_steps as read
-use Rattle.stepreader.proofs.read_steps.Symbol as read-def
-use Rattle.stepreader.proofs.read_steps.Symbol.{name as #stepreader·read-steps}
-use Rattle.stepreader.proofs.read_steps.Met as read-thm
+use Rattle.step_records.proofs.read_steps as read
+use Rattle.step_records.proofs.read_steps.Symbol as read-def
+use Rattle.step_records.proofs.read_steps.Symbol.{name as #stepreader·read-steps}
+use Rattle.step_records.proofs.read_steps.Met as read-thm
 use Rattle.try_texts.specs.declared.lending.Filled.{Filled}
 use Rattle.try_texts.proofs.lending.Filled as S
 use Rattle.try_texts.proofs.lending.Filled.Laws as S′

@@ -1,0 +1,78 @@
+// The case, built up record by record.
+ghost use mathlib.Core.Path.{_≡_};
+ghost use Rattle.busset.specs.Sets.{Bus, width};
+ghost use Rattle.busset.specs.Held.{holdIf};
+ghost use Rattle.case_build.specs.Building.{withLine, nextRows, nextMarks};
+ghost use Rattle.case_judge.specs.Judging.{Fit};
+use busset::BusSet;
+use case_judge::Place;
+use case_line::Record;
+
+// The Z buses, the Y sites and the units read.
+pub struct Marks {
+    pub zero: BusSet,
+    pub site: BusSet,
+    pub units: BusSet,
+}
+
+fn hold_if(t: bool, w: BusSet, b: usize) -> BusSet
+    requires { ⌜ Bus width b ⌝ }
+    ensures { λ r. ⌜ r ≡ holdIf t w b ⌝ }
+{
+    if t {
+        return busset::with(w, b);
+    }
+    w
+}
+
+fn add_line(rows: &mut [BusSet; 64], a: usize, b: usize)
+    requires { ⌜ Bus width a × Bus width b ⌝ }
+    ensures { λ _. ⌜ now (rows .exit) ≡ withLine (now (rows .entry)) a b ⌝ }
+{
+    rows[a - 1] = busset::with(rows[a - 1], b);
+    rows[b - 1] = busset::with(rows[b - 1], a);
+}
+
+// The rows after a record; the place is where the reader stood before it.
+pub fn build_rows(rows: &mut [BusSet; 64], s: Place, r: Record)
+    requires { ⌜ Fit s r ⌝ }
+    ensures { λ _. ⌜ now (rows .exit) ≡ nextRows (now (rows .entry)) r ⌝ }
+{
+    match r {
+        Record::Grid(_) => {}
+        Record::Bus {
+            number: _,
+            zero: _,
+            site: _,
+        } => {}
+        Record::Line(a, b) => {
+            add_line(rows, a, b);
+        }
+        Record::Pmu(_) => {}
+        Record::End => {}
+        Record::Wrong => {}
+    }
+}
+
+// The classes, sites and units after a record.
+pub fn build_marks(m: Marks, s: Place, r: Record) -> Marks
+    requires { ⌜ Fit s r ⌝ }
+    ensures { λ q. ⌜ q ≡ nextMarks m r ⌝ }
+{
+    match r {
+        Record::Grid(_) => m,
+        Record::Bus { number, zero, site } => Marks {
+            zero: hold_if(zero, m.zero, number),
+            site: hold_if(site, m.site, number),
+            units: m.units,
+        },
+        Record::Line(_, _) => m,
+        Record::Pmu(p) => Marks {
+            zero: m.zero,
+            site: m.site,
+            units: busset::with(m.units, p),
+        },
+        Record::End => m,
+        Record::Wrong => m,
+    }
+}

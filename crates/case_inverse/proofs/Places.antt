@@ -1,0 +1,262 @@
+-- Where a reader stands: each record answers the questions at its own place, and places rise.
+use mathlib.Core.Path.{_≡_, refl, sym, ap, _∙_, subst⁻¹}
+use mathlib.Core.Bool.{Bool, true, false, _&&_, _||_}
+use mathlib.Core.List.{List}
+use mathlib.Core.Logic.{_⊎_, ⊎-elim}
+use Prim.Native.Nat.{ℕ, suc, zero, _+_, _-_, _*_, _≤_, _<_}
+use native.Mathlib.Omega.{arith}
+use borrow.Author.Tests.{leb-true, ltb-true, eqb-true}
+use lib.Dec.{eqb, ltb, leb}
+use lib.ListN.{length, getD, set, length-set}
+use lib.Seq.{getD-set-same, getD-set-other}
+use Rattle.busset.specs.Sets.{bit, add, setOf, width, Bus as IsBus}
+use Rattle.busset.specs.Held.{hold}
+use Rattle.busset.proofs.Tests.{same-or}
+use Rattle.busset.proofs.Members.{add-here, add-there}
+use Rattle.busset.proofs.Holding.{set-hold, hold-there, if-there}
+use Rattle.text_field.proofs.Tested.{both}
+use Rattle.case_line.specs.declared.Record.{Record}
+use Rattle.case_line.specs.declared.Record.the-variants.{Grid, Bus, Line, Pmu, End, Wrong}
+use Rattle.grid.specs.Cases.{neighbours, mostBuses}
+use Rattle.grid.specs.declared.Case.{Case}
+use Rattle.grid.proofs.Rows.{row-at, row-zero}
+use Rattle.case_build.specs.Building.{withEnd, withLine}
+use Rattle.case_judge.specs.Judging.{isAfter, pastBuses}
+use Rattle.case_read.specs.Reading.{Reader, caseOf, next}
+use Rattle.case_judge.specs.declared.Place.{Place}
+use Rattle.case_judge.proofs.Judged.{Accepted, inside, line-ends, apart}
+
+-- ---- rows
+
+module _ (rows : List ℕ) (a v : ℕ) (h : 1 ≤ a) where
+  row-same : a ≤ length rows → neighbours (set rows (a - 1) v) a ≡ setOf v
+  row-same l = sym (row-at (set rows (a - 1) v) a h) ∙ ap setOf (getD-set-same rows (a - 1) v 0 (omega arith))
+
+  row-other : (i : ℕ) → (i ≡ a → ⊥) → neighbours (set rows (a - 1) v) i ≡ neighbours rows i
+  row-other zero n = row-zero (set rows (a - 1) v) ∙ sym (row-zero rows)
+  row-other (suc i) n =
+      sym (row-at (set rows (a - 1) v) (suc i) (omega arith)) ∙ ap setOf (getD-set-other rows (a - 1) (suc i - 1) v 0 (λ e. n (omega arith)))
+      ∙ row-at rows (suc i) (omega arith)
+
+-- 1 where i and j are joined as seen from i, else 0
+abbrev pub joined : List ℕ → ℕ → ℕ → ℕ
+joined rows i j = bit (neighbours rows i) j
+
+module _ (rows : List ℕ) (a b : ℕ) (h : 1 ≤ a) (k : 1 ≤ b) (l : a ≤ length rows) where
+  end-row : neighbours (withEnd rows a b) a ≡ add (neighbours rows a) b
+  end-row =
+      row-same rows a (hold (getD rows (a - 1) 0) b) h l ∙ set-hold (getD rows (a - 1) 0) b k ∙ ap (λ (s : ℕ). add s b) (row-at rows a h)
+
+  pub end-here : joined (withEnd rows a b) a b ≡ 1
+  end-here = ap (λ (s : ℕ). bit s b) end-row ∙ add-here (neighbours rows a) b
+
+  pub end-there : (i j : ℕ) → ((i ≡ a) → (j ≡ b) → ⊥) → joined (withEnd rows a b) i j ≡ joined rows i j
+  end-there i j n =
+      ⊎-elim
+      (λ (e : i ≡ a). subst⁻¹ (λ (x : ℕ). joined (withEnd rows a b) x j ≡ joined rows x j) e
+      (ap (λ (s : ℕ). bit s j) end-row ∙ add-there (neighbours rows a) b j (n e)))
+      (λ (d : i ≡ a → ⊥). ap (λ (s : ℕ). bit s j) (row-other rows a (hold (getD rows (a - 1) 0) b) h i d))
+      (same-or i a)
+
+-- a and b are two buses, a the lower
+pub record Pair (a b : ℕ) : Type 0 where
+  pub one : 1 ≤ a
+  pub less : a < b
+  pub high : b ≤ 64
+
+module _ (rows : List ℕ) (a b : ℕ) (l : length rows ≡ 64) (p : Pair a b) where
+  second-in : b ≤ length (withEnd rows a b)
+  second-in = simp length-set (omega arith)
+
+  pub line-here : joined (withLine rows a b) a b ≡ 1
+  line-here =
+      end-there (withEnd rows a b) b a (omega arith) (omega arith) second-in a b (λ e f. omega arith)
+      ∙ end-here rows a b (p .one) (omega arith) (omega arith)
+
+  pub line-back : joined (withLine rows a b) b a ≡ 1
+  line-back = end-here (withEnd rows a b) b a (omega arith) (omega arith) second-in
+
+  pub line-other : (i j : ℕ) → ((i ≡ a) → (j ≡ b) → ⊥) → ((i ≡ b) → (j ≡ a) → ⊥) → joined (withLine rows a b) i j ≡ joined rows i j
+  line-other i j n m =
+      end-there (withEnd rows a b) b a (omega arith) (omega arith) second-in i j m
+      ∙ end-there rows a b (p .one) (omega arith) (omega arith) i j n
+
+  line-there : (i j : ℕ) → Pair i j → (i * 128 + j ≡ a * 128 + b → ⊥) → joined (withLine rows a b) i j ≡ joined rows i j
+  line-there i j q n = line-other i j (λ e f. n (omega arith)) (λ e f. omega arith)
+
+-- ---- questions and places
+
+-- what a case can be asked, and its answer, 0 or 1
+pub data Ask : Type 0 where
+  zeroAt siteAt unitAt : ℕ → Ask
+  lineAt : ℕ → ℕ → Ask
+
+abbrev pub answer : Case → Ask → ℕ
+answer c (zeroAt k) = bit (setOf (c .zero)) k
+answer c (siteAt k) = bit (setOf (c .site)) k
+answer c (unitAt k) = bit (setOf (c .units)) k
+answer c (lineAt i j) = joined (c .nbr) i j
+
+abbrev pub Proper : Ask → Type 0
+Proper (zeroAt k) = IsBus width k
+Proper (siteAt k) = IsBus width k
+Proper (unitAt k) = IsBus width k
+Proper (lineAt i j) = Pair i j
+
+-- the place of a question, and of a record
+abbrev pub place : Ask → ℕ
+place (zeroAt k) = k
+place (siteAt k) = k
+place (unitAt k) = 10000 + k
+place (lineAt i j) = 1000 + (i * 128 + j)
+
+abbrev pub placeOf : Record → ℕ
+placeOf (Grid n) = 0
+placeOf (Bus k z o) = k
+placeOf (Line a b) = 1000 + (a * 128 + b)
+placeOf (Pmu p) = 10000 + p
+placeOf End = 0
+placeOf Wrong = 0
+
+-- ---- what an accepted record says, in numbers
+
+pub record NextBus (s : Place) (k : ℕ) : Type 0 where
+  pub more : s .bus < s .n
+  pub bus : IsBus width k
+  pub next : k ≡ s .bus + 1
+
+pub record NextLine (s : Place) (a b : ℕ) : Type 0 where
+  pub past : s .n ≤ s .bus
+  pub none : s .unit ≡ 0
+  pub pair : Pair a b
+  pub rises : s .a * 128 + s .b < a * 128 + b
+
+pub record NextUnit (s : Place) (p : ℕ) : Type 0 where
+  pub past : s .n ≤ s .bus
+  pub bus : IsBus width p
+  pub rises : s .unit < p
+
+abbrev pub Facts : Place → Record → Type 0
+Facts s (Grid n) = s .n ≡ 0
+Facts s (Bus k z o) = NextBus s k
+Facts s (Line a b) = NextLine s a b
+Facts s (Pmu p) = NextUnit s p
+Facts s End = s .n ≤ s .bus
+Facts s Wrong = ⊥
+
+pub past : (s : Place) → pastBuses s ≡ true → s .n ≤ s .bus
+unfolding pastBuses
+past s e = let p = both (ltb 0 (s .n)) (leb (s .n) (s .bus)) e in leb-true (s .n) (s .bus) (p .1)
+
+risen : (a b c d : ℕ) → b ≤ 64 → isAfter a b c d ≡ true → a * 128 + b < c * 128 + d
+unfolding isAfter
+risen a b c d h e = go (ltb a c) refl e
+  where
+    go : (t : Bool) → ltb a c ≡ t → (t || (eqb a c && ltb b d)) ≡ true → a * 128 + b < c * 128 + d
+    go true f e = omega (arith, ltb-true a c f)
+    go false f e = let p = both (eqb a c) (ltb b d) e in omega (arith, eqb-true a c (p .0), ltb-true b d (p .1))
+
+pub facts : (s : Place) (r : Record) → s .n ≤ mostBuses → s .b ≤ 64 → Accepted s r → Facts s r
+facts s (Grid n) h k a = eqb-true (s .n) 0 (a .place)
+facts s (Bus x z o) h k a =
+    let i = inside (s .n) x (a .range) in
+    record { more = ltb-true (s .bus) (s .n) (a .place); bus = record { some = i .some; most = omega (arith, i .most) }; next = eqb-true x (s .bus + 1) (a .order) }
+facts s (Line x y) h k a =
+    let p = both (pastBuses s) (eqb (s .unit) 0) (a .place) in
+    let t = line-ends s x y (a .range) in
+    let o = both (ltb x y) (isAfter (s .a) (s .b) x y) (a .order) in
+    record {
+      past = past s (p .0);
+      none = eqb-true (s .unit) 0 (p .1);
+      pair = record { one = t .from .some; less = ltb-true x y (o .0); high = omega (arith, t .to .most) };
+      rises = risen (s .a) (s .b) x y k (o .1);
+    }
+facts s (Pmu x) h k a =
+    let i = inside (s .n) x (a .range) in
+    record { past = past s (a .place); bus = record { some = i .some; most = omega (arith, i .most) }; rises = ltb-true (s .unit) x (a .order) }
+facts s End h k a = past s (a .place)
+facts s Wrong h k a = let e = a .place in apart (cc)
+
+-- ---- one record
+
+-- the reader stands at p: it has answered nothing beyond, and its next record lies beyond
+pub record At (s : Reader) (p : ℕ) : Type 0 where
+  pub small : s .place .n ≤ mostBuses
+  pub low : s .place .b ≤ 64
+  pub rows : length (s .rows) ≡ 64
+  pub to-bus : s .place .bus < s .place .n → p ≤ s .place .bus
+  pub to-line : s .place .unit ≡ 0 → p ≤ 1000 + (s .place .a * 128 + s .place .b)
+  pub to-unit : p ≤ 10000 + s .place .unit
+  pub fresh : (q : Ask) → Proper q → p < place q → answer (caseOf s) q ≡ 0
+
+-- a record is beyond where the reader stands
+pub beyond : (s : Reader) (p : ℕ) (r : Record) → At s p → 0 < s .place .n → (r ≡ End → ⊥) → Facts (s .place) r → p < placeOf r
+beyond s p (Grid n) t g e f = absurd (omega arith)
+beyond s p (Bus k z o) t g e f = omega (arith, t .to-bus (f .more))
+beyond s p (Line a b) t g e f = omega (arith, t .to-line (f .none))
+beyond s p (Pmu k) t g e f = omega (arith, t .to-unit)
+beyond s p End t g e f = absurd (e refl)
+beyond s p Wrong t g e f = absurd f
+
+-- it changes no answer but those at its own place
+pub unchanged : (s : Reader) (r : Record) (q : Ask) → length (s .rows) ≡ 64 → 0 < s .place .n → Facts (s .place) r → Proper q → (place q ≡ placeOf r → ⊥) →
+    answer (caseOf (next s r)) q ≡ answer (caseOf s) q
+unchanged s (Grid n) q l g f h d = absurd (omega arith)
+unchanged s (Bus k z o) (zeroAt j) l g f h d = if-there z (s .marks .zero) k j (f .bus .some) d
+unchanged s (Bus k z o) (siteAt j) l g f h d = if-there o (s .marks .site) k j (f .bus .some) d
+unchanged s (Bus k z o) (unitAt j) l g f h d = refl
+unchanged s (Bus k z o) (lineAt i j) l g f h d = refl
+unchanged s (Line a b) (zeroAt j) l g f h d = refl
+unchanged s (Line a b) (siteAt j) l g f h d = refl
+unchanged s (Line a b) (unitAt j) l g f h d = refl
+unchanged s (Line a b) (lineAt i j) l g f h d = line-there (s .rows) a b l (f .pair) i j h (λ e. d (omega arith))
+unchanged s (Pmu p) (zeroAt j) l g f h d = refl
+unchanged s (Pmu p) (siteAt j) l g f h d = refl
+unchanged s (Pmu p) (unitAt j) l g f h d = hold-there (s .marks .units) p j (f .bus .some) (λ e. d (omega arith))
+unchanged s (Pmu p) (lineAt i j) l g f h d = refl
+unchanged s End q l g f h d = refl
+unchanged s Wrong q l g f h d = absurd f
+
+same-rows : (s : Reader) (r : Record) → length (s .rows) ≡ 64 → length (next s r .rows) ≡ 64
+same-rows s (Grid n) l = l
+same-rows s (Bus k z o) l = l
+same-rows s (Line a b) l = simp length-set l
+same-rows s (Pmu p) l = l
+same-rows s End l = l
+same-rows s Wrong l = l
+
+-- and the reader then stands at its place
+pub stands : (s : Reader) (p : ℕ) (r : Record) → At s p → 0 < s .place .n → (r ≡ End → ⊥) → Facts (s .place) r → At (next s r) (placeOf r)
+stands s p r t g e f =
+    let b = beyond s p r t g e f in
+    let new : (q : Ask) → Proper q → placeOf r < place q → answer (caseOf (next s r)) q ≡ 0 =
+    λ q h l. unchanged s r q (t .rows) g f h (λ d. omega arith) ∙ t .fresh q h (omega arith) in
+    stood s r t g e f new (same-rows s r (t .rows))
+  where
+    stood : (s : Reader) (r : Record) → At s p → 0 < s .place .n → (r ≡ End → ⊥) → Facts (s .place) r →
+        ((q : Ask) → Proper q → placeOf r < place q → answer (caseOf (next s r)) q ≡ 0) → length (next s r .rows) ≡ 64 → At (next s r) (placeOf r)
+    stood s (Grid n) t g e f new l = absurd (omega arith)
+    stood s (Bus k z o) t g e f new l =
+        let m = f .bus .most in
+        record { small = t .small; low = t .low; rows = l; to-bus = λ h. omega arith; to-line = λ h. omega arith; to-unit = omega arith; fresh = new }
+    stood s (Line a b) t g e f new l =
+        let i = f .past in
+        let j = f .pair in
+        record { small = t .small; low = j .high; rows = l; to-bus = λ h. omega arith; to-line = λ h. omega arith; to-unit = omega (arith, j .less, j .high); fresh = new }
+    stood s (Pmu k) t g e f new l =
+        let i = f .past in
+        let j = f .rises in
+        record { small = t .small; low = t .low; rows = l; to-bus = λ h. omega arith; to-line = λ h. omega arith; to-unit = omega arith; fresh = new }
+    stood s End t g e f new l = absurd (e refl)
+    stood s Wrong t g e f new l = absurd f
+
+pub same-n : (s : Reader) (r : Record) → 0 < s .place .n → Facts (s .place) r → next s r .place .n ≡ s .place .n
+same-n s (Grid n) g f = absurd (omega arith)
+same-n s (Bus k z o) g f = refl
+same-n s (Line a b) g f = refl
+same-n s (Pmu p) g f = refl
+same-n s End g f = refl
+same-n s Wrong g f = refl
+
+pub more-buses : (s : Reader) (r : Record) → 0 < s .place .n → Facts (s .place) r → 0 < next s r .place .n
+more-buses s r g f = rw (same-n s r g f) g

@@ -1,0 +1,185 @@
+-- The next record is determined by the case that is read, and so is the text.
+use mathlib.Core.Path.{_≡_, refl, sym, ap, ap₂, _∙_, subst}
+use mathlib.Core.Bool.{Bool, true, false, cond}
+use mathlib.Core.List.{List, [], _∷_, _++_}
+use mathlib.Core.Logic.{_⊎_, inl, inr, ⊎-elim}
+use Prim.Native.Nat.{ℕ, _+_, _-_, _≤_, _<_}
+use native.Mathlib.Omega.{arith}
+use Rattle.busset.specs.Sets.{bit, setOf}
+use Rattle.busset.proofs.Tests.{below-or}
+use Rattle.busset.proofs.Holding.{hold-here, if-here}
+use Rattle.case_line.specs.Record.{recordText}
+use Rattle.case_line.specs.declared.Record.{Record}
+use Rattle.case_line.specs.declared.Record.the-variants.{Grid, Bus, Line, Pmu, End, Wrong}
+use Rattle.case_judge.specs.Judging.{verdict, accepted}
+use Rattle.case_read.specs.Reading.{caseOf, Reader, next}
+use Rattle.case_inverse.specs.Grammar.{Reads}
+use Rattle.case_inverse.specs.Grammar.Reads.{ends, goes}
+use Rattle.grid.specs.declared.Case.{Case}
+use Rattle.case_judge.specs.declared.Place.{Place}
+use Rattle.case_judge.specs.declared.Verdict.the-variants.{Next, Last}
+use Rattle.case_judge.proofs.Judged.{accepted-of, goes-of, last-place, apart}
+use Rattle.case_inverse.proofs.Places.{Ask, Proper, place, placeOf, answer, Facts, facts, At, beyond, unchanged, stands, more-buses, past, line-here}
+use Rattle.case_inverse.proofs.Places.Ask.{zeroAt, siteAt, unitAt, lineAt}
+
+-- a reader that has read `grid` and stands at p
+pub record Stand (s : Reader) (p : ℕ) : Type 0 where
+  pub at : At s p
+  pub grid : 0 < s .place .n
+
+-- one record from there
+pub record Stepped (s : Reader) (p : ℕ) (r : Record) : Type 0 where
+  pub fact : Facts (s .place) r
+  pub over : p < placeOf r
+  pub on : Stand (next s r) (placeOf r)
+
+not-end : (s : Place) (r : Record) → verdict s r ≡ Next → r ≡ End → ⊥
+not-end s r e f = apart (cc (goes-of s r e, ap accepted f))
+
+pub stepped : {s : Reader} {p : ℕ} (r : Record) → Stand s p → verdict (s .place) r ≡ Next → Stepped s p r
+stepped {s} {p} r t e =
+    let f = facts (s .place) r (t .at .small) (t .at .low) (accepted-of (s .place) r e) in
+    record {
+      fact = f;
+      over = beyond s p r (t .at) (t .grid) (not-end (s .place) r e) f;
+      on = record { at = stands s p r (t .at) (t .grid) (not-end (s .place) r e) f; grid = more-buses s r (t .grid) f };
+    }
+
+-- the case c answers as s does, as far as p
+abbrev pub Settled : Case → Reader → ℕ → Type 0
+Settled c s p = (q : Ask) → Proper q → place q ≤ p → answer c q ≡ answer (caseOf s) q
+
+pub settled : {s : Reader} {p : ℕ} {x : List ℕ} {c : Case} → Stand s p → Reads s x c → Settled c s p
+settled {s} {p} t (ends e) q h l = refl
+settled {s} {p} t (goes r e d) q h l =
+    let u = stepped r t e in
+    settled (u .on) d q h (omega (arith, u .over)) ∙ unchanged s r q (t .at .rows) (t .grid) (u .fact) h (λ z. omega (arith, u .over))
+
+-- ---- the next record is determined by the case
+
+-- a question that r answers with 1 is not passed over
+missed : {s : Reader} {p : ℕ} {c : Case} (r r′ : Record) (q : Ask) → Stand s p → Stepped s p r → Stepped s p r′ → Settled c (next s r) (placeOf r) → Settled c (next s r′) (placeOf r′) →
+    Proper q → place q ≡ placeOf r → answer (caseOf (next s r)) q ≡ 1 → placeOf r < placeOf r′ → ⊥
+missed {s} {p} {c} r r′ q t u v m m′ h e one l =
+    omega (arith, m q h (omega arith), m′ q h (omega arith), unchanged s r′ q (t .at .rows) (t .grid) (v .fact) h (λ z. omega arith), t .at .fresh q h (omega (arith, u .over)), one)
+
+flags : (t u : Bool) → _≡_ {A = ℕ} (cond t 1 0) (cond u 1 0) → t ≡ u
+flags true true e = refl
+flags true false e = absurd (omega arith)
+flags false true e = absurd (omega arith)
+flags false false e = refl
+
+module _ {s : Reader} {p : ℕ} {c : Case} (t : Stand s p) where
+  buses : (k j : ℕ) (z o y w : Bool) → Stepped s p (Bus k z o) → Stepped s p (Bus j y w) →
+      Settled c (next s (Bus k z o)) k → Settled c (next s (Bus j y w)) j → Bus k z o ≡ Bus j y w
+  buses k j z o y w u v m n =
+      let e : k ≡ j = omega (arith, u .fact .next, v .fact .next) in
+      let hk = u .fact .bus in
+      let hj = v .fact .bus in
+      let a : z ≡ y = flags z y
+      (sym (if-here z (s .marks .zero) k (hk .some) (t .at .fresh (zeroAt k) hk (u .over))) ∙ sym (m (zeroAt k) hk (omega arith))
+      ∙ ap (λ (x : ℕ). bit (setOf (c .zero)) x) e ∙ n (zeroAt j) hj (omega arith) ∙ if-here y (s .marks .zero) j (hj .some) (t .at .fresh (zeroAt j) hj (v .over))) in
+      let b : o ≡ w = flags o w
+      (sym (if-here o (s .marks .site) k (hk .some) (t .at .fresh (siteAt k) hk (u .over))) ∙ sym (m (siteAt k) hk (omega arith))
+      ∙ ap (λ (x : ℕ). bit (setOf (c .site)) x) e ∙ n (siteAt j) hj (omega arith) ∙ if-here w (s .marks .site) j (hj .some) (t .at .fresh (siteAt j) hj (v .over))) in
+      cc (e, a, b)
+
+  line-missed : (a b : ℕ) (r : Record) → Stepped s p (Line a b) → Stepped s p r → Settled c (next s (Line a b)) (placeOf (Line a b)) → Settled c (next s r) (placeOf r) →
+      placeOf (Line a b) < placeOf r → ⊥
+  line-missed a b r u v m n l =
+      missed {c = c} (Line a b) r (lineAt a b) t u v m n (u .fact .pair) refl (line-here (s .rows) a b (t .at .rows) (u .fact .pair)) l
+
+  unit-missed : (k : ℕ) (r : Record) → Stepped s p (Pmu k) → Stepped s p r → Settled c (next s (Pmu k)) (placeOf (Pmu k)) → Settled c (next s r) (placeOf r) →
+      placeOf (Pmu k) < placeOf r → ⊥
+  unit-missed k r u v m n l = missed {c = c} (Pmu k) r (unitAt k) t u v m n (u .fact .bus) refl (hold-here (s .marks .units) k (u .fact .bus .some)) l
+
+  lines : (a b i j : ℕ) → Stepped s p (Line a b) → Stepped s p (Line i j) → Settled c (next s (Line a b)) (placeOf (Line a b)) → Settled c (next s (Line i j)) (placeOf (Line i j)) →
+      Line a b ≡ Line i j
+  lines a b i j u v m n =
+      let low : placeOf (Line i j) ≤ placeOf (Line a b) = ⊎-elim (λ (l : placeOf (Line a b) < placeOf (Line i j)). absurd (line-missed a b (Line i j) u v m n l)) (λ (l : placeOf (Line i j) ≤ placeOf (Line a b)). l) (below-or (placeOf (Line a b)) (placeOf (Line i j))) in
+      let high : placeOf (Line a b) ≤ placeOf (Line i j) = ⊎-elim (λ (l : placeOf (Line i j) < placeOf (Line a b)). absurd (line-missed i j (Line a b) v u n m l)) (λ (l : placeOf (Line a b) ≤ placeOf (Line i j)). l) (below-or (placeOf (Line i j)) (placeOf (Line a b))) in
+      let hu = u .fact .pair .high in
+      let hv = v .fact .pair .high in
+      let e : a ≡ i = omega arith in
+      let f : b ≡ j = omega arith in
+      cc (e, f)
+
+  units : (k j : ℕ) → Stepped s p (Pmu k) → Stepped s p (Pmu j) → Settled c (next s (Pmu k)) (placeOf (Pmu k)) → Settled c (next s (Pmu j)) (placeOf (Pmu j)) → Pmu k ≡ Pmu j
+  units k j u v m n =
+      let low : placeOf (Pmu j) ≤ placeOf (Pmu k) = ⊎-elim (λ (l : placeOf (Pmu k) < placeOf (Pmu j)). absurd (unit-missed k (Pmu j) u v m n l)) (λ (l : placeOf (Pmu j) ≤ placeOf (Pmu k)). l) (below-or (placeOf (Pmu k)) (placeOf (Pmu j))) in
+      let high : placeOf (Pmu k) ≤ placeOf (Pmu j) = ⊎-elim (λ (l : placeOf (Pmu j) < placeOf (Pmu k)). absurd (unit-missed j (Pmu k) v u n m l)) (λ (l : placeOf (Pmu k) ≤ placeOf (Pmu j)). l) (below-or (placeOf (Pmu j)) (placeOf (Pmu k))) in
+      let e : k ≡ j = omega arith in
+      ap Pmu e
+
+  same-record : (r r′ : Record) → verdict (s .place) r ≡ Next → verdict (s .place) r′ ≡ Next → Stepped s p r → Stepped s p r′ → Settled c (next s r) (placeOf r) → Settled c (next s r′) (placeOf r′) → r ≡ r′
+  same-record (Grid n) r′ d e u v m n′ = absurd (omega (arith, u .fact, t .grid))
+  same-record (Bus k z o) (Grid n) d e u v m n′ = absurd (omega (arith, v .fact, t .grid))
+  same-record (Bus k z o) (Bus j y w) d e u v m n = buses k j z o y w u v m n
+  same-record (Bus k z o) (Line i j) d e u v m n = absurd (omega (arith, u .fact .more, v .fact .past))
+  same-record (Bus k z o) (Pmu j) d e u v m n = absurd (omega (arith, u .fact .more, v .fact .past))
+  same-record (Bus k z o) End d e u v m n = absurd (not-end (s .place) End e refl)
+  same-record (Bus k z o) Wrong d e u v m n = absurd (v .fact)
+  same-record (Line a b) (Grid n) d e u v m n′ = absurd (omega (arith, v .fact, t .grid))
+  same-record (Line a b) (Bus j y w) d e u v m n = absurd (omega (arith, u .fact .past, v .fact .more))
+  same-record (Line a b) (Line i j) d e u v m n = lines a b i j u v m n
+  same-record (Line a b) (Pmu j) d e u v m n = absurd (line-missed a b (Pmu j) u v m n (omega (arith, u .fact .pair .less, u .fact .pair .high)))
+  same-record (Line a b) End d e u v m n = absurd (not-end (s .place) End e refl)
+  same-record (Line a b) Wrong d e u v m n = absurd (v .fact)
+  same-record (Pmu k) (Grid n) d e u v m n′ = absurd (omega (arith, v .fact, t .grid))
+  same-record (Pmu k) (Bus j y w) d e u v m n = absurd (omega (arith, u .fact .past, v .fact .more))
+  same-record (Pmu k) (Line i j) d e u v m n = absurd (line-missed i j (Pmu k) v u n m (omega (arith, v .fact .pair .less, v .fact .pair .high)))
+  same-record (Pmu k) (Pmu j) d e u v m n = units k j u v m n
+  same-record (Pmu k) End d e u v m n = absurd (not-end (s .place) End e refl)
+  same-record (Pmu k) Wrong d e u v m n = absurd (v .fact)
+  same-record End r′ d e u v m n = absurd (not-end (s .place) End d refl)
+  same-record Wrong r′ d e u v m n = absurd (u .fact)
+
+  -- and where the case is complete, none is
+  no-more : (r : Record) → c ≡ caseOf s → s .place .n ≤ s .place .bus → verdict (s .place) r ≡ Next → Stepped s p r → Settled c (next s r) (placeOf r) → ⊥
+  no-more (Grid n) e l d u m = omega (arith, u .fact, t .grid)
+  no-more (Bus k z o) e l d u m = omega (arith, u .fact .more)
+  no-more (Line a b) e l d u m =
+      let y = u .fact .pair in
+      omega (arith, m (lineAt a b) y (omega arith), line-here (s .rows) a b (t .at .rows) y, t .at .fresh (lineAt a b) y (u .over), ap (λ (x : Case). answer x (lineAt a b)) e)
+  no-more (Pmu k) e l d u m =
+      let h = u .fact .bus in
+      omega (arith, m (unitAt k) h (omega arith), hold-here (s .marks .units) k (h .some), t .at .fresh (unitAt k) h (u .over), ap (λ (x : Case). answer x (unitAt k)) e)
+  no-more End e l d u m = not-end (s .place) End d refl
+  no-more Wrong e l d u m = u .fact
+
+-- ---- the texts
+
+pub record Ended (s : Reader) (y : List ℕ) (c : Case) : Type 0 where
+  pub last : verdict (s .place) End ≡ Last
+  pub text : y ≡ recordText End ++ 10 ∷ []
+  pub is : c ≡ caseOf s
+
+pub record Went (s : Reader) (y : List ℕ) (c : Case) : Type 0 where
+  pub by : Record
+  pub rest : List ℕ
+  pub told : verdict (s .place) by ≡ Next
+  pub on : Reads (next s by) rest c
+  pub text : y ≡ recordText by ++ 10 ∷ rest
+
+pub seen : {s : Reader} {y : List ℕ} {c : Case} → Reads s y c → Ended s y c ⊎ Went s y c
+seen (ends e) = inl (record { last = e; text = refl; is = refl })
+seen (goes r {x = x} e d) = inr (record { by = r; rest = x; told = e; on = d; text = refl })
+
+pub unique : {s : Reader} {p : ℕ} {x y : List ℕ} {c : Case} → Stand s p → Reads s x c → Reads s y c → x ≡ y
+unique {s} {p} {y = y} t (ends e) d =
+    ⊎-elim
+    (λ (w : Ended s y (caseOf s)). sym (w .text))
+    (λ (w : Went s y (caseOf s)).
+    let u = stepped (w .by) t (w .told) in
+    absurd (no-more t (w .by) refl (past (s .place) (last-place (s .place) End e)) (w .told) u (settled (u .on) (w .on))))
+    (seen d)
+unique {s} {p} {y = y} {c = c} t (goes r {x = x} e g) d =
+    let u = stepped r t e in
+    ⊎-elim
+    (λ (w : Ended s y c). absurd (no-more t r (w .is) (past (s .place) (last-place (s .place) End (w .last))) e u (settled (u .on) g)))
+    (λ (w : Went s y c).
+    let v = stepped (w .by) t (w .told) in
+    let f : r ≡ w .by = same-record {c = c} t r (w .by) e (w .told) u v (settled (u .on) g) (settled (v .on) (w .on)) in
+    let h : Reads (next s r) (w .rest) c = subst (λ (b : Record). Reads (next s b) (w .rest) c) (sym f) (w .on) in
+    ap₂ (λ (b : Record) (z : List ℕ). recordText b ++ 10 ∷ z) f (unique (u .on) g h) ∙ sym (w .text))
+    (seen d)

@@ -1,0 +1,375 @@
+-- CaseRead what is written.
+use mathlib.Core.Path.{_≡_, refl, sym, ap, ap₂, _∙_, subst}
+use mathlib.Core.Bool.{Bool, true, false, cond}
+use mathlib.Core.List.{List, [], _∷_, _++_}
+use mathlib.Core.Logic.{_⊎_, ⊎-elim}
+use Prim.Native.Nat.{ℕ, suc, zero, _+_, _-_, _*_, _≤_, _<_}
+use native.Mathlib.Omega.{arith}
+use borrow.Author.Tests.{lt-ltb, le-ltb, le-leb, eq-eqb, eqb-true, eqb-false}
+use lib.ListN.{length}
+use Rattle.busset.specs.Sets.{bit, setOf, width, Bus as IsBus}
+use Rattle.busset.specs.Held.{hold, holdIf}
+use Rattle.busset.proofs.Tests.{below-or, same-or}
+use Rattle.busset.proofs.Holding.{hold-here, if-here}
+use Rattle.grid.specs.Cases.{neighbours}
+use Rattle.case_judge.specs.declared.Place.{Place}
+use Rattle.case_line.specs.declared.Record.{Record}
+use Rattle.case_line.specs.declared.Record.the-variants.{Grid, Line, Pmu, End}
+use Rattle.case_judge.specs.Judging.{isBus, isAfter, pastBuses, verdict}
+use Rattle.case_read.specs.Reading.{caseOf, Reader, next, start}
+use Rattle.case_inverse.specs.Grammar.{Reads}
+use Rattle.case_inverse.specs.Grammar.Reads.{ends, goes}
+use Rattle.case_read.specs.Writing.{has, busRecord, busRecords, members, lineRecords, linesText, records}
+use Rattle.grid.specs.declared.Case.{Case}
+use Rattle.case_judge.specs.declared.Verdict.the-variants.{Next}
+use Rattle.case_judge.proofs.Judged.{accept}
+use Rattle.case_inverse.proofs.Places.{Pair, Ask, Proper, place, placeOf, joined, answer, unchanged, line-here}
+use Rattle.case_inverse.proofs.Places.Ask.{zeroAt, siteAt, unitAt, lineAt}
+use Rattle.case_inverse.proofs.Unique.{Stand, stepped}
+use Rattle.case_inverse.proofs.Texts.{first-stand}
+
+inside : (n k : ℕ) → 1 ≤ k → k ≤ n → isBus n k ≡ true
+unfolding isBus
+inside n k h l = rw (le-leb 1 k h, le-leb k n l)
+
+past-is : (s : Place) → 0 < s .n → s .n ≤ s .bus → pastBuses s ≡ true
+unfolding pastBuses
+past-is s h l = rw (lt-ltb 0 (s .n) h, le-leb (s .n) (s .bus) l)
+
+-- the reader s stands at p below w, and answers as the case does below w: what is left to write starts at w
+pub record Upto (c : Case) (s : Reader) (p w : ℕ) : Type 0 where
+  pub stand : Stand s p
+  pub low : p < w
+  pub size : c .n ≡ s .place .n
+  pub agree : (q : Ask) → Proper q → place q < w → answer c q ≡ answer (caseOf s) q
+
+-- where the case answers 0 there is nothing to write
+pub skip : {c : Case} {s : Reader} {p w : ℕ} (v : ℕ) → w ≤ v → Upto c s p w → ((q : Ask) → Proper q → w ≤ place q → place q < v → answer c q ≡ 0) → Upto c s p v
+skip {c} {s} {p} {w} v l u z =
+    record {
+      stand = u .stand;
+      low = omega (arith, u .low);
+      size = u .size;
+      agree = λ q h k. ⊎-elim
+          (λ (b : place q < w). u .agree q h b)
+          (λ (b : w ≤ place q). z q h b k ∙ sym (u .stand .at .fresh q h (omega (arith, u .low))))
+          (below-or (place q) w);
+    }
+
+-- a record whose answers are the case's
+pub take-next : {c : Case} {s : Reader} {p : ℕ} (r : Record) → Upto c s p (placeOf r) → verdict (s .place) r ≡ Next → next s r .place .n ≡ s .place .n →
+    ((q : Ask) → Proper q → place q ≡ placeOf r → answer c q ≡ answer (caseOf (next s r)) q) → Upto c (next s r) (placeOf r) (placeOf r + 1)
+take-next {c} {s} {p} r u e m a =
+    let t = stepped r (u .stand) e in
+    record {
+      stand = t .on;
+      low = omega arith;
+      size = u .size ∙ sym m;
+      agree = λ q h k. ⊎-elim
+          (λ (b : place q ≡ placeOf r). a q h b)
+          (λ (d : place q ≡ placeOf r → ⊥).
+          let l : place q < placeOf r = omega arith in
+          u .agree q h l ∙ sym (unchanged s r q (u .stand .at .rows) (u .stand .grid) (t .fact) h d))
+          (same-or (place q) (placeOf r));
+    }
+
+-- ---- phases: what is written from where the reader stands is read as a case that answers as c does
+
+pub record Readable (c : Case) (s : Reader) (rs : List Record) : Type 0 where
+  pub case′ : Case
+  pub reads : Reads s (linesText rs) case′
+  pub size : c .n ≡ case′ .n
+  pub agree : (q : Ask) → Proper q → answer c q ≡ answer case′ q
+
+read-on : {c : Case} {s : Reader} (r : Record) {rs : List Record} → verdict (s .place) r ≡ Next → Readable c (next s r) rs → Readable c s (r ∷ rs)
+unfolding linesText
+read-on r e t = record { case′ = t .case′; reads = goes r e (t .reads); size = t .size; agree = t .agree }
+
+all-below : (q : Ask) → Proper q → place q < 10065
+all-below (zeroAt k) h = omega (arith, h .most)
+all-below (siteAt k) h = omega (arith, h .most)
+all-below (unitAt k) h = omega (arith, h .most)
+all-below (lineAt i j) h = omega (arith, h .less, h .high)
+
+read-end : {c : Case} {s : Reader} {p : ℕ} → Upto c s p 10065 → s .place .n ≤ s .place .bus → Readable c s (End ∷ [])
+unfolding linesText
+read-end {c} {s} u l =
+    record {
+      case′ = caseOf s;
+      reads = ends (accept (s .place) End (past-is (s .place) (u .stand .grid) l) refl refl);
+      size = u .size;
+      agree = λ q h. u .agree q h (all-below q h);
+    }
+
+has-bit : (s k : ℕ) → cond (has s k) 1 0 ≡ bit s k
+has-bit s k = go (has s k) refl
+  where
+    go : (b : Bool) → has s k ≡ b → cond b 1 0 ≡ bit s k
+    go true e = sym (eqb-true _ 1 e)
+    go false e = omega (arith, eqb-false (bit s k) 1 e)
+
+-- the record of bus k
+abbrev busOf : Case → ℕ → Record
+busOf c k = busRecord (setOf (c .zero)) (setOf (c .site)) k
+
+-- the answers at a bus's place are its class and its site
+bus-answer : (c : Case) (s : Reader) (p k : ℕ) → Upto c s p k → IsBus width k → (q : Ask) → Proper q → place q ≡ k →
+    answer c q ≡ answer (caseOf (next s (busOf c k))) q
+bus-answer c s p k u b (zeroAt j) h e =
+    let f : j ≡ k = e in
+    let t = has (setOf (c .zero)) k in
+    ap (λ (x : ℕ). bit (setOf (c .zero)) x) f
+    ∙ sym (has-bit (setOf (c .zero)) k)
+    ∙ sym (if-here t (s .marks .zero) k (b .some) (u .stand .at .fresh (zeroAt k) b (u .low)))
+    ∙ ap (λ (x : ℕ). bit (setOf (holdIf t (s .marks .zero) k)) x) (sym f)
+bus-answer c s p k u b (siteAt j) h e =
+    let f : j ≡ k = e in
+    let t = has (setOf (c .site)) k in
+    ap (λ (x : ℕ). bit (setOf (c .site)) x) f
+    ∙ sym (has-bit (setOf (c .site)) k)
+    ∙ sym (if-here t (s .marks .site) k (b .some) (u .stand .at .fresh (siteAt k) b (u .low)))
+    ∙ ap (λ (x : ℕ). bit (setOf (holdIf t (s .marks .site) k)) x) (sym f)
+bus-answer c s p k u b (unitAt j) h e = let m = b .most in absurd (omega arith)
+bus-answer c s p k u b (lineAt i j) h e = let m = b .most in absurd (omega arith)
+
+-- no line and no unit has been read
+pub record Early (s : Reader) : Type 0 where
+  pub unit : s .place .unit ≡ 0
+  pub a : s .place .a ≡ 0
+  pub b : s .place .b ≡ 0
+  pub lines : s .place .lines ≡ 0
+
+pub read-buses : (c : Case) (rs : List Record) (m k : ℕ) (s : Reader) (p : ℕ) → Upto c s p k → k ≡ s .place .bus + 1 → k + m ≡ c .n + 1 → Early s →
+    ((t : Reader) (o : ℕ) → Upto c t o (c .n + 1) → t .place .bus ≡ c .n → Early t → Readable c t rs) →
+    Readable c s (busRecords (setOf (c .zero)) (setOf (c .site)) k m ++ rs)
+unfolding busRecords
+read-buses c rs zero k s p u b l z on =
+    let e : k ≡ c .n + 1 = omega arith in
+    on s p (subst (λ (w : ℕ). Upto c s p w) e u) (omega arith) z
+read-buses c rs (suc m) k s p u b l z on =
+    let r = busOf c k in
+    let n = u .size in
+    let h : 1 ≤ k = omega arith in
+    let i : k ≤ s .place .n = omega arith in
+    let j : k ≤ 64 = omega (arith, u .stand .at .small) in
+    let e = accept (s .place) r (lt-ltb (s .place .bus) (s .place .n) (omega arith)) (inside (s .place .n) k h i) (eq-eqb k (s .place .bus + 1) b) in
+    read-on r e
+    (read-buses c rs m (k + 1) (next s r) k (take-next r u e refl (bus-answer c s p k u (record { some = h; most = j }))) refl (omega arith)
+    (record { unit = z .unit; a = z .a; b = z .b; lines = z .lines }) on)
+
+-- the answer at a unit's place is whether it stands there
+unit-answer : (c : Case) (s : Reader) (k : ℕ) → has (setOf (c .units)) k ≡ true → 1 ≤ k → (q : Ask) → Proper q → place q ≡ 10000 + k →
+    answer c q ≡ answer (caseOf (next s (Pmu k))) q
+unit-answer c s k t a (zeroAt j) h e = let m = h .most in absurd (omega arith)
+unit-answer c s k t a (siteAt j) h e = let m = h .most in absurd (omega arith)
+unit-answer c s k t a (unitAt j) h e =
+    let f : j ≡ k = omega arith in
+    ap (λ (x : ℕ). bit (setOf (c .units)) x) f ∙ eqb-true _ 1 t ∙ sym (hold-here (s .marks .units) k a) ∙ ap (λ (x : ℕ). bit (setOf (hold (s .marks .units) k)) x) (sym f)
+unit-answer c s k t a (lineAt i j) h e = absurd (omega (arith, h .less, h .high))
+
+unit-none : (c : Case) (k : ℕ) → has (setOf (c .units)) k ≡ false → (q : Ask) → Proper q → 10000 + k ≤ place q → place q < 10000 + k + 1 → answer c q ≡ 0
+unit-none c k t (zeroAt j) h a b = let m = h .most in absurd (omega arith)
+unit-none c k t (siteAt j) h a b = let m = h .most in absurd (omega arith)
+unit-none c k t (unitAt j) h a b =
+    let f : j ≡ k = omega arith in
+    ap (λ (x : ℕ). bit (setOf (c .units)) x) f ∙ omega (arith, eqb-false (bit (setOf (c .units)) k) 1 t)
+unit-none c k t (lineAt i j) h a b = absurd (omega (arith, h .less, h .high))
+
+unit-turn : (c : Case) (rs : List Record) (m k : ℕ) (s : Reader) (p : ℕ) (t : Bool) → has (setOf (c .units)) k ≡ t → Upto c s p (10000 + k) → s .place .n ≤ s .place .bus → s .place .unit < k → 1 ≤ k → k ≤ s .place .n →
+    ((v : Reader) (o : ℕ) → Upto c v o (10000 + k + 1) → v .place .n ≤ v .place .bus → v .place .unit < k + 1 → Readable c v (members Pmu (setOf (c .units)) (k + 1) m ++ rs)) →
+    Readable c s (cond t (Pmu k ∷ members Pmu (setOf (c .units)) (k + 1) m) (members Pmu (setOf (c .units)) (k + 1) m) ++ rs)
+unit-turn c rs m k s p true t u l z h i on =
+    let e = accept (s .place) (Pmu k) (past-is (s .place) (u .stand .grid) l) (inside (s .place .n) k h i) (lt-ltb (s .place .unit) k z) in
+    read-on (Pmu k) e (on (next s (Pmu k)) (10000 + k) (take-next (Pmu k) u e refl (unit-answer c s k t h)) l (omega arith))
+unit-turn c rs m k s p false t u l z h i on = on s p (skip (10000 + k + 1) (omega arith) u (unit-none c k t)) l (omega arith)
+
+pub read-units : (c : Case) (rs : List Record) (m k : ℕ) (s : Reader) (p : ℕ) → Upto c s p (10000 + k) → s .place .n ≤ s .place .bus → s .place .unit < k → 1 ≤ k → k + m ≡ c .n + 1 →
+    ((t : Reader) (o : ℕ) → Upto c t o (10000 + (c .n + 1)) → t .place .n ≤ t .place .bus → Readable c t rs) → Readable c s (members Pmu (setOf (c .units)) k m ++ rs)
+unfolding members
+read-units c rs zero k s p u l z h e on =
+    let f : 10000 + k ≡ 10000 + (c .n + 1) = omega arith in
+    on s p (subst (λ (w : ℕ). Upto c s p w) f u) l
+read-units c rs (suc m) k s p u l z h e on =
+    let n = u .size in
+    unit-turn c rs m k s p (has (setOf (c .units)) k) refl u l z h (omega arith)
+    (λ v o w l′ z′. let f : 10000 + k + 1 ≡ 10000 + (k + 1) = omega arith in
+    read-units c rs m (k + 1) v o (subst (λ (x : ℕ). Upto c v o x) f w) l′ z′ (omega arith) (omega arith) on)
+
+-- ---- lines
+
+above-is : (a b c d : ℕ) → b ≤ 64 → d ≤ 64 → a * 128 + b < c * 128 + d → isAfter a b c d ≡ true
+unfolding isAfter
+above-is a b c d h k l =
+    ⊎-elim
+    (λ (s : a < c). rw (lt-ltb a c s))
+    (λ (s : c ≤ a). let e : a ≡ c = omega arith in rw (le-ltb a c s, eq-eqb a c e, lt-ltb b d (omega arith)))
+    (below-or a c)
+
+line-answer : (c : Case) (s : Reader) (a b : ℕ) → length (s .rows) ≡ 64 → Pair a b → has (neighbours (c .nbr) a) b ≡ true → (q : Ask) → Proper q → place q ≡ 1000 + (a * 128 + b) →
+    answer c q ≡ answer (caseOf (next s (Line a b))) q
+line-answer c s a b l y t (zeroAt j) h e = absurd (omega (arith, y .one))
+line-answer c s a b l y t (siteAt j) h e = absurd (omega (arith, y .one))
+line-answer c s a b l y t (unitAt j) h e = absurd (omega (arith, y .less, y .high))
+line-answer c s a b l y t (lineAt i j) h e =
+    let hh = h .high in
+    let yh = y .high in
+    let f : i ≡ a = omega arith in
+    let g : j ≡ b = omega arith in
+    ap₂ (λ (x z : ℕ). joined (c .nbr) x z) f g ∙ eqb-true _ 1 t ∙ sym (line-here (s .rows) a b l y) ∙ ap₂ (λ (x z : ℕ). joined (next s (Line a b) .rows) x z) (sym f) (sym g)
+
+line-none : (c : Case) (a b : ℕ) → Pair a b → has (neighbours (c .nbr) a) b ≡ false → (q : Ask) → Proper q → 1000 + (a * 128 + b) ≤ place q → place q < 1000 + (a * 128 + (b + 1)) → answer c q ≡ 0
+line-none c a b y t (zeroAt j) h k l = let m = h .most in absurd (omega arith)
+line-none c a b y t (siteAt j) h k l = let m = h .most in absurd (omega arith)
+line-none c a b y t (unitAt j) h k l = absurd (omega (arith, y .less, y .high))
+line-none c a b y t (lineAt i j) h k l =
+    let hh = h .high in
+    let yh = y .high in
+    let f : i ≡ a = omega arith in
+    let g : j ≡ b = omega arith in
+    ap₂ (λ (x z : ℕ). joined (c .nbr) x z) f g ∙ omega (arith, eqb-false (joined (c .nbr) a b) 1 t)
+
+-- past the buses and before the units, below the line a b, with room for so many lines
+pub record Lining (c : Case) (s : Reader) (p a b left : ℕ) : Type 0 where
+  pub upto : Upto c s p (1000 + (a * 128 + b))
+  pub past : s .place .n ≤ s .place .bus
+  pub none : s .place .unit ≡ 0
+  pub below : s .place .a * 128 + s .place .b < a * 128 + b
+  pub room : s .place .lines + left ≤ 256
+
+line-turn : (c : Case) (ls rs : List Record) (a b : ℕ) (s : Reader) (p : ℕ) (t : Bool) → has (neighbours (c .nbr) a) b ≡ t → Pair a b → b ≤ c .n →
+    Lining c s p a b (length (cond t (Line a b ∷ ls) ls)) →
+    ((v : Reader) (o : ℕ) → Lining c v o a (b + 1) (length ls) → Readable c v (ls ++ rs)) →
+    Readable c s (cond t (Line a b ∷ ls) ls ++ rs)
+line-turn c ls rs a b s p true t y l g on =
+    let u = g .upto in
+    let n = u .size in
+    let yo = y .one in
+    let yl = y .less in
+    let i : a ≤ s .place .n = omega arith in
+    let j : b ≤ s .place .n = omega arith in
+    let hb : 1 ≤ b = omega arith in
+    let lo = u .stand .at .low in
+    let e = accept (s .place) (Line a b)
+    (rw (past-is (s .place) (u .stand .grid) (g .past), eq-eqb (s .place .unit) 0 (g .none)))
+    (rw (inside (s .place .n) a yo i, inside (s .place .n) b hb j, lt-ltb (s .place .lines) 256 (omega (arith, g .room))))
+    (rw (lt-ltb a b yl, above-is (s .place .a) (s .place .b) a b lo (y .high) (g .below))) in
+    let f : 1000 + (a * 128 + b) + 1 ≡ 1000 + (a * 128 + (b + 1)) = omega arith in
+    read-on (Line a b) e (on (next s (Line a b)) (1000 + (a * 128 + b))
+    (record {
+      upto = subst (λ (w : ℕ). Upto c (next s (Line a b)) (1000 + (a * 128 + b)) w) f (take-next (Line a b) u e refl (line-answer c s a b (u .stand .at .rows) y t));
+      past = g .past;
+      none = g .none;
+      below = omega arith;
+      room = omega (arith, g .room);
+    }))
+line-turn c ls rs a b s p false t y l g on =
+    on s p
+    (record {
+      upto = skip (1000 + (a * 128 + (b + 1))) (omega arith) (g .upto) (line-none c a b y t);
+      past = g .past;
+      none = g .none;
+      below = omega (arith, g .below);
+      room = g .room;
+    })
+
+pub row-push : (t : Bool) (r : Record) (xs ls : List Record) → cond t (r ∷ xs) xs ++ ls ≡ cond t (r ∷ (xs ++ ls)) (xs ++ ls)
+row-push true r xs ls = refl
+row-push false r xs ls = refl
+
+-- one row
+read-row : (c : Case) (ls rs : List Record) (a m b : ℕ) (s : Reader) (p : ℕ) → 1 ≤ a → a < b → b + m ≡ c .n + 1 → c .n ≤ 64 →
+    Lining c s p a b (length (members (Line a) (neighbours (c .nbr) a) b m ++ ls)) →
+    ((v : Reader) (o : ℕ) → Lining c v o a (c .n + 1) (length ls) → Readable c v (ls ++ rs)) →
+    Readable c s ((members (Line a) (neighbours (c .nbr) a) b m ++ ls) ++ rs)
+unfolding members
+read-row c ls rs a zero b s p h l e k g on =
+    let f : b ≡ c .n + 1 = omega arith in
+    on s p (subst (λ (x : ℕ). Lining c s p a x (length ls)) f g)
+read-row c ls rs a (suc m) b s p h l e k g on =
+    let y : Pair a b = record { one = h; less = l; high = omega arith } in
+    let M = members (Line a) (neighbours (c .nbr) a) (b + 1) m ++ ls in
+    let push = row-push (has (neighbours (c .nbr) a) b) (Line a b) (members (Line a) (neighbours (c .nbr) a) (b + 1) m) ls in
+    rw push
+    (line-turn c M rs a b s p (has (neighbours (c .nbr) a) b) refl y (omega arith) (rw push at g)
+    (λ v o w. read-row c ls rs a m (b + 1) v o h (omega arith) (omega arith) k w on))
+
+-- ---- a whole case
+
+-- a question about a bus above n
+abbrev pub Above : ℕ → Ask → Type 0
+Above n (zeroAt k) = n < k
+Above n (siteAt k) = n < k
+Above n (unitAt k) = n < k
+Above n (lineAt i j) = n < j
+
+-- 1 to 64 buses, at most 256 lines, and nothing at a bus above n
+pub record Writable (c : Case) : Type 0 where
+  pub one : 1 ≤ c .n
+  pub most : c .n ≤ 64
+  pub few : length (lineRecords (neighbours (c .nbr)) 1 (c .n)) ≤ 256
+  pub above : (q : Ask) → Proper q → Above (c .n) q → answer c q ≡ 0
+
+-- the places after row a and before row a + 1
+row-gap : (c : Case) (a : ℕ) → Writable c → a ≤ c .n → (q : Ask) → Proper q → 1000 + (a * 128 + (c .n + 1)) ≤ place q → place q < 1000 + ((a + 1) * 128 + (a + 1 + 1)) → answer c q ≡ 0
+row-gap c a w l (zeroAt k) h x y = let m = h .most in absurd (omega arith)
+row-gap c a w l (siteAt k) h x y = let m = h .most in absurd (omega arith)
+row-gap c a w l (unitAt k) h x y = let m = w .most in absurd (omega arith)
+row-gap c a w l (lineAt i j) h x y = let m = w .most in let hl = h .less in let hh = h .high in w .above (lineAt i j) h (omega arith)
+
+pub read-lines : (c : Case) (rs : List Record) → Writable c → (m a : ℕ) (s : Reader) (p : ℕ) → 1 ≤ a → a + m ≡ c .n + 1 → Lining c s p a (a + 1) (length (lineRecords (neighbours (c .nbr)) a m)) →
+    ((v : Reader) (o : ℕ) → Lining c v o (c .n + 1) (c .n + 1 + 1) 0 → Readable c v rs) → Readable c s (lineRecords (neighbours (c .nbr)) a m ++ rs)
+unfolding lineRecords
+read-lines c rs w zero a s p h e g on =
+    let f : a ≡ c .n + 1 = omega arith in
+    on s p (subst (λ (x : ℕ). Lining c s p x (x + 1) 0) f g)
+read-lines c rs w (suc m) a s p h e g on =
+    let k = w .most in
+    read-row c (lineRecords (neighbours (c .nbr)) (a + 1) m) rs a m (a + 1) s p h (omega arith) (omega arith) k g
+    (λ v o r. read-lines c rs w m (a + 1) v o (omega arith) (omega arith)
+    (record {
+      upto = skip (1000 + ((a + 1) * 128 + (a + 1 + 1))) (omega arith) (r .upto) (row-gap c a w (omega arith));
+      past = r .past;
+      none = r .none;
+      below = omega (arith, r .below);
+      room = r .room;
+    })
+    on)
+
+-- the places between the buses and the lines, the lines and the units, and after the units
+bus-gap : (c : Case) → Writable c → (q : Ask) → Proper q → c .n + 1 ≤ place q → place q < 1000 + (1 * 128 + (1 + 1)) → answer c q ≡ 0
+bus-gap c w (zeroAt k) h x y = w .above (zeroAt k) h (omega arith)
+bus-gap c w (siteAt k) h x y = w .above (siteAt k) h (omega arith)
+bus-gap c w (unitAt k) h x y = let m = h .most in absurd (omega arith)
+bus-gap c w (lineAt i j) h x y = let o = h .one in let l = h .less in absurd (omega arith)
+
+line-gap : (c : Case) → Writable c → (q : Ask) → Proper q → 1000 + ((c .n + 1) * 128 + (c .n + 1 + 1)) ≤ place q → place q < 10000 + 1 → answer c q ≡ 0
+line-gap c w (zeroAt k) h x y = let m = h .most in absurd (omega arith)
+line-gap c w (siteAt k) h x y = let m = h .most in absurd (omega arith)
+line-gap c w (unitAt k) h x y = let m = h .most in absurd (omega arith)
+line-gap c w (lineAt i j) h x y = let l = h .less in let k = h .high in w .above (lineAt i j) h (omega arith)
+
+unit-gap : (c : Case) → Writable c → (q : Ask) → Proper q → 10000 + (c .n + 1) ≤ place q → place q < 10065 → answer c q ≡ 0
+unit-gap c w (zeroAt k) h x y = let m = h .most in absurd (omega arith)
+unit-gap c w (siteAt k) h x y = let m = h .most in absurd (omega arith)
+unit-gap c w (unitAt k) h x y = w .above (unitAt k) h (omega arith)
+unit-gap c w (lineAt i j) h x y = let l = h .less in let k = h .high in absurd (omega arith)
+
+no-place : (c : Case) (n : ℕ) (q : Ask) → Proper q → place q < 1 → answer c q ≡ answer (caseOf (next start (Grid n))) q
+no-place c n (zeroAt k) h l = let m = h .some in absurd (omega arith)
+no-place c n (siteAt k) h l = let m = h .some in absurd (omega arith)
+no-place c n (unitAt k) h l = absurd (omega arith)
+no-place c n (lineAt i j) h l = absurd (omega arith)
+
+pub readable : (c : Case) → Writable c → Readable c start (records c)
+readable c w =
+    let e : verdict (start .place) (Grid (c .n)) ≡ Next = accept (start .place) (Grid (c .n)) refl (inside 64 (c .n) (w .one) (w .most)) refl in
+    let k = w .most in
+    read-on (Grid (c .n)) e
+    (read-buses c _ (c .n) 1 (next start (Grid (c .n))) 0
+    (record { stand = first-stand (c .n) e; low = omega arith; size = refl; agree = no-place c (c .n) })
+    refl (omega arith) (record { unit = refl; a = refl; b = refl; lines = refl })
+    (λ s p u b z. let n = u .size in
+    read-lines c _ w (c .n) 1 s p (omega arith) (omega arith)
+    (record { upto = skip (1000 + (1 * 128 + (1 + 1))) (omega arith) u (bus-gap c w); past = omega arith; none = z .unit; below = omega (arith, z .a, z .b); room = omega (arith, w .few, z .lines) })
+    (λ t o g. read-units c _ (c .n) 1 t o (skip (10000 + 1) (omega arith) (g .upto) (line-gap c w)) (g .past) (omega (arith, g .none)) (omega arith) (omega arith)
+    (λ v r x l. read-end (skip 10065 (omega arith) x (unit-gap c w)) l))))

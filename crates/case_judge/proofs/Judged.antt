@@ -1,0 +1,124 @@
+-- What the three tests of a record say, and what an accepted record gives.
+use mathlib.Core.Path.{_≡_, refl, sym}
+use mathlib.Core.Bool.{Bool, true, false, cond, _&&_}
+use Prim.Native.Nat.{ℕ, _+_, _-_, _≤_, _<_}
+use native.Mathlib.Omega.{arith}
+use borrow.Author.Tests.{eq-eqb, ne-eqb, eqb-true, eqb-false, leb-true, ltb-true}
+use lib.Dec.{eqb, ltb, leb}
+use Rattle.busset.specs.Sets.{width, Bus as IsBus}
+use Rattle.busset.proofs.Members.{bus-more}
+use Rattle.text_field.proofs.Tested.{both}
+use Rattle.case_line.specs.declared.Record.{Record}
+use Rattle.case_line.specs.declared.Record.the-variants.{Grid, Bus, Line, Pmu, End, Wrong}
+use Rattle.grid.specs.Cases.{mostBuses, mostLines}
+use Rattle.case_judge.specs.Judging.{isBus, inPlace, inRange, inOrder, accepted, verdict, nextPlace, Fit}
+use Rattle.case_judge.specs.declared.Place.{Place}
+use Rattle.case_judge.specs.declared.Verdict.{Verdict}
+use Rattle.case_judge.specs.declared.Verdict.the-variants.{Next, Last, Form, Range, Order}
+
+-- ---- the next bus
+
+pub next-none : (k last : ℕ) → k ≡ 0 → false ≡ eqb k (last + 1)
+next-none k last e = sym (ne-eqb _ _ (λ (p : k ≡ last + 1). omega arith))
+
+pub next-some : (k last : ℕ) → (k ≡ 0 → ⊥) → eqb (k - 1) last ≡ eqb k (last + 1)
+next-some k last n = go (eqb (k - 1) last) refl
+  where
+    go : (b : Bool) → eqb (k - 1) last ≡ b → b ≡ eqb k (last + 1)
+    go true e = sym (eq-eqb k (last + 1) (omega (arith, eqb-true (k - 1) last e)))
+    go false e = sym (ne-eqb _ _ (λ (p : k ≡ last + 1). eqb-false (k - 1) last e (omega arith)))
+
+-- ---- three tests passed
+
+pub record Accepted (s : Place) (r : Record) : Type 0 where
+  pub place : inPlace s r ≡ true
+  pub range : inRange s r ≡ true
+  pub order : inOrder s r ≡ true
+
+-- a verdict that is none of the refusals comes of three tests passed
+passed : (p q o : Bool) {v w : Verdict} → cond p (cond q (cond o v Order) Range) Form ≡ w →
+    (Form ≡ w → ⊥) → (Range ≡ w → ⊥) → (Order ≡ w → ⊥) → (p ≡ true) × (q ≡ true) × (o ≡ true) × (v ≡ w)
+passed true true true e f r o = (refl, refl, refl, e)
+passed true true false e f r o = absurd (o e)
+passed true false q e f r o = absurd (r e)
+passed false p q e f r o = absurd (f e)
+
+pub apart : {A : Type 0} → _≡_ {A = ℕ} 0 1 → A
+apart e = absurd (omega arith)
+
+module _ (s : Place) (r : Record) where
+  pub last-of : verdict s r ≡ Last → accepted r ≡ Last
+  unfolding verdict
+  last-of e = passed (inPlace s r) (inRange s r) (inOrder s r) {v = accepted r} e (λ z. apart (cc)) (λ z. apart (cc)) (λ z. apart (cc)) .3
+
+  pub last-place : verdict s r ≡ Last → inPlace s r ≡ true
+  unfolding verdict
+  last-place e = passed (inPlace s r) (inRange s r) (inOrder s r) {v = accepted r} e (λ z. apart (cc)) (λ z. apart (cc)) (λ z. apart (cc)) .0
+
+  pub goes-of : verdict s r ≡ Next → accepted r ≡ Next
+  unfolding verdict
+  goes-of e = passed (inPlace s r) (inRange s r) (inOrder s r) {v = accepted r} e (λ z. apart (cc)) (λ z. apart (cc)) (λ z. apart (cc)) .3
+
+  pub accepted-of : verdict s r ≡ Next → Accepted s r
+  unfolding verdict
+  accepted-of e =
+      let p = passed (inPlace s r) (inRange s r) (inOrder s r) {v = accepted r} e (λ z. apart (cc)) (λ z. apart (cc)) (λ z. apart (cc)) in
+      record { place = p .0; range = p .1; order = p .2 }
+
+  pub accept : inPlace s r ≡ true → inRange s r ≡ true → inOrder s r ≡ true → verdict s r ≡ accepted r
+  unfolding verdict
+  accept p q o = rw (p, q, o)
+
+-- ---- the numbers of an accepted record
+
+pub inside : (n k : ℕ) → isBus n k ≡ true → IsBus n k
+unfolding isBus
+inside n k e = let p = both (leb 1 k) (leb k n) e in record { some = leb-true 1 k (p .0); most = leb-true k n (p .1) }
+
+pub bounded : (n k : ℕ) → n ≤ mostBuses → isBus n k ≡ true → IsBus width k
+bounded n k h e = bus-more (inside n k e) h
+
+-- the two buses of a line, and room for it
+pub record Ends (s : Place) (a b : ℕ) : Type 0 where
+  pub from : IsBus (s .n) a
+  pub to : IsBus (s .n) b
+  pub room : s .lines < mostLines
+
+pub line-ends : (s : Place) (a b : ℕ) → inRange s (Line a b) ≡ true → Ends s a b
+line-ends s a b e =
+    let u = both (isBus (s .n) a && isBus (s .n) b) (ltb (s .lines) mostLines) e in
+    let v = both (isBus (s .n) a) (isBus (s .n) b) (u .0) in
+    record { from = inside (s .n) a (v .0); to = inside (s .n) b (v .1); room = ltb-true (s .lines) mostLines (u .1) }
+
+fit : (s : Place) (r : Record) → s .n ≤ mostBuses → inRange s r ≡ true → Fit s r
+fit s (Grid n) h e = tt
+fit s (Bus k z o) h e = bounded (s .n) k h e
+fit s (Line a b) h e = let t = line-ends s a b e in (bus-more (t .from) h, bus-more (t .to) h, t .room)
+fit s (Pmu p) h e = bounded (s .n) p h e
+fit s End h e = tt
+fit s Wrong h e = tt
+
+pub fit-of : (s : Place) (r : Record) → s .n ≤ mostBuses → verdict s r ≡ Next → Fit s r
+fit-of s r h e = fit s r h (accepted-of s r e .range)
+
+-- what fits, in the arm of a record
+module _ (s : Place) {r : Record} where
+  pub bus-fit : {k : ℕ} {z o : Bool} → r ≡ Bus k z o → Fit s r → IsBus width k
+  bus-fit e f = rw e at f
+
+  pub pmu-fit : {p : ℕ} → r ≡ Pmu p → Fit s r → IsBus width p
+  pmu-fit e f = rw e at f
+
+  pub line-fit : {a b : ℕ} → r ≡ Line a b → Fit s r → IsBus width a × IsBus width b × (s .lines < mostLines)
+  line-fit e f = rw e at f
+
+small : (s : Place) (r : Record) → s .n ≤ mostBuses → inRange s r ≡ true → nextPlace s r .n ≤ mostBuses
+small s (Grid n) h e = inside mostBuses n e .most
+small s (Bus k z o) h e = h
+small s (Line a b) h e = h
+small s (Pmu p) h e = h
+small s End h e = h
+small s Wrong h e = h
+
+pub small-of : (s : Place) (r : Record) → s .n ≤ mostBuses → verdict s r ≡ Next → nextPlace s r .n ≤ mostBuses
+small-of s r h e = small s r h (accepted-of s r e .range)

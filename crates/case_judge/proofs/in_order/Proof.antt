@@ -1,0 +1,73 @@
+use mathlib.Core.Path.{refl}
+use borrow.Author.Needs.{needs}
+use Rattle.case_judge.proofs.in_order.Statement.{statement}
+use Rattle.case_judge.proofs.in_order.Tie as tie
+
+enum-told : tie.Need-enum-told
+enum-told c = search needs
+
+enum-known-r : tie.Need-enum-known-r
+enum-known-r c = search needs
+
+is-next-requires : tie.Need-is-next-requires
+is-next-requires c κs = search needs
+
+enum-known-r-2 : tie.Need-enum-known-r-2
+enum-known-r-2 c = search needs
+
+is-less-requires : tie.Need-is-less-requires
+is-less-requires c κs = search needs
+
+is-after-requires : tie.Need-is-after-requires
+is-after-requires c κs = search needs
+
+both-requires : tie.Need-both-requires
+both-requires c κs = search needs
+
+enum-known-r-3 : tie.Need-enum-known-r-3
+enum-known-r-3 c = search needs
+
+enum-told-2 : tie.Need-enum-told-2
+enum-told-2 c = search needs
+
+enum-told-3 : tie.Need-enum-told-3
+enum-told-3 c = search needs
+
+returns : tie.Need-returns
+returns c = search needs
+
+returns-2 : tie.Need-returns-2
+returns-2 c = rw (c .before .before .r .given .1) (c .is-next .ensures)
+
+returns-3 : tie.Need-returns-3
+returns-3 c = rw (c .before .before .before .before .r2 .given .1, c .both .ensures, c .before .is-after .ensures, c .before .before .is-less .ensures) refl
+
+returns-4 : tie.Need-returns-4
+returns-4 c = rw (c .before .before .r3 .given .1) refl
+
+returns-5 : tie.Need-returns-5
+returns-5 c = search needs
+
+returns-6 : tie.Need-returns-6
+returns-6 c = search needs
+
+pub in-order-spec : {M : Type 1} → statement M
+in-order-spec =
+    tie.close
+    (tie.spec
+    enum-told
+    enum-known-r
+    is-next-requires
+    enum-known-r-2
+    is-less-requires
+    is-after-requires
+    both-requires
+    enum-known-r-3
+    enum-told-2
+    enum-told-3
+    returns
+    returns-2
+    returns-3
+    returns-4
+    returns-5
+    returns-6)

@@ -1,0 +1,62 @@
+use native.Mathlib.Omega.{arith}
+use Rattle.case_judge.proofs.Judged.{line-fit}
+use borrow.Author.Needs.{needs}
+use Rattle.case_judge.proofs.next_place.Statement.{statement}
+use Rattle.case_judge.proofs.next_place.Tie as tie
+
+enum-known-r : tie.Need-enum-known-r
+enum-known-r c = search needs
+
+enum-known-r-2 : tie.Need-enum-known-r-2
+enum-known-r-2 c = search needs
+
+enum-known-r-3 : tie.Need-enum-known-r-3
+enum-known-r-3 c = search needs
+
+add-t9 : tie.Need-add-t9
+add-t9 c = let f = line-fit _ (c .before .before .r3 .given .1) (c .before .before .before .before .pre) in omega arith
+
+enum-known-r-4 : tie.Need-enum-known-r-4
+enum-known-r-4 c = search needs
+
+enum-told : tie.Need-enum-told
+enum-told c = search needs
+
+enum-told-2 : tie.Need-enum-told-2
+enum-told-2 c = search needs
+
+returns : tie.Need-returns
+returns c = rw (c .before .r .given .1)
+
+returns-2 : tie.Need-returns-2
+returns-2 c = rw (c .before .r2 .given .1)
+
+returns-3 : tie.Need-returns-3
+returns-3 c = rw (c .before .before .r3 .given .1)
+
+returns-4 : tie.Need-returns-4
+returns-4 c = rw (c .before .r4 .given .1)
+
+returns-5 : tie.Need-returns-5
+returns-5 c = search needs
+
+returns-6 : tie.Need-returns-6
+returns-6 c = search needs
+
+pub next-place-spec : {M : Type 1} → statement M
+next-place-spec =
+    tie.close
+    (tie.spec
+    enum-known-r
+    enum-known-r-2
+    enum-known-r-3
+    add-t9
+    enum-known-r-4
+    enum-told
+    enum-told-2
+    returns
+    returns-2
+    returns-3
+    returns-4
+    returns-5
+    returns-6)

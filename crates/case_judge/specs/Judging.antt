@@ -1,0 +1,86 @@
+-- One record, where the reader stands: it is the next, the last, or refused.
+use mathlib.Core.Bool.{Bool, true, false, cond, _&&_, _||_}
+use Prim.Native.Nat.{ℕ, _+_, _<_}
+use lib.Dec.{eqb, ltb, leb}
+use Rattle.busset.specs.Sets.{width, Bus as IsBus}
+use Rattle.case_line.specs.declared.Record.{Record}
+use Rattle.case_line.specs.declared.Record.the-variants.{Grid, Bus, Line, Pmu, End, Wrong}
+use Rattle.grid.specs.Cases.{mostBuses, mostLines}
+use Rattle.case_judge.specs.declared.Place.{Place}
+use Rattle.case_judge.specs.declared.Verdict.{Verdict}
+use Rattle.case_judge.specs.declared.Verdict.the-variants.{Next, Last, Form, Range, Order}
+
+-- k is a number from 1 to n
+unfoldable pub isBus : ℕ → ℕ → Bool
+isBus n k = leb 1 k && leb k n
+
+-- line c d stands after line a b
+unfoldable pub isAfter : ℕ → ℕ → ℕ → ℕ → Bool
+isAfter a b c d = ltb a c || (eqb a c && ltb b d)
+
+-- `grid` has been read, and every `bus`
+unfoldable pub pastBuses : Place → Bool
+pastBuses s = ltb 0 (s .n) && leb (s .n) (s .bus)
+
+-- a record of this kind may stand here; if not, refusal 2
+abbrev pub inPlace : Place → Record → Bool
+inPlace s (Grid n) = eqb (s .n) 0
+inPlace s (Bus k zero site) = ltb (s .bus) (s .n)
+inPlace s (Line a b) = pastBuses s && eqb (s .unit) 0
+inPlace s (Pmu p) = pastBuses s
+inPlace s End = pastBuses s
+inPlace s Wrong = false
+
+-- its numbers are in range, and it is no 257th `line`; if not, refusal 3
+abbrev pub inRange : Place → Record → Bool
+inRange s (Grid n) = isBus mostBuses n
+inRange s (Bus k zero site) = isBus (s .n) k
+inRange s (Line a b) = isBus (s .n) a && isBus (s .n) b && ltb (s .lines) mostLines
+inRange s (Pmu p) = isBus (s .n) p
+inRange s End = true
+inRange s Wrong = true
+
+-- the bus is the next, a is below b, and `line` and `pmu` rise; if not, refusal 4
+abbrev pub inOrder : Place → Record → Bool
+inOrder s (Grid n) = true
+inOrder s (Bus k zero site) = eqb k (s .bus + 1)
+inOrder s (Line a b) = ltb a b && isAfter (s .a) (s .b) a b
+inOrder s (Pmu p) = ltb (s .unit) p
+inOrder s End = true
+inOrder s Wrong = true
+
+-- an accepted record is the next, or the last
+abbrev pub accepted : Record → Verdict
+accepted (Grid n) = Next
+accepted (Bus k zero site) = Next
+accepted (Line a b) = Next
+accepted (Pmu p) = Next
+accepted End = Last
+accepted Wrong = Next
+
+-- 2 before 3 before 4
+unfoldable pub verdict : Place → Record → Verdict
+verdict s r =
+    cond (inPlace s r)
+    (cond (inRange s r)
+    (cond (inOrder s r) (accepted r) Order)
+    Range)
+    Form
+
+-- where the reader stands after a record
+abbrev pub nextPlace : Place → Record → Place
+nextPlace s (Grid n) = record { n = n; bus = 0; a = 0; b = 0; lines = 0; unit = 0 }
+nextPlace s (Bus k zero site) = record { n = s .n; bus = k; a = s .a; b = s .b; lines = s .lines; unit = s .unit }
+nextPlace s (Line a b) = record { n = s .n; bus = s .bus; a = a; b = b; lines = s .lines + 1; unit = s .unit }
+nextPlace s (Pmu p) = record { n = s .n; bus = s .bus; a = s .a; b = s .b; lines = s .lines; unit = p }
+nextPlace s End = s
+nextPlace s Wrong = s
+
+-- what a verdict of `Next` gives: a record's numbers are buses, and one line more is not too many
+abbrev pub Fit : Place → Record → Type 0
+Fit s (Grid n) = Unit {0}
+Fit s (Bus k zero site) = IsBus width k
+Fit s (Line a b) = IsBus width a × IsBus width b × (s .lines < mostLines)
+Fit s (Pmu p) = IsBus width p
+Fit s End = Unit {0}
+Fit s Wrong = Unit {0}

@@ -1,0 +1,208 @@
+// What a record is where the reader stands.
+ghost use mathlib.Core.Path.{_≡_};
+ghost use mathlib.Core.Bool.{_&&_};
+ghost use Prim.Native.Nat.{_+_};
+ghost use lib.Dec.{eqb, ltb};
+ghost use Rattle.case_judge.specs.Judging.{isBus, isAfter, pastBuses, inPlace, inRange, inOrder, accepted, verdict, nextPlace, Fit};
+use case_line::Record;
+
+// The last bus, line and unit read of a grid of n buses, and how many lines.
+pub struct Place {
+    pub n: usize,
+    pub bus: usize,
+    pub a: usize,
+    pub b: usize,
+    pub lines: usize,
+    pub unit: usize,
+}
+
+// What a record is where the reader stands: the next, the last, or refused.
+pub enum Verdict {
+    Next,
+    Last,
+    Form,
+    Range,
+    Order,
+}
+
+// Whether k is a number from 1 to n.
+pub fn is_bus(n: usize, k: usize) -> bool
+    ensures { λ r. ⌜ r ≡ isBus n k ⌝ }
+{
+    1 <= k && k <= n
+}
+
+// Whether line c d stands after line a b.
+fn is_after(a: usize, b: usize, c: usize, d: usize) -> bool
+    ensures { λ r. ⌜ r ≡ isAfter a b c d ⌝ }
+{
+    if a < c {
+        return true;
+    }
+    a == c && b < d
+}
+
+fn both(p: bool, q: bool) -> bool
+    ensures { λ r. ⌜ r ≡ (p && q) ⌝ }
+{
+    p && q
+}
+
+fn is_less(a: usize, b: usize) -> bool
+    ensures { λ r. ⌜ r ≡ ltb a b ⌝ }
+{
+    a < b
+}
+
+fn is_zero(a: usize) -> bool
+    ensures { λ r. ⌜ r ≡ eqb a 0 ⌝ }
+{
+    a == 0
+}
+
+// Whether k comes right after the last one.
+fn is_next(k: usize, last: usize) -> bool
+    ensures { λ r. ⌜ r ≡ eqb k (last + 1) ⌝ }
+{
+    if k == 0 {
+        return false;
+    }
+    k - 1 == last
+}
+
+fn is_past_buses(s: Place) -> bool
+    ensures { λ r. ⌜ r ≡ pastBuses s ⌝ }
+{
+    0 < s.n && s.n <= s.bus
+}
+
+// Whether a record of this kind may stand here.
+fn in_place(s: Place, r: Record) -> bool
+    ensures { λ t. ⌜ t ≡ inPlace s r ⌝ }
+{
+    match r {
+        Record::Grid(_) => s.n == 0,
+        Record::Bus {
+            number: _,
+            zero: _,
+            site: _,
+        } => s.bus < s.n,
+        Record::Line(_, _) => both(is_past_buses(s), is_zero(s.unit)),
+        Record::Pmu(_) => is_past_buses(s),
+        Record::End => is_past_buses(s),
+        Record::Wrong => false,
+    }
+}
+
+fn in_range(s: Place, r: Record) -> bool
+    ensures { λ t. ⌜ t ≡ inRange s r ⌝ }
+{
+    match r {
+        Record::Grid(m) => is_bus(64, m),
+        Record::Bus {
+            number,
+            zero: _,
+            site: _,
+        } => is_bus(s.n, number),
+        Record::Line(a, b) => both(both(is_bus(s.n, a), is_bus(s.n, b)), is_less(s.lines, 256)),
+        Record::Pmu(p) => is_bus(s.n, p),
+        Record::End => true,
+        Record::Wrong => true,
+    }
+}
+
+fn in_order(s: Place, r: Record) -> bool
+    ensures { λ t. ⌜ t ≡ inOrder s r ⌝ }
+{
+    match r {
+        Record::Grid(_) => true,
+        Record::Bus {
+            number,
+            zero: _,
+            site: _,
+        } => is_next(number, s.bus),
+        Record::Line(a, b) => both(is_less(a, b), is_after(s.a, s.b, a, b)),
+        Record::Pmu(p) => s.unit < p,
+        Record::End => true,
+        Record::Wrong => true,
+    }
+}
+
+fn accepts(r: Record) -> Verdict
+    ensures { λ v. ⌜ v ≡ accepted r ⌝ }
+{
+    match r {
+        Record::Grid(_) => Verdict::Next,
+        Record::Bus {
+            number: _,
+            zero: _,
+            site: _,
+        } => Verdict::Next,
+        Record::Line(_, _) => Verdict::Next,
+        Record::Pmu(_) => Verdict::Next,
+        Record::End => Verdict::Last,
+        Record::Wrong => Verdict::Next,
+    }
+}
+
+pub fn judge(s: Place, r: Record) -> Verdict
+    ensures { λ v. ⌜ v ≡ verdict s r ⌝ }
+{
+    if !in_place(s, r) {
+        return Verdict::Form;
+    }
+    if !in_range(s, r) {
+        return Verdict::Range;
+    }
+    if !in_order(s, r) {
+        return Verdict::Order;
+    }
+    accepts(r)
+}
+
+// Where the reader stands after a record.
+pub fn next_place(s: Place, r: Record) -> Place
+    requires { ⌜ Fit s r ⌝ }
+    ensures { λ t. ⌜ t ≡ nextPlace s r ⌝ }
+{
+    match r {
+        Record::Grid(n) => Place {
+            n,
+            bus: 0,
+            a: 0,
+            b: 0,
+            lines: 0,
+            unit: 0,
+        },
+        Record::Bus {
+            number,
+            zero: _,
+            site: _,
+        } => Place {
+            n: s.n,
+            bus: number,
+            a: s.a,
+            b: s.b,
+            lines: s.lines,
+            unit: s.unit,
+        },
+        Record::Line(a, b) => Place {
+            n: s.n,
+            bus: s.bus,
+            a,
+            b,
+            lines: s.lines + 1,
+            unit: s.unit,
+        },
+        Record::Pmu(p) => Place {
+            n: s.n,
+            bus: s.bus,
+            a: s.a,
+            b: s.b,
+            lines: s.lines,
+            unit: p,
+        },
+        Record::End => s,
+        Record::Wrong => s,
+    }
+}

@@ -1,0 +1,114 @@
+-- A line of a case text, read as a record: `grid n`, `bus number class site`, `line a b`, `pmu number` or `end`, with fields parted by one tab.
+use mathlib.Core.Bool.{Bool, cond}
+use mathlib.Core.List.{List, [], _∷_}
+use Prim.Native.Nat.{ℕ, _<_}
+use Rattle.text_field.specs.Split.{split, join, same, bytes, tab}
+use Rattle.text_field.specs.Number.{numberOf, numberText}
+use Rattle.text_field.specs.declared.Numeral.{Numeral}
+use Rattle.text_field.specs.declared.Numeral.the-variants.{Is, Wrong as NoNumber}
+use Rattle.case_line.specs.Fields.{letterZ, letterI, letterY, letterN, classOf, none, oneNumber, oneSite}
+use Rattle.case_line.specs.declared.Record.{Record}
+use Rattle.case_line.specs.declared.Record.the-variants.{Grid, Bus, Line, Pmu, End, Wrong}
+use Rattle.case_line.specs.declared.Word.{Word}
+use Rattle.case_line.specs.declared.Word.the-variants.{Grid as GridWord, Bus as BusWord, Line as LineWord, Pmu as PmuWord, End as EndWord, Other}
+use Rattle.case_line.specs.declared.Mark.{Mark}
+use Rattle.case_line.specs.declared.Mark.the-variants.{Is as Letter, Neither}
+
+-- the word that a field is
+unfoldable pub wordOf : List ℕ → Word
+wordOf f =
+    cond (same f (bytes "grid")) GridWord
+    (cond (same f (bytes "bus")) BusWord
+    (cond (same f (bytes "line")) LineWord
+    (cond (same f (bytes "pmu")) PmuWord
+    (cond (same f (bytes "end")) EndWord
+    Other))))
+
+-- ---- the fields of each record
+
+-- `grid n`
+abbrev pub gridOf : Numeral → Record
+gridOf (Is n) = Grid n
+gridOf NoNumber = Wrong
+
+-- `pmu number`
+abbrev pub pmuOf : Numeral → Record
+pmuOf (Is n) = Pmu n
+pmuOf NoNumber = Wrong
+
+-- `line a b`
+abbrev pub lineOf : Numeral → Numeral → Record
+lineOf (Is a) (Is b) = Line a b
+lineOf (Is a) NoNumber = Wrong
+lineOf NoNumber b = Wrong
+
+-- `bus number class site`
+abbrev pub busOf : Numeral → Mark → Mark → Record
+busOf (Is n) (Letter zero) (Letter site) = Bus n zero site
+busOf (Is n) (Letter zero) Neither = Wrong
+busOf (Is n) Neither site = Wrong
+busOf NoNumber class site = Wrong
+
+-- the two fields of `line`
+unfoldable pub lineFields : List (List ℕ) → Record
+lineFields [] = Wrong
+lineFields (a ∷ fs) = lineOf (numberOf a) (oneNumber fs)
+
+-- the three fields of `bus`
+unfoldable pub busFields : List (List ℕ) → Record
+busFields [] = Wrong
+busFields (n ∷ []) = Wrong
+busFields (n ∷ class ∷ fs) = busOf (numberOf n) (classOf class) (oneSite fs)
+
+-- `end`, which no field follows
+abbrev pub noFields : List (List ℕ) → Record
+noFields = none Wrong End
+
+-- the word, and the fields after it
+abbrev pub byWord : Word → List (List ℕ) → Record
+byWord GridWord fs = gridOf (oneNumber fs)
+byWord BusWord fs = busFields fs
+byWord LineWord fs = lineFields fs
+byWord PmuWord fs = pmuOf (oneNumber fs)
+byWord EndWord fs = noFields fs
+byWord Other fs = Wrong
+
+-- the record that a line is
+unfoldable pub recordOf : List ℕ → Record
+recordOf l = byWord (wordOf (split tab l .first)) (split tab l .rest)
+
+-- ---- a record's text
+
+-- the first letter or the second
+abbrev pub letter : Bool → ℕ → ℕ → List ℕ
+letter t p q = cond t (p ∷ []) (q ∷ [])
+
+-- its word, and its fields
+abbrev pub wordText : Record → List ℕ
+wordText (Grid n) = bytes "grid"
+wordText (Bus n zero site) = bytes "bus"
+wordText (Line a b) = bytes "line"
+wordText (Pmu n) = bytes "pmu"
+wordText End = bytes "end"
+wordText Wrong = []
+
+abbrev pub fieldTexts : Record → List (List ℕ)
+fieldTexts (Grid n) = numberText n ∷ []
+fieldTexts (Bus n zero site) = numberText n ∷ letter zero letterZ letterI ∷ letter site letterY letterN ∷ []
+fieldTexts (Line a b) = numberText a ∷ numberText b ∷ []
+fieldTexts (Pmu n) = numberText n ∷ []
+fieldTexts End = []
+fieldTexts Wrong = []
+
+-- the line that a record is
+unfoldable pub recordText : Record → List ℕ
+recordText r = join tab (wordText r) (fieldTexts r)
+
+-- a record that has a text: its numbers have 1 to 4 digits
+abbrev pub Formed : Record → Type 0
+Formed (Grid n) = n < 10000
+Formed (Bus n zero site) = n < 10000
+Formed (Line a b) = (a < 10000) × (b < 10000)
+Formed (Pmu n) = n < 10000
+Formed End = Unit {0}
+Formed Wrong = ⊥

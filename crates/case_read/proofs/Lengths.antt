@@ -1,0 +1,47 @@
+-- How long a case's text is.
+use mathlib.Core.Path.{_≡_, refl, ap}
+use mathlib.Core.Bool.{Bool, true, false, cond}
+use mathlib.Core.List.{List, [], _∷_}
+use Prim.Native.Nat.{ℕ, suc, zero, _+_, _*_, _≤_}
+use native.Mathlib.Omega.{arith}
+use lib.ListN.{length, length-append}
+use Rattle.case_line.specs.declared.Record.{Record}
+use Rattle.case_line.specs.declared.Record.the-variants.{Line}
+use Rattle.case_line.proofs.Lengths.{record-length}
+use Rattle.case_read.specs.Writing.{has, busRecords, members, lineRecords, linesText}
+
+pub lines-length : (rs : List Record) → length (linesText rs) ≤ 15 * length rs
+unfolding linesText
+lines-length [] = omega arith
+lines-length (r ∷ rs) = simp length-append (omega (arith, record-length r, lines-length rs))
+
+pub buses-length : (zeros sites k m : ℕ) → length (busRecords zeros sites k m) ≡ m
+unfolding busRecords
+buses-length zeros sites k zero = refl
+buses-length zeros sites k (suc m) = ap suc (buses-length zeros sites (k + 1) m)
+
+pub members-length : (f : ℕ → Record) (s k m : ℕ) → length (members f s k m) ≤ m
+unfolding members
+members-length f s k zero = omega arith
+members-length f s k (suc m) = shorter (has s k) (f k) (members f s (k + 1) m) (members-length f s (k + 1) m)
+  where
+    shorter : (t : Bool) (x : Record) (xs : List Record) → length xs ≤ m → length (cond t (x ∷ xs) xs) ≤ suc m
+    shorter true x xs h = omega arith
+    shorter false x xs h = omega arith
+
+rows-length : (nbr : ℕ → ℕ) (a m : ℕ) → m ≤ 64 → length (lineRecords nbr a m) ≤ 64 * m
+unfolding lineRecords
+rows-length nbr a zero h = omega arith
+rows-length nbr a (suc m) h = simp length-append (omega (arith, members-length (Line a) (nbr a) (a + 1) m, rows-length nbr (a + 1) m (omega arith)))
+
+-- ---- bounds for up to 64 buses
+
+module _ (n : ℕ) (h : n ≤ 64) where
+  pub buses-most : (zeros sites : ℕ) → length (linesText (busRecords zeros sites 1 n)) ≤ 960
+  buses-most zeros sites = omega (arith, lines-length (busRecords zeros sites 1 n), buses-length zeros sites 1 n)
+
+  pub rows-most : (nbr : ℕ → ℕ) → length (linesText (lineRecords nbr 1 n)) ≤ 61440
+  rows-most nbr = omega (arith, lines-length (lineRecords nbr 1 n), rows-length nbr 1 n h)
+
+  pub members-most : (f : ℕ → Record) (s : ℕ) → length (linesText (members f s 1 n)) ≤ 960
+  members-most f s = omega (arith, lines-length (members f s 1 n), members-length f s 1 n)

@@ -1,0 +1,111 @@
+// The text of a case.
+ghost use mathlib.Core.Path.{_≡_};
+ghost use mathlib.Core.Bool.{cond};
+ghost use mathlib.Core.List.{[]};
+ghost use Prim.Native.Nat.{_+_, _-_, _<_, _≤_, _^_};
+ghost use Rattle.busset.specs.Sets.{Bus, width, setOf};
+ghost use Rattle.case_line.specs.Record.{Formed};
+ghost use Rattle.case_line.specs.declared.Record.the-variants.{Line, Pmu};
+ghost use Rattle.grid.specs.Cases.{neighbours};
+ghost use lib.ListN.{length};
+ghost use Rattle.case_read.specs.Writing.{busRecord, busRecords, members, lineRecords, linesText, caseText};
+ghost use Rattle.text_put.specs.Put.{Put};
+ghost use Rattle.case_write.specs.Lines.{lineText};
+use busset::BusSet;
+use case_line::Record;
+use grid::Case;
+
+// A record and its line feed where t, and nothing otherwise.
+fn put_if(out: &mut [u8], at: usize, t: bool, r: Record) -> usize
+    requires { ⌜ (at < 2 ^ 29) × Formed r ⌝ }
+    ensures { λ k. ⌜ Put (now (out .entry)) at (cond t (lineText r) []) (now (out .exit)) k ⌝ }
+{
+    if t {
+        return crate::put_line(out, at, r);
+    }
+    at
+}
+
+// The record of bus b.
+fn put_bus(out: &mut [u8], at: usize, zero: BusSet, site: BusSet, b: usize) -> usize
+    requires { ⌜ (at < 2 ^ 29) × Bus width b ⌝ }
+    ensures { λ k. ⌜ Put (now (out .entry)) at (lineText (busRecord (setOf zero) (setOf site) b)) (now (out .exit)) k ⌝ }
+{
+    let r = Record::Bus {
+        number: b,
+        zero: busset::has(zero, b),
+        site: busset::has(site, b),
+    };
+    crate::put_line(out, at, r)
+}
+
+// The records of the buses 1 to n.
+fn put_buses(out: &mut [u8], at: usize, n: usize, zero: BusSet, site: BusSet) -> usize
+    requires { ⌜ (at < 2 ^ 20) × (n ≤ width) ⌝ }
+    ensures { λ k. ⌜ Put (now (out .entry)) at (linesText (busRecords (setOf zero) (setOf site) 1 n)) (now (out .exit)) k ⌝ }
+{
+    let mut k = at;
+    for b in 1..n + 1 {
+        k = put_bus(out, k, zero, site, b);
+    }
+    k
+}
+
+// The lines of bus a to the buses above it.
+fn put_row(out: &mut [u8], at: usize, n: usize, row: BusSet, a: usize) -> usize
+    requires { ⌜ (at < 2 ^ 20) × (n ≤ width) × Bus n a ⌝ }
+    ensures { λ k. ⌜ Put (now (out .entry)) at (linesText (members (Line a) (setOf row) (a + 1) (n - a))) (now (out .exit)) k ⌝ }
+{
+    let mut k = at;
+    for b in a + 1..n + 1 {
+        k = put_if(out, k, busset::has(row, b), Record::Line(a, b));
+    }
+    k
+}
+
+// The lines of the buses 1 to n, each at its lower bus.
+fn put_lines(out: &mut [u8], at: usize, n: usize, nbr: &[BusSet; 64]) -> usize
+    requires { ⌜ (at < 2 ^ 15) × (n ≤ width) ⌝ }
+    ensures { λ k. ⌜ Put (now (out .entry)) at (linesText (lineRecords (neighbours (now (nbr .entry))) 1 n)) (now (out .exit)) k ⌝ }
+{
+    let mut k = at;
+    for a in 1..n + 1 {
+        k = put_row(out, k, n, grid::row(nbr, a), a);
+    }
+    k
+}
+
+// The units.
+pub fn put_units(out: &mut [u8], at: usize, n: usize, units: BusSet) -> usize
+    requires { ⌜ (at < 2 ^ 20) × (n ≤ width) ⌝ }
+    ensures { λ k. ⌜ Put (now (out .entry)) at (linesText (members Pmu (setOf units) 1 n)) (now (out .exit)) k ⌝ }
+{
+    let mut k = at;
+    for b in 1..n + 1 {
+        k = put_if(out, k, busset::has(units, b), Record::Pmu(b));
+    }
+    k
+}
+
+// The whole text from the first byte on, and its length.
+pub fn put_case(out: &mut [u8], case: Case) -> usize
+    requires { ⌜ case .n ≤ width ⌝ }
+    ensures { λ k. ⌜ Put (now (out .entry)) 0 (caseText case) (now (out .exit)) k ⌝ }
+{
+    let n = case.n;
+    let nbr = case.nbr;
+    let a = crate::put_line(out, 0, Record::Grid(n));
+    let b = put_buses(out, a, n, case.zero, case.site);
+    let c = put_lines(out, b, n, &nbr);
+    let d = put_units(out, c, n, case.units);
+    crate::put_line(out, d, Record::End)
+}
+
+// The length of a case's text.
+pub fn count_bytes(case: Case) -> usize
+    requires { ⌜ case .n ≤ width ⌝ }
+    ensures { λ k. ⌜ k ≡ length (caseText case) ⌝ }
+{
+    let mut none: [u8; 1] = [0];
+    put_case(&mut none, case)
+}

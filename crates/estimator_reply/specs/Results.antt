@@ -1,0 +1,59 @@
+-- The result that a C program gets, and the bytes that it lent.
+use mathlib.Core.Path.{_≡_}
+use mathlib.Core.Bool.{cond}
+use mathlib.Core.List.{List, _++_}
+use Prim.Native.Nat.{ℕ, _+_, _*_, _≤_}
+use lib.Dec.{ltb}
+use lib.ListN.{length, drop}
+use Rattle.busset.specs.Bytes.{setBytes}
+use Rattle.refusals.specs.declared.Refusal.{Refusal}
+use Rattle.refusals.specs.declared.Refusal.the-variants.{NoRoom}
+use Rattle.refusals.specs.Refusals.{numberOf, placeOf}
+use Rattle.grid.specs.Cases.{mostStepBytes}
+use Rattle.estimator_reply.specs.declared.Answer.{Answer}
+use Rattle.estimator_reply.specs.declared.Answer.the-variants.{Set, Refused, Unread}
+
+-- 100 times the place plus the refusal number
+abbrev pub codeOf : Refusal → ℕ
+codeOf q = 100 * placeOf q + numberOf q
+
+-- the result, where `room` bytes are lent: 0, or a refusal, with 50 added in reading the step text; fewer than eight bytes are 6, after every other refusal
+abbrev pub resultOf : Answer → ℕ → ℕ
+resultOf (Set s) room = cond (ltb room 8) (codeOf NoRoom) 0
+resultOf (Refused q) room = codeOf q
+resultOf (Unread q) room = codeOf q + 50
+
+-- the bytes lent, afterwards: the set in the first eight and the others as they were; a refusal leaves all
+abbrev pub leftBy : Answer → List ℕ → List ℕ
+leftBy (Set s) lent = cond (ltb (length lent) 8) lent (setBytes s ++ drop 8 lent)
+leftBy (Refused q) lent = lent
+leftBy (Unread q) lent = lent
+
+-- the result and the bytes, where this is the answer
+pub record Replied (a : Answer) (lent left : List ℕ) (r : ℕ) : Type 0 where
+  pub result : r ≡ resultOf a (length lent)
+  pub bytes : left ≡ leftBy a lent
+
+-- what a C function promises: P says which answer
+pub record Answered (P : Answer → Type 0) (lent left : List ℕ) (r : ℕ) : Type 0 where
+  pub answer : Answer
+  pub is : P answer
+  pub replied : Replied answer lent left r
+
+-- ---- on the way
+
+-- the set that an answer has: none where it is a refusal
+abbrev pub setIn : Answer → ℕ
+setIn (Set s) = s
+setIn (Refused q) = 0
+setIn (Unread q) = 0
+
+-- no place is beyond the line after the last that a step text can have
+abbrev pub farthest : ℕ
+farthest = 1 + mostStepBytes
+
+-- a refusal's place is no farther
+abbrev pub Placed : Answer → Type 0
+Placed (Set s) = Unit {0}
+Placed (Refused q) = placeOf q ≤ farthest
+Placed (Unread q) = placeOf q ≤ farthest

@@ -1,0 +1,29 @@
+use mathlib.Core.Logic.{inl}
+use borrow.Author.Tests.{not-true, not-false}
+use Rattle.busset.proofs.Tests.{refutes}
+use Rattle.grid.specs.Cases.{Valid}
+use Rattle.refusals.proofs.Orders.{itself}
+use borrow.Author.Needs.{needs}
+use Rattle.list_derive.proofs.derivation.Statement.{statement}
+use Rattle.list_derive.proofs.derivation.Tie as tie
+
+valid : (c : tie.Else1) → Valid (c .before .before .args .case)
+valid c = c .before .is-valid .ensures .yes (not-false _ (c .if1 .left))
+
+is-valid-requires : tie.Need-is-valid-requires
+is-valid-requires c κs = search needs
+
+no-steps-requires : tie.Need-no-steps-requires
+no-steps-requires c κs = search needs
+
+returns : tie.Need-returns
+returns c = (inl (refutes (c .before .before .is-valid .ensures) (not-true _ (c .before .if1 .taken)), itself _), c .no-steps .ensures .1)
+
+derive-requires : tie.Need-derive-requires
+derive-requires c κs = valid c
+
+returns-2 : tie.Need-returns-2
+returns-2 c = ((valid (c .before), tt), c .derive .ensures)
+
+pub derivation-spec : {M : Type 1} → statement M
+derivation-spec = tie.close (tie.spec is-valid-requires no-steps-requires returns derive-requires returns-2)

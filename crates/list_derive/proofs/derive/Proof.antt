@@ -1,0 +1,82 @@
+use Prim.Native.Nat.{_-_, _<_}
+use mathlib.Core.Path.{ap, subst}
+use native.Mathlib.Omega.{arith}
+use Rattle.busset.specs.Sets.{Bus, size, setOf}
+use Rattle.busset.proofs.Members.{bus-more, with-add}
+use Rattle.busset.proofs.Sizes.{size-add}
+use Rattle.rules.specs.Derivation.{NextIs}
+use Rattle.rules.proofs.Reasons.{allowed-bus}
+use Rattle.grid.specs.Cases.{gridOf, Valid}
+use Rattle.list_derive.specs.Searching.{NextAnswer}
+use Rattle.list_derive.proofs.Extending.{Extends, extends-none, extends-few, extends-more, extends-all}
+use borrow.Author.Needs.{needs}
+use Rattle.list_derive.proofs.derive.Statement.{statement}
+use Rattle.list_derive.proofs.derive.Tie as tie
+
+abbrev Inv-loop : tie.InvT-loop
+Inv-loop case s₀ list₀ s list = Extends (gridOf case) (setOf s) list
+
+abbrev μ-loop : tie.MeasureT-loop
+μ-loop case s₀ list₀ s list = 64 - size (setOf s)
+
+-- the step that is taken
+abbrev Place : Type 0
+Place = tie.After-x Inv-loop μ-loop
+
+abbrev start : Place → tie.Start Inv-loop μ-loop
+start c = c .before .before .before .before .before .before
+
+valid : (c : Place) → Valid (start c .args .case)
+valid c = start c .pre
+
+stepped : (c : Place) → NextIs (gridOf (start c .args .case)) (setOf (c .before .before .before .loop .s)) (c .x .given .0 .0)
+stepped c = subst (NextAnswer _ _) (c .x .given .1) (c .before .before .next-step .ensures)
+
+few : (c : Place) → size (setOf (c .before .before .before .loop .s)) < 64
+few c = extends-few (valid c .proper) (valid c .buses .most) (stepped c) (c .before .before .before .loop .inv)
+
+bus : (c : Place) → Bus (start c .args .case .n) (c .x .given .0 .0 .bus)
+bus c = allowed-bus (valid c .proper) (stepped c .allowed)
+
+none-requires : tie.Need-none-requires Inv-loop μ-loop
+none-requires c κs = search needs
+
+no-steps-requires : tie.Need-no-steps-requires Inv-loop μ-loop
+no-steps-requires c κs = search needs
+
+loop-holds : tie.Need-loop-holds Inv-loop μ-loop
+loop-holds c = extends-none _ (c .before .none .ensures) (c .no-steps .ensures .1)
+
+next-step-requires : tie.Need-next-step-requires Inv-loop μ-loop
+next-step-requires c κs = search needs
+
+enum-known-x : tie.Need-enum-known-x Inv-loop μ-loop
+enum-known-x c = search needs
+
+enum-told : tie.Need-enum-told Inv-loop μ-loop
+enum-told c = search needs
+
+returns : tie.Need-returns Inv-loop μ-loop
+returns c = extends-all (c .before .before .before .loop .inv) (subst (NextAnswer _ _) (c .enum-told .given .1) (c .before .before .next-step .ensures))
+
+push-requires : tie.Need-push-requires Inv-loop μ-loop
+push-requires c κs =
+    let x = c .before in
+    let inv = x .before .before .before .loop .inv in
+    omega (arith, ap (λ l. l .n) (inv .is), inv .count, few x)
+
+with-requires : tie.Need-with-requires Inv-loop μ-loop
+with-requires c κs = bus-more (bus (c .before .before)) (valid (c .before .before) .buses .most)
+
+loop-less : tie.Need-loop-less Inv-loop μ-loop
+loop-less c =
+    let x = c .before .before .before in
+    omega (arith, few x, size-add _ _ (stepped x .allowed .new), ap size (with-add (c .with .ensures)))
+
+loop-again : tie.Need-loop-again Inv-loop μ-loop
+loop-again c =
+    let x = c .before .before .before in
+    extends-more (valid x .proper) (valid x .buses .most) (stepped x) (x .before .before .before .loop .inv) (c .before .push .ensures) (c .with .ensures)
+
+pub derive-spec : {M : Type 1} → statement M
+derive-spec = tie.close (tie.spec Inv-loop μ-loop none-requires no-steps-requires loop-holds next-step-requires enum-known-x enum-told returns push-requires with-requires loop-less loop-again)

@@ -1,0 +1,25 @@
+-- What the derivation promises. The promises of replay and weaving stand beside their functions (crate ending, specs/Replies.antt).
+use mathlib.Core.Path.{_≡_}
+use mathlib.Core.List.{List, [], _∷_}
+use Rattle.grid.specs.declared.Case.{Case}
+use Rattle.grid.specs.Cases.{gridOf, Valid}
+use Rattle.refusals.specs.Refusals.{Check, check, Passed, Failed}
+use Rattle.list_value.specs.Lists.{listOf}
+use Rattle.list_derive.specs.Deriving.{Derives}
+use Rattle.list_value.specs.declared.StepList.{StepList}
+use Rattle.list_derive.specs.declared.DerivationAnswer.{DerivationAnswer}
+use Rattle.list_derive.specs.declared.DerivationAnswer.the-variants.{Found, Refused}
+use Rattle.list_derive.specs.declared.Derived.{Derived}
+
+-- the case is valid, or 5
+abbrev pub derivationChecks : Case → List Check
+derivationChecks c = check (Valid c) 5 0 ∷ []
+
+-- the derivation, or the refusal with an empty list beside it
+abbrev pub DerivationAt : Case → StepList → DerivationAnswer → Type 0
+DerivationAt c l Found = Passed (derivationChecks c) × Derives (gridOf c) l
+DerivationAt c l (Refused r) = Failed (derivationChecks c) r × (l ≡ listOf [])
+
+-- the answer, and the list beside it
+abbrev pub DerivationReply : Case → Derived → Type 0
+DerivationReply c r = DerivationAt c (r .list) (r .answer)

@@ -1,0 +1,12 @@
+-- The search for the next step: what it answers.
+use Prim.Native.Nat.{ℕ}
+use Rattle.rules.specs.Grids.{Grid}
+use Rattle.rules.specs.Steps.{Finished}
+use Rattle.rules.specs.Derivation.{NextIs}
+use Rattle.list_derive.specs.declared.searching.Next.{Next}
+use Rattle.list_derive.specs.declared.searching.Next.the-variants.{Take, Nothing}
+
+-- the next step of the derivation, or nothing where the list is finished
+abbrev pub NextAnswer : Grid → ℕ → Next → Type 0
+NextAnswer g s (Take x) = NextIs g s x
+NextAnswer g s Nothing = Finished g s

@@ -1,0 +1,57 @@
+-- What each public call promises: what it checks, in order, and what it answers where every check passes.
+use mathlib.Core.Path.{_≡_}
+use mathlib.Core.List.{List, [], _∷_}
+use Prim.Native.Nat.{ℕ}
+use Rattle.busset.specs.Sets.{Bus, In, Out, upTo, setOf}
+use Rattle.step.specs.declared.Step.{Step}
+use Rattle.rules.specs.Observation.{Least}
+use Rattle.rules.specs.Steps.{Holds, Names}
+use Rattle.rules.specs.Figures.{figure}
+use Rattle.grid.specs.declared.Case.{Case}
+use Rattle.grid.specs.Cases.{gridOf, Valid}
+use Rattle.refusals.specs.Refusals.{Check, check, Passed, Failed}
+use Rattle.observe_calls.specs.declared.Observed.{Observed}
+use Rattle.observe_calls.specs.declared.Observed.the-variants as observed
+use Rattle.observe_calls.specs.declared.Figured.{Figured}
+use Rattle.observe_calls.specs.declared.Figured.the-variants as figured
+use Rattle.observe_calls.specs.declared.Tested.{Tested}
+use Rattle.observe_calls.specs.declared.Tested.the-variants as tested
+
+-- the buses of the grid in a stated set: those above n are ignored
+abbrev pub stated : Case → ℕ → ℕ
+stated c s = upTo (c .n) (setOf s)
+
+-- ---- the observed set
+
+-- the case is valid, or 5
+abbrev pub observedChecks : Case → List Check
+observedChecks c = check (Valid c) 5 0 ∷ []
+
+-- the least set that satisfies both rules
+abbrev pub ObservedReply : Case → Observed → Type 0
+ObservedReply c (observed.Set s) = Passed (observedChecks c) × Least (gridOf c) (setOf s)
+ObservedReply c (observed.Refused r) = Failed (observedChecks c) r
+
+-- ---- the firing figure of bus i towards j
+
+-- 5; i and j are 1 to n, or 7; they are joined, or 13
+abbrev pub figureChecks : Case → ℕ → ℕ → List Check
+figureChecks c i j = check (Valid c) 5 0 ∷ check (Bus (c .n) i × Bus (c .n) j) 7 0 ∷ check (In (gridOf c .nbr i) j) 13 0 ∷ []
+
+-- the figure in the stated set
+abbrev pub FigureReply : Case → ℕ → ℕ → ℕ → Figured → Type 0
+FigureReply c s i j (figured.Figure z) = Passed (figureChecks c i j) × (z ≡ figure (gridOf c .nbr) (stated c s) i j)
+FigureReply c s i j (figured.Refused r) = Failed (figureChecks c i j) r
+
+-- ---- the test of one step, which is step 1
+
+-- 5; it names buses 1 to n, or 7; its bus is not yet observed, or 8; its reason holds, or 9
+abbrev pub stepChecks : Case → ℕ → Step → List Check
+stepChecks c s x =
+    check (Valid c) 5 0 ∷ check (Names (c .n) x) 7 1 ∷ check (Out (stated c s) (x .bus)) 8 1
+    ∷ check (Holds (gridOf c) (stated c s) (x .bus) (x .reason)) 9 1 ∷ []
+
+-- the step is allowed
+abbrev pub StepReply : Case → ℕ → Step → Tested → Type 0
+StepReply c s x tested.Allowed = Passed (stepChecks c s x)
+StepReply c s x (tested.Refused r) = Failed (stepChecks c s x) r

@@ -1,0 +1,75 @@
+// The calls on a case, and on a stated set of observed buses: the observed set, a firing figure, the test of one step.
+ghost use Rattle.observe_calls.specs.Replies.{ObservedReply, FigureReply, StepReply};
+use busset::BusSet;
+use grid::Case;
+use refusals::Refusal;
+use step::Step;
+
+pub enum Observed {
+    Set(BusSet),
+    Refused(Refusal),
+}
+
+pub enum Figured {
+    Figure(i32),
+    Refused(Refusal),
+}
+
+pub enum Tested {
+    Allowed,
+    Refused(Refusal),
+}
+
+// The observed set of the case.
+pub fn observed_set(case: Case) -> Observed
+    ensures { λ r. ⌜ ObservedReply case r ⌝ }
+{
+    if !grid::validity::is_valid(case) {
+        return Observed::Refused(Refusal::InvalidCase);
+    }
+    let nbr = case.nbr;
+    Observed::Set(observe::sweeps::observed(&nbr, case.zero, case.units))
+}
+
+// The firing figure of bus i towards its neighbour j, where the buses of s are observed.
+pub fn firing_figure(case: Case, s: BusSet, i: usize, j: usize) -> Figured
+    ensures { λ r. ⌜ FigureReply case s i j r ⌝ }
+{
+    let n = case.n;
+    if !grid::validity::is_valid(case) {
+        return Figured::Refused(Refusal::InvalidCase);
+    }
+    if !busset::is_bus(n, i) {
+        return Figured::Refused(Refusal::NoSuchBus(0));
+    }
+    if !busset::is_bus(n, j) {
+        return Figured::Refused(Refusal::NoSuchBus(0));
+    }
+    let nbr = case.nbr;
+    if !busset::has(grid::row(&nbr, i), j) {
+        return Figured::Refused(Refusal::NotJoined);
+    }
+    Figured::Figure(figures::figure_of(&nbr, busset::up_to(s, n), i, j))
+}
+
+// Whether the step is allowed where the buses of s are observed.
+pub fn test_step(case: Case, s: BusSet, x: Step) -> Tested
+    ensures { λ r. ⌜ StepReply case s x r ⌝ }
+{
+    let n = case.n;
+    let b = x.bus;
+    if !grid::validity::is_valid(case) {
+        return Tested::Refused(Refusal::InvalidCase);
+    }
+    if !testing::names(n, x) {
+        return Tested::Refused(Refusal::NoSuchBus(1));
+    }
+    let stated = busset::up_to(s, n);
+    if busset::has(stated, b) {
+        return Tested::Refused(Refusal::AlreadyObserved(1));
+    }
+    if !testing::holds(case, stated, x) {
+        return Tested::Refused(Refusal::ReasonFails(1));
+    }
+    Tested::Allowed
+}

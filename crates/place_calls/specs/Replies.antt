@@ -1,0 +1,62 @@
+-- What the siting group's calls promise: what each checks, in order, and what it answers where every check passes.
+use mathlib.Core.Path.{_≡_}
+use mathlib.Core.List.{List, [], _∷_, _++_}
+use Prim.Native.Nat.{ℕ, _≤_}
+use lib.ListN.{length, drop}
+use Rattle.busset.specs.Sets.{setOf}
+use Rattle.rules.specs.Confirming.{UnconfirmedSet}
+use Rattle.rules.specs.Placing as placing
+use Rattle.rules.specs.Choosing as choosing
+use Rattle.grid.specs.declared.Case.{Case}
+use Rattle.grid.specs.Cases.{gridOf, Valid}
+use Rattle.refusals.specs.Refusals.{Check, check, Passed, Failed}
+use Rattle.place_calls.specs.declared.Verdict.{Verdict}
+use Rattle.place_calls.specs.declared.Verdict.the-variants as verdict
+use Rattle.place_calls.specs.declared.Greedy.{Greedy}
+use Rattle.place_calls.specs.declared.Greedy.the-variants as greedy
+use Rattle.place_calls.specs.declared.Fewest.{Fewest}
+use Rattle.place_calls.specs.declared.Fewest.the-variants as fewest
+
+-- ---- cross-validation
+
+-- the case is valid, or 5
+abbrev pub verdictChecks : Case → List Check
+verdictChecks c = check (Valid c) 5 0 ∷ []
+
+-- the set of units that no other unit confirms
+abbrev pub VerdictReply : Case → Verdict → Type 0
+VerdictReply c (verdict.Unconfirmed s) = Passed (verdictChecks c) × UnconfirmedSet (gridOf c .nbr) (gridOf c .units) (setOf s)
+VerdictReply c (verdict.Refused r) = Failed (verdictChecks c) r
+
+-- ---- greedy, into the room lent
+
+-- what greedy adds within the budget has room
+abbrev pub HasRoom : Case → ℕ → List ℕ → Type 0
+HasRoom c budget room = (xs : List ℕ) → choosing.Greedy (gridOf c) budget xs → length xs ≤ length room
+
+-- 5; the budget is at most 64, or 10; the answer has room, or 6
+abbrev pub greedyChecks : Case → ℕ → List ℕ → List Check
+greedyChecks c budget room = check (Valid c) 5 0 ∷ check (budget ≤ 64) 10 0 ∷ check (HasRoom c budget room) 6 0 ∷ []
+
+-- k sites are added: they stand first in the room, in the order added, and the rest of it stays
+pub record GreedyWritten (c : Case) (budget : ℕ) (entry exit : List ℕ) (k : ℕ) : Type 0 where
+  pub list : List ℕ
+  pub greedy : choosing.Greedy (gridOf c) budget list
+  pub count : k ≡ length list
+  pub written : exit ≡ list ++ drop k entry
+
+-- the sites added; a refusal leaves all of the room as it was
+abbrev pub GreedyReply : Case → ℕ → List ℕ → List ℕ → Greedy → Type 0
+GreedyReply c budget entry exit (greedy.Added k) = Passed (greedyChecks c budget entry) × GreedyWritten c budget entry exit k
+GreedyReply c budget entry exit (greedy.Refused r) = Failed (greedyChecks c budget entry) r × (exit ≡ entry)
+
+-- ---- the fewest
+
+-- 5; the budget is at most 8, or 10; some addition within it covers, or 11
+abbrev pub fewestChecks : Case → ℕ → List Check
+fewestChecks c budget = check (Valid c) 5 0 ∷ check (budget ≤ 8) 10 0 ∷ check (placing.SomePlan (gridOf c) budget) 11 0 ∷ []
+
+-- the set of the sites of the first of the smallest additions that cover
+abbrev pub FewestReply : Case → ℕ → Fewest → Type 0
+FewestReply c budget (fewest.Sites m) = Passed (fewestChecks c budget) × placing.Fewest (gridOf c) budget (setOf m)
+FewestReply c budget (fewest.Refused r) = Failed (fewestChecks c budget) r

@@ -1,0 +1,35 @@
+use Rattle.busset.specs.Sets.{Bus}
+use Rattle.busset.proofs.Words.{set-bus}
+use Rattle.place_confirm.proofs.Sharing.{unconfirmed-test}
+use borrow.Author.Needs.{needs}
+use Rattle.place_confirm.proofs.is_unconfirmed.Statement.{statement}
+use Rattle.place_confirm.proofs.is_unconfirmed.Tie as tie
+
+bus : (c : tie.Start) → Bus 64 (c .args .p)
+bus c = set-bus 64 (c .args .p) (search needs) (c .pre .1)
+
+row-requires : tie.Need-row-requires
+row-requires c κs = bus c
+
+start-requires : tie.Need-start-requires
+start-requires c κs = search needs
+
+without-requires : tie.Need-without-requires
+without-requires c κs = bus (c .before .before)
+
+both-requires : tie.Need-both-requires
+both-requires c κs = search needs
+
+is-none-requires : tie.Need-is-none-requires
+is-none-requires c κs = search needs
+
+returns : tie.Need-returns
+returns c =
+    let near = c .before .before .before in
+    let start = near .before .before in
+    unconfirmed-test (start .pre .0) (start .pre .1) (near .before .row .ensures) (near .start .ensures) (c .before .before .without .ensures) (c .before .both .ensures) (c .is-none .ensures)
+
+pub is-unconfirmed-spec : {M : Type 1} → statement M
+is-unconfirmed-spec =
+    tie.close
+    (tie.spec row-requires start-requires without-requires both-requires is-none-requires returns)

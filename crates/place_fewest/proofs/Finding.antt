@@ -1,0 +1,27 @@
+-- One turn of the search: what the call with the lowest site x, and the sites above it, says of all the sites.
+use mathlib.Core.Path.{_≡_, subst, subst⁻¹}
+use Prim.Native.Nat.{ℕ, _-_, _<_}
+use Rattle.busset.specs.Sets.{Lowest, With, Without, add, setOf}
+use Rattle.busset.proofs.Members.{with-add}
+use Rattle.rules.specs.Grids.{Grid}
+use Rattle.rules.specs.Observation.{Least}
+use Rattle.rules.specs.Placing.{at}
+use Rattle.rules.specs.Ways.{FirstWay}
+use Rattle.rules.proofs.Searching.{Passed, first-take, passed-lowest}
+use Rattle.place_fewest.specs.declared.Found.{Found}
+use Rattle.place_fewest.specs.declared.Found.the-variants.{Sites, Nothing}
+use Rattle.place_light.specs.Spreads.{Lit}
+use Rattle.place_fewest.specs.Answers.{FoundIs}
+use Rattle.place_light.proofs.Lighting.{lit-least}
+
+module _ (g : Grid) {n sites x rest k s t : ℕ} (some : 0 < k) (low : Lowest n sites x) (w : Without sites x rest)
+    (l : Least g s) (lit : Lit (g .nbr) (g .zero) s x t)
+    (r : Found) (f : Least (at g (add (g .units) x)) t → FoundIs (at g (add (g .units) x)) rest (k - 1) r) where
+  found : (r′ : Found) → r ≡ r′ → FoundIs (at g (add (g .units) x)) rest (k - 1) r′
+  found r′ q = subst (FoundIs (at g (add (g .units) x)) rest (k - 1)) q (f (lit-least l lit))
+
+  pub found-take : (m : ℕ) {more : ℕ} → r ≡ Sites m → With (setOf m) x more → FirstWay g sites k more
+  found-take m q more = subst⁻¹ (FirstWay g sites k) (with-add more) (first-take low w some (found (Sites m) q))
+
+  pub found-pass : r ≡ Nothing → Passed g sites k rest
+  found-pass q = passed-lowest low w some (found Nothing q)

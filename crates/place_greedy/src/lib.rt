@@ -1,0 +1,72 @@
+// Greedy placement: the best site, one after another.
+ghost use Prim.Native.Nat.{ℕ, _≤_};
+ghost use mathlib.Core.Path.{_≡_};
+ghost use mathlib.Core.List.{_++_};
+ghost use lib.ListN.{length, take, drop};
+ghost use Rattle.busset.specs.Sets.{Minus, setOf};
+ghost use Rattle.rules.specs.Observation.{Least};
+ghost use Rattle.rules.specs.Ways.{Whatever};
+ghost use Rattle.grid.specs.Cases.{neighbours, gridWith};
+ghost use Rattle.place_greedy.specs.Choices.{ChosenIs, Listed};
+use busset::BusSet;
+
+// Sites in the order added: the first `count` of `sites`.
+pub struct Order {
+    pub count: usize,
+    pub sites: [usize; 64],
+}
+
+// The free site that makes the observed set largest where s is observed, the lowest number on a tie; 0 where none adds a bus.
+pub fn best(nbr: &[BusSet; 64], zero: BusSet, s: BusSet, free: BusSet) -> usize
+    ensures { λ r. ⌜ ((n : ℕ) → Whatever n (neighbours (now (nbr .entry))) (setOf zero) (λ g. Minus (g .site) (g .units) (setOf free) → Least g (setOf s) → ChosenIs g r)) ⌝ }
+{
+    let mut site: usize = 0;
+    let mut most = busset::count(s);
+    let mut left = free;
+    while !busset::is_none(left) {
+        let x = busset::lowest(left);
+        let size = busset::count(place_light::lit(nbr, zero, s, x));
+        if most < size {
+            site = x;
+            most = size;
+        }
+        left = busset::without(left, x);
+    }
+    site
+}
+
+// The sites that greedy adds within the budget.
+pub fn greedy(nbr: &[BusSet; 64], zero: BusSet, site: BusSet, units: BusSet, budget: usize) -> Order
+    requires { ⌜ budget ≤ 64 ⌝ }
+    ensures { λ r. ⌜ ((n : ℕ) → Listed (gridWith n (now (nbr .entry)) zero site units) budget (r .count) (r .sites)) ⌝ }
+{
+    let mut placed = units;
+    let mut s = observe::sweeps::observed(nbr, zero, units);
+    let mut sites: [usize; 64] = [0; 64];
+    let mut count: usize = 0;
+    while count < budget {
+        let x = best(nbr, zero, s, busset::minus(site, placed));
+        if x == 0 {
+            return Order { count, sites };
+        }
+        sites[count] = x;
+        placed = busset::with(placed, x);
+        s = place_light::lit(nbr, zero, s, x);
+        count += 1;
+    }
+    Order { count, sites }
+}
+
+// Writes the sites, in order, into the room lent; what lies past them stays.
+pub fn write(order: Order, out: &mut [usize])
+    requires { ⌜ (length (order .sites) ≡ 64) × (order .count ≤ 64) × (order .count ≤ length (now out)) ⌝ }
+    ensures { λ _. ⌜ now (out .exit) ≡ take (order .count) (order .sites) ++ drop (order .count) (now (out .entry)) ⌝ }
+{
+    let sites = order.sites;
+    let count = order.count;
+    let mut i: usize = 0;
+    while i < count {
+        out[i] = sites[i];
+        i += 1;
+    }
+}

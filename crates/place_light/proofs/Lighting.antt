@@ -1,0 +1,97 @@
+-- Spreading, sweep after sweep, and what the sets so made are for a grid.
+use mathlib.Core.Path.{_≡_, ap, subst⁻¹}
+use mathlib.Core.Bool.{Bool}
+use Prim.Native.Nat.{ℕ, _≤_}
+use native.Mathlib.Omega.{arith}
+use native.Mathlib.Nat.{le-refl}
+use Rattle.busset.specs.Deciding.{Decides}
+use Rattle.busset.specs.Sets.{bit, In, Sub, All, Union, With, add}
+use Rattle.busset.proofs.Tests.{decides-by}
+use Rattle.busset.proofs.Members.{sub-of, add-of, add-sub, add-here, add-grows, with-add}
+use Rattle.rules.specs.Grids.{Grid}
+use Rattle.rules.specs.Observation.{Closed, Least}
+use Rattle.rules.specs.Placing.{at, Full}
+use Rattle.rules.specs.Blocking.{Idle}
+use Rattle.rules.proofs.Covering.{closed-fewer}
+use Rattle.observe.specs.Passes.{Started, AllFired, Swept}
+use Rattle.place_light.specs.Spreads.{Spread, Lit, LitAll}
+
+-- ---- all buses
+
+pub full-test : (n s : ℕ) {a : ℕ} {r : Bool} → All n a → Decides (Sub a s) r → Decides (Full n s) r
+full-test n s {a} al d =
+    decides-by (λ sub b bus. omega (arith, sub b, al .has b bus)) (λ full. sub-of a s (λ b h. full b (al .only b h))) d
+
+-- ---- sweep after sweep
+
+-- t holds s, and no more than the rules give
+pub record Spreading (nbr : ℕ → ℕ) (zeros s t : ℕ) : Type 0 where
+  pub grows : Sub s t
+  pub sound : (v : ℕ) → Sub s v → AllFired nbr zeros v → Sub t v
+
+pub spreading-none : (nbr : ℕ → ℕ) (zeros s : ℕ) → Spreading nbr zeros s s
+spreading-none nbr zeros s = record { grows = λ b. le-refl (bit s b); sound = λ v sub full. sub }
+
+pub spreading-more : {nbr : ℕ → ℕ} {zeros s t r : ℕ} → Spreading nbr zeros s t → Swept nbr zeros t r → Spreading nbr zeros s r
+spreading-more p sw = record { grows = λ b. omega (arith, p .grows b, sw .grows b); sound = λ v sub full. sw .sound v (p .sound v sub full) full }
+
+pub spreading-all : {nbr : ℕ → ℕ} {zeros s t r : ℕ} → Spreading nbr zeros s t → Swept nbr zeros t r → r ≡ t → Spread nbr zeros s t
+spreading-all p sw e = record { grows = p .grows; fired = sw .settled e; least = p .sound }
+
+-- ---- a unit at x
+
+pub lit-by : {nbr : ℕ → ℕ} {zeros s x m here t r : ℕ} → m ≡ nbr x → With m x here → Union s here t → Spread nbr zeros t r → Lit nbr zeros s x r
+lit-by {nbr} {zeros} {s} {x} {m} {here} {t} {r} e w j sp = record {
+  grows = λ b. omega (arith, j .at b, sp .grows b);
+  own = omega (arith, w .here, j .at x, sp .grows x);
+  near = λ b. omega (arith, next b, j .at b, sp .grows b);
+  fired = sp .fired;
+  least = λ v sub own near full. sp .least v (λ b. omega (arith, j .at b, sub b, held v own near b)) full;
+}
+  where
+    next : (b : ℕ) → bit (nbr x) b ≤ bit here b
+    next b = omega (arith, ap (λ (y : ℕ). bit y b) e, add-grows m x b, ap (λ (y : ℕ). bit y b) (with-add w))
+
+    held : (v : ℕ) → In v x → Sub (nbr x) v → Sub here v
+    held v own near =
+        subst⁻¹ (λ (y : ℕ). Sub y v) (with-add w) (add-sub m v x (λ b. omega (arith, near b, ap (λ (y : ℕ). bit y b) e)) own)
+
+-- where s is observed, what is lit is observed with the new unit
+pub lit-least : {g : Grid} {s x r : ℕ} → Least g s → Lit (g .nbr) (g .zero) s x r → Least (at g (add (g .units) x)) r
+lit-least {g} {s} {x} {r} l li = record {
+  closed = record { o1 = record { own = λ b h. both b h .own; near = λ b h. both b h .near }; o2 = li .fired };
+  least = λ t cl. li .least t (l .least t (closed-fewer g (add-grows (g .units) x) cl))
+      (cl .o1 .own x (add-here (g .units) x)) (cl .o1 .near x (add-here (g .units) x)) (cl .o2);
+}
+  where
+    both : (b : ℕ) → In (add (g .units) x) b → Idle (g .nbr) r b
+    both = add-of {P = Idle (g .nbr) r} (g .units) x (record { own = li .own; near = li .near })
+        (λ b h. record { own = omega (arith, l .closed .o1 .own b h, li .grows b); near = λ a. omega (arith, l .closed .o1 .near b h a, li .grows a) })
+
+-- a set that satisfies the rules, and in which a unit at y is idle, holds what is lit from y: where that holds what is lit from x, x is idle in it too
+pub lit-gives : {g : Grid} {s x y a b : ℕ} → Least g s → Lit (g .nbr) (g .zero) s x a → Lit (g .nbr) (g .zero) s y b → Sub a b
+    → (t : ℕ) → Closed g t → Idle (g .nbr) t y → Idle (g .nbr) t x
+lit-gives {g} {s} {x} {y} {a} {b} l lx ly sub t cl i = record { own = omega (arith, holds x, lx .own); near = λ c. omega (arith, holds c, lx .near c) }
+  where
+    holds : Sub a t
+    holds c = omega (arith, sub c, ly .least t (l .least t cl) (i .own) (i .near) (cl .o2) c)
+
+-- ---- units at the buses u
+
+pub lit-all-by : {nbr : ℕ → ℕ} {zeros s u v t r : ℕ} → Started nbr u v → Union s v t → Spread nbr zeros t r → LitAll nbr zeros s u r
+lit-all-by {nbr} {zeros} {s} {u} {v} {t} {r} st j sp = record {
+  grows = λ b. omega (arith, j .at b, sp .grows b);
+  own = λ b. omega (arith, st .own b, j .at b, sp .grows b);
+  near = λ b h a. omega (arith, st .near b h a, j .at a, sp .grows a);
+  fired = sp .fired;
+}
+
+-- what is lit satisfies the rules for the units that are there
+pub lit-all-closed : {g : Grid} {s u r : ℕ} → Closed g s → LitAll (g .nbr) (g .zero) s u r → Closed g r
+lit-all-closed {g} {s} {u} {r} cl l = record {
+  o1 = record {
+    own = λ b h. omega (arith, cl .o1 .own b h, l .grows b);
+    near = λ b h a. omega (arith, cl .o1 .near b h a, l .grows a);
+  };
+  o2 = l .fired;
+}

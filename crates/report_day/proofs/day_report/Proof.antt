@@ -1,0 +1,46 @@
+use Rattle.report_lines.proofs.Printed.{printed-by}
+use Rattle.report_day.proofs.Reports.{read-good, read-bad, day-by}
+use borrow.Author.Needs.{needs}
+use Rattle.report_day.proofs.day_report.Statement.{statement}
+use Rattle.report_day.proofs.day_report.Tie as tie
+
+read-case-requires : tie.Need-read-case-requires
+read-case-requires c κs = search needs
+
+enum-told : tie.Need-enum-told
+enum-told c = search needs
+
+report-requires : tie.Need-report-requires
+report-requires c κs = search read-good
+
+enum-known-answer : tie.Need-enum-known-answer
+enum-known-answer c = search needs
+
+print-refused-requires : tie.Need-print-refused-requires
+print-refused-requires c κs = search read-bad
+
+same-length : tie.Need-same-length
+same-length c = search needs
+
+returns : tie.Need-returns
+returns c = search (printed-by, day-by)
+
+same-length-2 : tie.Need-same-length-2
+same-length-2 c = search needs
+
+returns-2 : tie.Need-returns-2
+returns-2 c = search (printed-by, day-by)
+
+pub day-report-spec : {M : Type 1} → statement M
+day-report-spec =
+    tie.close
+    (tie.spec
+    read-case-requires
+    enum-told
+    report-requires
+    enum-known-answer
+    print-refused-requires
+    same-length
+    returns
+    same-length-2
+    returns-2)

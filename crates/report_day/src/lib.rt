@@ -1,0 +1,57 @@
+// The day report of a case text.
+ghost use Prim.Native.Nat.{_≤_};
+ghost use Rattle.busset.specs.Sets.{width};
+ghost use Rattle.grid.specs.Cases.{Valid};
+ghost use Rattle.list_value.specs.Lists.{listed};
+ghost use Rattle.report_lines.specs.Printing.{PrintedReply};
+ghost use Rattle.report_day.specs.Day.{IsDay, DayReport, Day};
+ghost use Rattle.report_day.specs.Listing.{Named};
+
+pub mod lines;
+
+use case_read::ReadAnswer;
+use grid::Case;
+use lines::put_day;
+use list_value::StepList;
+use refusals::Refusal;
+use text_put::Written;
+
+// The report of these steps, in the bytes lent.
+fn print_day(out: &mut [u8], n: usize, list: StepList, alone: usize) -> Written
+    requires { ⌜ (n ≤ width) × Named list × (alone ≤ width) ⌝ }
+    ensures { λ r. ⌜ PrintedReply (IsDay (list .n) n (listed list) alone) (now (out .entry)) (now (out .exit)) r ⌝ }
+{
+    let mut none: [u8; 1] = [0];
+    if out.len() < put_day(&mut none, n, list, alone) {
+        return Written::Refused(Refusal::NoRoom);
+    }
+    let k = put_day(out, n, list, alone);
+    Written::Bytes(k)
+}
+
+// The report of a case, in the bytes lent.
+fn report(case: Case, out: &mut [u8]) -> Written
+    requires { ⌜ Valid case ⌝ }
+    ensures { λ r. ⌜ PrintedReply (DayReport case) (now (out .entry)) (now (out .exit)) r ⌝ }
+{
+    let n = case.n;
+    let nbr = case.nbr;
+    let list = list_derive::derive(case);
+    let alone = place_confirm::unconfirmed(n, &nbr, case.units);
+    print_day(out, n, list, busset::count(alone))
+}
+
+// The report of the case that the text says, or the line of its refusal, in the bytes lent.
+pub fn day_report(text: &[u8], out: &mut [u8]) -> Written
+    ensures { λ r. ⌜ PrintedReply (Day (now (text .entry))) (now (out .entry)) (now (out .exit)) r ⌝ }
+{
+    let read = case_read::read_case(text);
+    let answer = read.answer;
+    match answer {
+        ReadAnswer::Read => {
+            let case = read.case;
+            report(case, out)
+        }
+        ReadAnswer::Refused(q) => report_lines::print_refused(out, q),
+    }
+}

@@ -1,0 +1,34 @@
+// Lines that the programs print: of a refusal here, which both do, and of a step in `steps`.
+ghost use Prim.Native.Nat.{_<_, _^_};
+ghost use Rattle.refusals.specs.Refusals.{placeOf};
+ghost use Rattle.text_put.specs.Put.{Put};
+ghost use Rattle.report_lines.specs.Printing.{refusedText, RefusedText, PrintedReply};
+
+pub mod steps;
+
+use refusals::Refusal;
+use text_put::Written;
+
+// `refused number place`.
+pub fn put_refused(out: &mut [u8], at: usize, q: Refusal) -> usize
+    requires { ⌜ (at < 2 ^ 29) × (placeOf q < 10000) ⌝ }
+    ensures { λ k. ⌜ Put (now (out .entry)) at (refusedText q) (now (out .exit)) k ⌝ }
+{
+    let number = refusals::number(q) as usize;
+    let place = refusals::place(q);
+    text_put::put_pair(out, at, b"refused\t", number, b"\t", place)
+}
+
+// The same, in the bytes lent.
+pub fn print_refused(out: &mut [u8], q: Refusal) -> Written
+    requires { ⌜ placeOf q < 10000 ⌝ }
+    ensures { λ r. ⌜ PrintedReply (RefusedText q) (now (out .entry)) (now (out .exit)) r ⌝ }
+{
+    let mut none: [u8; 1] = [0];
+    let counted: &mut [u8] = &mut none;
+    if out.len() < put_refused(counted, 0, q) {
+        return Written::Refused(Refusal::NoRoom);
+    }
+    let k = put_refused(out, 0, q);
+    Written::Bytes(k)
+}

@@ -1,0 +1,66 @@
+// A step text replayed straight from the text: no list is stored.
+ghost use mathlib.Core.Path.{_≡_};
+ghost use lib.ListN.{length};
+ghost use Rattle.step_text.specs.Steps.{stepsOf};
+ghost use Rattle.step_replay.specs.Replying.{Followed, TextReplayReply};
+use busset::BusSet;
+use ending::Replayed;
+use ending::ended;
+use grid::Case;
+use list_follow::Following;
+use list_follow::Standing;
+use list_follow::Task;
+use list_follow::apply;
+use list_follow::begin;
+use refusals::Refusal;
+use step_text::StepsRead;
+use step_text::check_steps;
+use taking::NextStep;
+use taking::step_at;
+
+// The set reached and whether the list is finished; a refusal of the list; a refusal in reading its text.
+pub enum TextReplayed {
+    Reached(BusSet, bool),
+    Refused(Refusal),
+    Unread(Refusal),
+}
+
+// The n steps of a text, followed one after another up to the first bad one.
+fn follow_text(case: Case, text: &[u8], n: usize) -> Following
+    requires { ⌜ length (stepsOf (now text)) ≡ n ⌝ }
+    ensures { λ r. ⌜ Followed case (stepsOf (now (text .entry))) r ⌝ }
+{
+    let mut st = begin(case, Task::Replay, n);
+    let mut at: usize = 0;
+    loop {
+        let standing = st.standing;
+        let Standing::Good = standing else {
+            return st;
+        };
+        match step_at(text, at) {
+            NextStep::At(x, e) => {
+                st = apply(case, st, x);
+                at = e;
+            }
+            NextStep::Nothing => {
+                return st;
+            }
+        }
+    }
+}
+
+// The whole text is read before its first step is tried.
+pub fn replay_text(case: Case, text: &[u8]) -> TextReplayed
+    ensures { λ r. ⌜ TextReplayReply case (now (text .entry)) r ⌝ }
+{
+    match check_steps(text) {
+        StepsRead::Steps(n) => {
+            let st = follow_text(case, text, n);
+            match ended(case, st) {
+                Replayed::Reached(s, finished) => TextReplayed::Reached(s, finished),
+                Replayed::Refused(q) => TextReplayed::Refused(q),
+            }
+        }
+        StepsRead::Refused(q) => TextReplayed::Unread(q),
+    }
+}

@@ -1,0 +1,81 @@
+-- The tables of cross-validation: sets of unconfirmed units are computed.
+use mathlib.Core.Path.{_≡_, refl}
+use mathlib.Core.List.{[], _∷_}
+use Prim.Native.Nat.{ℕ, _+_}
+use native.Mathlib.Omega.{arith}
+use lib.Count.{ones, onesIn}
+use Rattle.busset.specs.Sets.{bit, meet, upTo, size, setOf}
+use Rattle.busset.proofs.Members.{meet-at}
+use Rattle.busset.proofs.Sizes.{size-some}
+use Rattle.busset.proofs.Words.{set-bus}
+use Rattle.rules.specs.Grids.{total}
+use Rattle.rules.specs.Confirming.{Confirm, joined, share, UnconfirmedSet}
+use Rattle.rules.proofs.Choices.{unconfirmed-unique}
+use Rattle.rules.proofs.Tests.{gap, given}
+use Rattle.rules.proofs.Sought.{confirmTest, aloneTest, unconfirmedTest, unconfirmed-passes}
+use Rattle.grid.specs.Cases.{neighbours}
+use Rattle.grid.proofs.Drawn.{withinTest, rowTest, validTest, valid-passes}
+use Rattle.starred.specs.Table.{Drawing, wordOf, caseOf, seven}
+use Rattle.tables.proofs.Rows.{_&_}
+use Rattle.tables.specs.Tables.{AllRight}
+use Rattle.tables.specs.Drawings.{set, grid, sevenGrid, apart}
+use Rattle.tables.specs.Confirming as tables
+
+-- buses that are not joined and share no neighbour
+strangers : (nbr : ℕ → ℕ) (a b : ℕ) → bit (nbr a) b + size (meet (nbr a) (nbr b)) ≡ 0 → Confirm nbr a b → ⊥
+strangers nbr a b e (joined j) = omega arith
+strangers nbr a b e (share c j k) = omega (arith, size-some (meet (nbr a) (nbr b)) c (let m = meet-at (nbr a) (nbr b) c in omega arith))
+
+pub confirm-right : AllRight tables.confirm
+unfolding meet neighbours setOf ones onesIn
+confirm-right =
+    joined refl
+    & joined refl
+    & share 3 refl refl
+    & share 4 refl refl
+    & strangers (sevenGrid [] .nbr) 1 4 refl
+    & strangers (sevenGrid [] .nbr) 1 6 refl
+    & strangers (grid (apart []) .nbr) 1 3 refl
+    & tt
+
+-- the units of a drawing that no other unit confirms
+alone : (d : Drawing) (s : ℕ) → validTest (caseOf d) ≡ 0 → withinTest (d .n) s ≡ 0 → unconfirmedTest (grid d) (setOf s) ≡ 0 → UnconfirmedSet (grid d .nbr) (grid d .units) (setOf s)
+unfolding withinTest
+alone d s v w e = unconfirmed-passes (grid d) (valid-passes (caseOf d) v .proper) (setOf s) (λ b h. set-bus (d .n) b (omega arith) h) e
+
+-- no units, and a unit alone
+pub nobody : UnconfirmedSet (sevenGrid [] .nbr) (set []) (set [])
+unfolding validTest withinTest rowTest unconfirmedTest aloneTest confirmTest gap given total meet upTo neighbours setOf ones onesIn
+nobody = alone (seven []) (wordOf []) refl refl refl
+
+pub itself : UnconfirmedSet (sevenGrid [] .nbr) (set (3 ∷ [])) (set (3 ∷ []))
+unfolding validTest withinTest rowTest unconfirmedTest aloneTest confirmTest gap given total meet upTo neighbours setOf ones onesIn
+itself = alone (seven (3 ∷ [])) (wordOf (3 ∷ [])) refl refl refl
+
+pub unconfirmed-right : AllRight tables.unconfirmed
+unfolding neighbours setOf
+unconfirmed-right =
+    itself .only 3 refl
+    & (λ h. h .none 4 refl (λ e. omega arith) (joined refl))
+    & (λ h. omega (arith, h .unit))
+    & tt
+
+pub sets-right : AllRight tables.sets
+unfolding validTest withinTest rowTest unconfirmedTest aloneTest confirmTest gap given total meet upTo neighbours setOf ones onesIn
+sets-right =
+    nobody
+    & itself
+    & joined34
+    & alone (seven (2 ∷ 4 ∷ [])) (wordOf []) refl refl refl
+    & apart14
+    & alone (apart (1 ∷ 2 ∷ 3 ∷ [])) (wordOf (3 ∷ [])) refl refl refl
+    & (λ h. omega (arith, unconfirmed-unique _ _ itself h))
+    & (λ h. omega (arith, unconfirmed-unique _ _ apart14 h))
+    & (λ h. omega (arith, unconfirmed-unique _ _ joined34 h))
+    & tt
+  where
+    joined34 : UnconfirmedSet (sevenGrid [] .nbr) (set (3 ∷ 4 ∷ [])) (set [])
+    joined34 = alone (seven (3 ∷ 4 ∷ [])) (wordOf []) refl refl refl
+
+    apart14 : UnconfirmedSet (sevenGrid [] .nbr) (set (1 ∷ 4 ∷ [])) (set (1 ∷ 4 ∷ []))
+    apart14 = alone (seven (1 ∷ 4 ∷ [])) (wordOf (1 ∷ 4 ∷ [])) refl refl refl

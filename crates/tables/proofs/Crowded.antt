@@ -1,0 +1,53 @@
+-- Case values with 256 and 257 lines: digits are counted as deep as the bus is high.
+use mathlib.Core.Path.{_≡_, refl, ap, ap₂, _∙_}
+use Prim.Native.Nat.{ℕ, zero, suc, _+_, _^_, _%_, _/_, _<_}
+use native.Mathlib.Nat.{mod-lt}
+use native.Mathlib.Omega.{arith}
+use lib.Pow.{pow-pos}
+use lib.Count.{onesIn, ones-step}
+use Rattle.busset.specs.Sets.{upTo, size, setOf}
+use Rattle.busset.proofs.Digits.{half-lt}
+use Rattle.busset.proofs.Sizes.{size-empty}
+use Rattle.rules.specs.Grids.{total, lineCount}
+use Rattle.rules.proofs.Tests.{gap}
+use Rattle.grid.specs.Cases.{mostBuses, neighbours}
+use Rattle.grid.proofs.Drawn.{withinTest, rowTest, validTest, valid-passes}
+use Rattle.tables.proofs.Rows.{_&_}
+use Rattle.tables.specs.Tables.{AllRight}
+use Rattle.tables.specs.Grids.{crowd, most}
+
+-- a number below 2 ^ k has its ones among the lowest k digits
+pub ones-in : (k n : ℕ) → n < 2 ^ k → size n ≡ onesIn k n
+unfolding onesIn
+ones-in zero n l = ap size (let e : n ≡ 0 = omega arith in e) ∙ size-empty
+ones-in (suc k) n l = ones-step n ∙ ap (λ (x : ℕ). n % 2 + x) (ones-in k (n / 2) (half-lt k l))
+
+total-same : (n : ℕ) (f g : ℕ → ℕ) → ((b : ℕ) → f b ≡ g b) → total n f ≡ total n g
+unfolding total
+total-same zero f g e = refl
+total-same (suc n) f g e = ap₂ _+_ (total-same n f g e) (e (suc n))
+
+-- how many lines there are, counted so
+counted : (n : ℕ) (nbr : ℕ → ℕ) → lineCount n nbr ≡ total n (λ b. onesIn (suc b) (upTo b (nbr b)))
+unfolding upTo
+counted n nbr = total-same n (λ b. size (upTo b (nbr b))) (λ b. onesIn (suc b) (upTo b (nbr b))) (λ b. ones-in (suc b) (upTo b (nbr b)) (mod-lt (nbr b) (pow-pos (suc b))))
+
+lines-3 : lineCount 24 (neighbours (crowd 3 .nbr)) ≡ 256
+unfolding total onesIn upTo neighbours setOf
+lines-3 = counted 24 (neighbours (crowd 3 .nbr)) ∙ refl
+
+lines-4 : lineCount 24 (neighbours (crowd 4 .nbr)) ≡ 257
+unfolding total onesIn upTo neighbours setOf
+lines-4 = counted 24 (neighbours (crowd 4 .nbr)) ∙ refl
+
+-- every other clause, computed
+rest-right : total mostBuses (rowTest 24 (neighbours (crowd 3 .nbr))) ≡ 0
+unfolding total rowTest neighbours setOf
+rest-right = refl
+
+pub most-right : AllRight most
+unfolding validTest withinTest gap
+most-right =
+    valid-passes (crowd 3) (omega (arith, rest-right, lines-3))
+    & (λ v. omega (arith, v .few, lines-4))
+    & tt

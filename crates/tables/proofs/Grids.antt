@@ -1,0 +1,119 @@
+-- The tables of grids and case values, and of refusals.
+use mathlib.Core.Path.{_≡_, refl, ap}
+use mathlib.Core.List.{List, [], _∷_}
+use mathlib.Core.Logic.{inl, inr}
+use Prim.Native.Nat.{_≤_}
+use native.Mathlib.Omega.{arith}
+use lib.Count.{ones, onesIn}
+use Rattle.busset.specs.Sets.{setOf, upTo}
+use Rattle.rules.specs.Grids.{total}
+use Rattle.rules.proofs.Tests.{gap}
+use Rattle.refusals.specs.declared.Refusal.{Refusal}
+use Rattle.refusals.specs.declared.Refusal.the-variants.{InvalidCase, OverBudget}
+use Rattle.grid.specs.Cases.{neighbours, Lines}
+use Rattle.refusals.specs.Refusals.{Check, check, Failed}
+use Rattle.refusals.proofs.Orders.{itself, failed-unique, failed-or-passed}
+use Rattle.grid.proofs.Drawn.{withinTest, rowTest, validTest, valid-passes}
+use Rattle.estimator_reply.specs.Results.{codeOf}
+use Rattle.starred.specs.Table.{caseOf, seven, path}
+use Rattle.tables.proofs.Rows.{_&_}
+use Rattle.tables.specs.Tables.{AllRight}
+use Rattle.tables.specs.Drawings.{value}
+use Rattle.tables.specs.Grids as grids
+use Rattle.tables.specs.Refusals as refusals
+
+-- ---- computed
+
+pub limits-right : grids.LimitsRight
+limits-right = refl
+
+pub neighbours-right : grids.NeighboursRight
+unfolding neighbours setOf
+neighbours-right = refl
+
+pub parts-right : grids.PartsRight
+unfolding neighbours setOf
+parts-right = refl
+
+pub sums-right : grids.SumsRight
+unfolding total upTo neighbours setOf ones onesIn
+sums-right = refl
+
+pub table-right : refusals.TableRight
+table-right = refl
+
+-- ---- which case values are valid
+
+pub valid-right : AllRight grids.valid
+unfolding validTest withinTest rowTest gap total upTo neighbours setOf ones onesIn
+valid-right =
+    valid-passes (caseOf (seven (3 ∷ []))) refl
+    & valid-passes (caseOf path) refl
+    & valid-passes (value 1 [] [] [] []) refl
+    & valid-passes (value 64 [] [] [] (64 ∷ [])) refl
+    & valid-passes (value 2 grids.pair (1 ∷ []) (1 ∷ 2 ∷ []) (2 ∷ [])) refl
+    & valid-passes (value 2 grids.pair [] [] (1 ∷ [])) refl
+    & (λ v. omega (arith, v .buses .some))
+    & (λ v. omega (arith, v .buses .most))
+    & (λ v. omega (arith, v .proper .lines 1 2 refl .back))
+    & (λ v. v .proper .lines 1 1 refl .differ refl)
+    & (λ v. omega (arith, v .proper .lines 1 3 refl .to .most))
+    & (λ v. omega (arith, v .proper .lines 3 4 refl .from .most))
+    & (λ v. omega (arith, v .proper .units 3 refl .most))
+    & (λ v. omega (arith, v .proper .zeros 3 refl .most))
+    & (λ v. omega (arith, v .proper .sites 3 refl .most))
+    & tt
+
+pub proper-right : AllRight grids.proper
+unfolding neighbours setOf
+proper-right =
+    valid-right .0 .proper
+    & (λ v. omega (arith, v .lines 1 2 refl .back))
+    & (λ v. omega (arith, v .units 3 refl .most))
+    & tt
+
+pub lines-right : AllRight grids.lines
+unfolding neighbours setOf validTest withinTest rowTest gap total upTo ones onesIn
+lines-right =
+    pair-lines 1 2 refl
+    & (λ l. omega (arith, l .back))
+    & (λ l. l .differ refl)
+    & (λ l. omega (arith, l .to .most))
+    & valid-passes (value 3 grids.far [] [] []) refl .proper .lines 1 3 refl
+    & pair-lines 1
+    & pair-lines 3
+    & (λ l. omega (arith, l 2 refl .back))
+    & pair-lines
+    & (λ l. omega (arith, l 1 3 refl .to .most))
+    & tt
+  where
+    pair-lines : Lines 2 (grids.near grids.pair)
+    pair-lines = valid-passes (value 2 grids.pair [] [] []) refl .proper .lines
+
+-- ---- checks
+
+-- no other refusal is given
+other : (qs : List Check) (r q : Refusal) → Failed qs r → (codeOf r ≡ codeOf q → ⊥) → Failed qs q → ⊥
+other qs r q f ne g = ne (ap codeOf (failed-unique qs r q f g))
+
+pub checked-right : AllRight refusals.checked
+checked-right =
+    itself _
+    & (λ h. omega (arith, h .numbered))
+    & (λ h. omega (arith, h .placed))
+    & tt
+    & (omega arith, (omega arith, tt))
+    & (λ h. omega (arith, h .1 .0))
+    & first
+    & other (check (3 ≤ 2) 5 0 ∷ check (3 ≤ 2) 10 0 ∷ []) InvalidCase (OverBudget 0) first (λ e. omega arith)
+    & second
+    & other (check (1 ≤ 2) 5 0 ∷ check (3 ≤ 2) 10 0 ∷ []) (OverBudget 0) (OverBudget 1) second (λ e. omega arith)
+    & (λ h. failed-or-passed (check (1 ≤ 2) 5 0 ∷ check (2 ≤ 2) 10 0 ∷ []) (OverBudget 0) h (omega arith, (omega arith, tt)))
+    & (λ h. h)
+    & tt
+  where
+    first : Failed (check (3 ≤ 2) 5 0 ∷ check (3 ≤ 2) 10 0 ∷ []) InvalidCase
+    first = inl ((λ h. omega arith), itself _)
+
+    second : Failed (check (1 ≤ 2) 5 0 ∷ check (3 ≤ 2) 10 0 ∷ []) (OverBudget 0)
+    second = inr (omega arith, inl ((λ h. omega arith), itself _))

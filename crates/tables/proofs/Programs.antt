@@ -1,0 +1,170 @@
+-- The tables from text to text: what is read is computed, and what is answered of the case is in the other tables.
+use mathlib.Core.Path.{_≡_, refl, ap}
+use mathlib.Core.Bool.{true}
+use mathlib.Core.List.{List, [], _∷_}
+use Prim.Native.Nat.{ℕ}
+use native.Mathlib.Omega.{arith}
+use lib.Count.{ones, onesIn}
+use lib.ListN.{length, getD}
+use Rattle.busset.specs.Sets.{add, setOf}
+use Rattle.busset.specs.Bytes.{byteOf}
+use Rattle.busset.specs.Held as held
+use Rattle.step.specs.Records.{noStep}
+use Rattle.step.specs.declared.Step.{Step}
+use Rattle.text_field.specs.Split.{split, join, same, bytes}
+use Rattle.text_field.specs.Number.{isDigit, takes, numberFrom, numberOf, digits}
+use Rattle.case_line.specs.Fields.{markOf, one, none}
+use Rattle.case_line.specs.Record.{wordOf, lineFields, busFields, recordOf, recordText}
+use Rattle.step_line.specs.StepLine.{letterOf, stepWordOf, reasonFields, stepFields, stepLineOf, stepText}
+use Rattle.rules.proofs.Ordering.{fewest-some}
+use Rattle.refusals.specs.declared.Refusal.the-variants.{WrongForm, OutOfRange, ReasonFails, OverBudget, NoCover}
+use Rattle.refusals.proofs.Orders.{itself}
+use Rattle.case_read.specs.Writing.{members, linesText}
+use Rattle.case_judge.specs.Judging.{isBus, isAfter, pastBuses, verdict}
+use Rattle.case_read.specs.Reading.{readLines, readText, readCase}
+use Rattle.report_lines.specs.Printing.{refusedText}
+use Rattle.report_day.specs.Day.{Day, stepsText}
+use Rattle.report_day.proofs.Days.{day-unique}
+use Rattle.step_text.specs.Steps.{stepInRange, stepLines, readSteps, stepsIn, stepsFrom}
+use Rattle.step_replay.specs.declared.TextReplayed.the-variants as replayed
+use Rattle.observe_calls.specs.declared.Observed.the-variants as observed
+use Rattle.place_calls.specs.declared.Verdict.the-variants as unconfirmed
+use Rattle.place_calls.specs.declared.Fewest.the-variants as fewest
+use Rattle.estimator.specs.Answers.{Said}
+use Rattle.estimator_reply.specs.Results.{resultOf, leftBy, Answered}
+use Rattle.estimator_reply.specs.declared.Answer.{Answer}
+use Rattle.estimator_reply.specs.declared.Answer.the-variants.{Set, Refused, Unread}
+use Rattle.report_plan.specs.Plan.{Plan, found, none as no-plan}
+use Rattle.plan_input.specs.Asking.{planFields, budgetOf, planLines, readPlan}
+use Rattle.report_plan.proofs.Unique.{plan-unique}
+use Rattle.tables.proofs.Rows.{_&_, _then_, stop}
+use Rattle.tables.proofs.Computed.{known}
+use Rattle.tables.proofs.Steps.{is-derivation, no-steps}
+use Rattle.tables.proofs.Confirming as confirming
+use Rattle.tables.proofs.Replies.{invalid, named12}
+use Rattle.tables.proofs.Replies as replies
+use Rattle.tables.proofs.Placing.{known-places}
+use Rattle.tables.specs.Tables.{AllRight, block}
+use Rattle.tables.specs.Drawings.{set}
+use Rattle.tables.specs.CaseTexts.{input, bareInput}
+use Rattle.tables.specs.Reports.{output}
+use Rattle.tables.specs.Steps.{derivation}
+use Rattle.tables.specs.Programs as tables
+
+-- ---- the two programs
+
+-- texts that differ at some byte are two
+other : (i : ℕ) (s t : List ℕ) → s ≡ t → (getD s i 0 ≡ getD t i 0 → ⊥) → ⊥
+other i s t e ne = ne (ap (λ (x : List ℕ). getD x i 0) e)
+
+pub days-right : AllRight tables.days
+unfolding readCase readText readLines verdict isBus isAfter pastBuses recordOf wordOf lineFields busFields markOf one none split same isDigit takes numberFrom numberOf held.hold held.wordOf add setOf stepsText stepText refusedText join digits ones onesIn
+days-right =
+    day
+    & day-none
+    & (λ h. other 16 _ _ (day-unique (block bareInput) _ _ day-none h) (λ e. omega arith))
+    & refl
+    & (λ h. other 8 _ _ h (λ e. omega arith))
+    & (λ h. other 0 _ _ (day-unique (block input) _ _ day h) (λ e. omega arith))
+    & tt
+  where
+    day : Day (block input) (block output)
+    day = record {
+      observed = set (1 ∷ 2 ∷ 3 ∷ 4 ∷ 7 ∷ []);
+      least = known .at3 .least;
+      steps = derivation;
+      derived = is-derivation;
+      unconfirmed = set (3 ∷ []);
+      verdict = confirming.itself;
+      is = refl;
+    }
+
+    day-none : Day (block bareInput) (bytes "observed\t0\t7\nxv\tyes\nend\n")
+    day-none = record {
+      observed = set [];
+      least = known .none .least;
+      steps = [];
+      derived = no-steps;
+      unconfirmed = set [];
+      verdict = confirming.nobody;
+      is = refl;
+    }
+
+pub plans-right : AllRight tables.plans
+unfolding readPlan planLines budgetOf planFields readCase readText readLines verdict isBus isAfter pastBuses recordOf wordOf lineFields busFields markOf one none split same isDigit takes numberFrom numberOf held.hold held.wordOf add setOf refusedText members linesText recordText join digits ones onesIn
+plans-right =
+    found (set (1 ∷ 4 ∷ [])) (omega arith, (fewest-some (known-places .fewest2), tt)) (known-places .fewest2) refl
+    & no-plan NoCover (omega arith then stop (known-places .fewest1) (itself _)) refl
+    & over
+    & (λ h. other 11 _ _ (plan-unique (block ("plan 9" ∷ bareInput)) _ _ over h) (λ e. omega arith))
+    & refl
+    & refl
+    & tt
+  where
+    over : Plan (block ("plan 9" ∷ bareInput)) (bytes "refused\t10\t1\n")
+    over = no-plan (OverBudget 1) (stop (λ h. omega arith) (itself _)) refl
+
+-- ---- step texts
+
+pub replays-right : AllRight tables.replays
+unfolding readSteps stepLines stepInRange stepsFrom stepsIn stepLineOf stepWordOf letterOf reasonFields stepFields one none split same isBus isDigit takes numberFrom numberOf
+replays-right =
+    replies.replays-right .0
+    & refl
+    & known .at3 .valid then omega arith then stop (λ h. omega (arith, h .bus .most)) (itself _)
+    & (λ h. h)
+    & refl
+    & refl
+    & stop invalid (itself _)
+    & tt
+
+pub readings-right : AllRight tables.readings
+unfolding readSteps stepLines stepInRange stepsFrom stepsIn stepLineOf stepWordOf letterOf reasonFields stepFields one none split same isBus isDigit takes numberFrom numberOf
+readings-right =
+    (refl, refl)
+    & (refl, refl)
+    & (refl, refl)
+    & (refl, refl)
+    & (λ h. omega (arith, ap (λ (xs : List Step). getD xs 0 noStep .bus) (h .1)))
+    & tt
+
+-- ---- bytes lent
+
+pub prints-right : AllRight tables.prints
+unfolding refusedText join digits
+prints-right =
+    record { text = bytes "refused\t2\t1\n"; asked = refl; room = omega arith; count = refl; written = refl }
+    & record { text = bytes "refused\t2\t1\n"; asked = refl; more = omega arith; refusal = itself _; kept = refl }
+    & (λ h. omega (arith, h .more, ap length (h .asked)))
+    & record { put = refl; next = refl }
+    & record { put = refl; next = refl }
+    & (λ h. other 1 _ _ (h .put) (λ e. omega arith))
+    & tt
+
+-- ---- the four C functions
+
+-- what is answered, and so the result and the bytes
+gives : {P : Answer → Type 0} (lent : List ℕ) (a : Answer) → P a → Answered P lent (leftBy a lent) (resultOf a (length lent))
+gives lent a p = record { answer = a; is = p; replied = record { result = refl; bytes = refl } }
+
+-- of a reply that meets the call's promise
+says : {R : Type 0} {promise : R → Type 0} {of : R → Answer} (reply : R) → promise reply → Said promise of (of reply)
+says reply p = record { reply = reply; meets = p; is = refl }
+
+pub calls-right : AllRight tables.calls
+unfolding readCase readText readLines verdict isBus isAfter pastBuses recordOf wordOf lineFields busFields markOf one none split same isDigit takes numberFrom numberOf held.hold held.wordOf add setOf readSteps stepLines stepInRange stepsFrom stepsIn stepLineOf stepWordOf letterOf reasonFields stepFields byteOf
+calls-right =
+    gives tables.lent (Set 79) (says (observed.Set 79) (replies.sets-right .0))
+    & gives tables.lent (Set 4) (says (unconfirmed.Unconfirmed 4) ((known .at3 .valid, tt), confirming.itself))
+    & gives tables.lent (Set 9) (says (fewest.Sites 9) (replies.fewests-right .0))
+    & gives tables.lent (Set 79) (says (replayed.Reached 79 true) (replays-right .0))
+    & gives tables.lent (Refused (WrongForm 1)) refl
+    & gives tables.lent (Refused NoCover) (says (fewest.Refused NoCover) (known .none .valid then omega arith then stop (known-places .fewest1) (itself _)))
+    & gives tables.lent (Refused (OverBudget 0)) (says (fewest.Refused (OverBudget 0)) (known .none .valid then stop (λ h. omega arith) (itself _)))
+    & gives tables.lent (Refused (OutOfRange 1)) refl
+    & gives tables.lent (Refused (OutOfRange 1)) refl
+    & gives tables.lent (Unread (OutOfRange 1)) (says (replayed.Unread (OutOfRange 1)) refl)
+    & gives tables.lent (Refused (ReasonFails 1)) (says (replayed.Refused (ReasonFails 1)) (known .at3 .valid then omega arith then named12 then refl then stop (λ h. omega (arith, h .observed)) (itself _)))
+    & gives (5 ∷ []) (Set 79) (says (observed.Set 79) (replies.sets-right .0))
+    & (λ h. omega (arith, h .replied .result, ap (λ (a : Answer). resultOf a 1) (h .is)))
+    & tt

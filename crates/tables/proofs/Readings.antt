@@ -1,0 +1,149 @@
+-- The tables of case texts, step texts and printed texts: each is computed.
+use mathlib.Core.Path.{refl, ap}
+use mathlib.Core.List.{List}
+use native.Mathlib.Omega.{arith}
+use lib.Count.{ones, onesIn}
+use lib.ListN.{length, getD}
+use Rattle.busset.specs.Sets.{add, setOf}
+use Rattle.busset.specs.Held as held
+use Rattle.step.specs.Records.{noStep}
+use Rattle.step.specs.declared.Step.{Step}
+use Rattle.text_field.specs.Split.{split, join, same, lineFeed}
+use Rattle.text_field.specs.Number.{isDigit, takes, numberFrom, numberOf, digits}
+use Rattle.case_line.specs.Fields.{markOf, one, none}
+use Rattle.case_line.specs.Record.{wordOf, lineFields, busFields, recordOf, recordText}
+use Rattle.step_line.specs.StepLine.{letterOf, stepWordOf, reasonFields, stepFields, stepLineOf, stepText}
+use Rattle.grid.specs.Cases.{neighbours}
+use Rattle.case_inverse.proofs.Grammars.{reads-read, not-got, read-reads}
+use Rattle.case_judge.specs.Judging.{isBus, isAfter, pastBuses, verdict}
+use Rattle.case_read.specs.Reading.{start, readLines, readText, readCase}
+use Rattle.case_read.specs.Writing.{busRecords, members, lineRecords, linesText}
+use Rattle.step_text.specs.Steps.{stepInRange, stepLines, readSteps, stepsIn, stepsFrom}
+use Rattle.case_write.specs.Lines.{lineText}
+use Rattle.report_lines.specs.Printing.{refusedText}
+use Rattle.report_day.specs.Day.{stepsText}
+use Rattle.plan_input.specs.Asking.{planFields, budgetOf, planLines, readPlan}
+use Rattle.tables.proofs.Rows.{_&_}
+use Rattle.tables.specs.Tables.{AllRight, block}
+use Rattle.tables.specs.CaseTexts as case
+use Rattle.tables.specs.StepTexts as steps
+use Rattle.tables.specs.Reports as reports
+
+-- ---- case texts
+
+pub cases-right : case.CasesRight
+unfolding readCase readText readLines verdict isBus isAfter pastBuses recordOf wordOf lineFields busFields markOf one none split same isDigit takes numberFrom numberOf held.hold held.wordOf add setOf
+cases-right = refl
+
+pub texts-right : case.TextsRight
+unfolding busRecords members lineRecords linesText recordText join digits neighbours setOf
+texts-right = refl
+
+pub allowed-right : AllRight case.allowed
+unfolding readLines verdict isBus isAfter pastBuses recordOf wordOf lineFields busFields markOf one none split join same isDigit takes numberFrom numberOf held.hold held.wordOf add setOf
+allowed-right =
+    read-reads (split lineFeed (block case.oneInput) .rest) start 1 (split lineFeed (block case.oneInput) .first) case.oneCase refl
+    & (λ h. not-got _ (reads-read start _ _ 1 (omega arith) h))
+    & (λ h. not-got _ (reads-read start _ _ 1 (omega arith) h))
+    & tt
+
+pub wired-right : case.WiredRight
+unfolding held.hold held.wordOf add setOf
+wired-right = refl
+
+pub whole-right : case.WholeRight
+unfolding readCase readText readLines verdict isBus isAfter pastBuses recordOf wordOf lineFields busFields markOf one none split same isDigit takes numberFrom numberOf
+whole-right = refl
+
+pub later-right : case.LaterRight
+unfolding readCase readText readLines verdict isBus isAfter pastBuses recordOf wordOf lineFields busFields markOf one none split same isDigit takes numberFrom numberOf
+later-right = refl
+
+pub case-limits-right : case.LimitsRight
+unfolding readCase readText readLines verdict recordOf wordOf split same
+case-limits-right = refl
+
+pub verdicts-right : case.VerdictsRight
+unfolding verdict isBus isAfter pastBuses
+verdicts-right = refl
+
+-- ---- step texts
+
+pub ranges-right : steps.RangesRight
+unfolding stepInRange isBus
+ranges-right = refl
+
+pub readings-right : steps.ReadingsRight
+unfolding readSteps stepLines stepInRange isBus stepLineOf stepWordOf letterOf reasonFields stepFields one none split same isDigit takes numberFrom numberOf
+readings-right = refl
+
+pub beyond-right : steps.BeyondRight
+unfolding stepLines stepInRange isBus stepLineOf stepWordOf letterOf reasonFields stepFields one none split same isDigit takes numberFrom numberOf
+beyond-right = refl
+
+pub step-limits-right : steps.LimitsRight
+unfolding readSteps stepLines stepLineOf stepWordOf split same
+step-limits-right = refl
+
+pub lists-right : steps.ListsRight
+unfolding stepsFrom stepsIn stepLineOf stepWordOf letterOf reasonFields stepFields one none split same isDigit takes numberFrom numberOf
+lists-right = refl
+
+pub found-right : AllRight steps.found
+unfolding stepsFrom stepsIn stepLineOf stepWordOf letterOf reasonFields stepFields one none split same isDigit takes numberFrom numberOf
+found-right =
+    (record { bus = record { some = omega arith; most = omega arith }; reason = tt }, (record { bus = record { some = omega arith; most = omega arith }; reason = record { some = omega arith; most = omega arith } }, tt))
+    & (λ h. omega (arith, h .1 .0 .reason .most))
+    & record { steps = refl; later = omega arith; high = omega arith }
+    & refl
+    & (λ h. omega (arith, ap length h))
+    & (λ h. omega (arith, ap (λ (xs : List Step). getD xs 0 noStep .bus) (h .steps)))
+    & record { step = refl; rest = refl }
+    & (λ h. omega (arith, ap length (h .rest)))
+    & tt
+
+pub rooms-right : steps.RoomsRight
+rooms-right = refl
+
+pub lefts-right : steps.LeftsRight
+lefts-right = refl
+
+-- ---- what is printed
+
+pub refusals-right : reports.RefusalsRight
+unfolding refusedText join digits
+refusals-right = refl
+
+pub lines-right : reports.LinesRight
+unfolding lineText recordText join digits
+lines-right = refl
+
+pub days-right : reports.DaysRight
+unfolding stepsText stepText join digits
+days-right = refl
+
+pub xv-right : reports.VerdictsRight
+unfolding digits
+xv-right = refl
+
+-- ---- the planning program
+
+pub budgets-right : reports.BudgetsRight
+unfolding budgetOf planFields split same isDigit takes numberFrom numberOf
+budgets-right = refl
+
+pub inputs-right : reports.InputsRight
+unfolding readPlan planLines budgetOf planFields readLines verdict isBus isAfter pastBuses recordOf wordOf lineFields busFields markOf one none split same isDigit takes numberFrom numberOf
+inputs-right = refl
+
+pub asked-right : reports.AskedRight
+unfolding readPlan planLines budgetOf planFields readLines verdict isBus isAfter pastBuses recordOf wordOf lineFields busFields markOf one none split same isDigit takes numberFrom numberOf held.hold held.wordOf add setOf
+asked-right = refl
+
+pub plan-limits-right : reports.LimitsRight
+unfolding readPlan planLines budgetOf planFields readLines verdict recordOf wordOf split same
+plan-limits-right = refl
+
+pub plans-right : reports.PlansRight
+unfolding members linesText recordText join digits setOf ones onesIn
+plans-right = refl

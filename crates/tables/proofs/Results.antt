@@ -1,0 +1,18 @@
+-- The tables of what a C program gets: each is computed.
+use mathlib.Core.Path.{refl}
+use Rattle.busset.specs.Bytes.{byteOf}
+use Rattle.tables.specs.Results.{CodesRight, ResultsRight, BytesRight, LeftsRight}
+
+pub codes-right : CodesRight
+codes-right = refl
+
+pub results-right : ResultsRight
+results-right = refl
+
+pub bytes-right : BytesRight
+unfolding byteOf
+bytes-right = refl
+
+pub lefts-right : LeftsRight
+unfolding byteOf
+lefts-right = refl

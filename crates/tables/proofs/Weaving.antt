@@ -1,0 +1,174 @@
+-- The tables of weaving and of the firing figure.
+use mathlib.Core.Path.{_≡_, refl, ap, ap₂}
+use mathlib.Core.List.{List, [], _∷_}
+use mathlib.Core.Logic.{_⊎_, inl, inr, ⊎-elim}
+use Prim.Native.Nat.{ℕ, _-_, _^_, _≤_, _<_}
+use native.Mathlib.Omega.{arith}
+use lib.Dec.{lit≤}
+use lib.IntN.{pos, negsuc, _+ℤ_, _-ℤ_}
+use lib.Count.{ones, onesIn}
+use lib.ListN.{length, getD}
+use lib.Signed.{leZ-yes}
+use Rattle.busset.specs.Sets.{bit, In, size, add, meet, lack, less, upTo, setOf}
+use Rattle.step.specs.Records.{noStep}
+use Rattle.step.specs.declared.Step.{Step}
+use Rattle.rules.specs.Grids.{total}
+use Rattle.rules.specs.Steps.{Names, reached, Accepted}
+use Rattle.rules.specs.Weaving.{Each, Taken, here, there, Shuffle, none, next}
+use Rattle.rules.specs.Figures.{figure}
+use Rattle.rules.proofs.Tests.{gap}
+use Rattle.rules.proofs.Shuffles.{weaving-shuffles}
+use Rattle.grid.specs.Cases.{neighbours, gridOf}
+use Rattle.grid.proofs.Drawn.{withinTest, rowTest, validTest, valid-passes}
+use Rattle.ending.specs.declared.Wove.the-variants as wove
+use Rattle.demands.proofs.Demand3.{demand-3}
+use Rattle.starred.specs.Table.{wordOf, caseOf, seven}
+use Rattle.tables.proofs.Crowded.{ones-in}
+use Rattle.tables.proofs.Computed.{known}
+use Rattle.tables.proofs.Rows.{_&_}
+use Rattle.tables.proofs.Deriving.{reasonTest, allowedTest, allowed-passes}
+use Rattle.tables.specs.Tables.{AllRight}
+use Rattle.tables.specs.Drawings.{set, own, near, sevenGrid}
+use Rattle.tables.specs.Weaving as weaving
+use Rattle.tables.specs.Figures as figures
+
+-- ---- computed
+
+pub wovens-right : weaving.WovensRight
+unfolding add
+wovens-right = refl
+
+pub wovens-from-right : weaving.WovensFromRight
+unfolding add setOf
+wovens-from-right = refl
+
+pub figures-right : figures.FiguresRight
+unfolding figure meet less lack neighbours setOf ones onesIn
+figures-right = refl
+
+pub stated-right : figures.StatedRight
+unfolding upTo setOf
+stated-right = refl
+
+pub runs-right : AllRight figures.runs
+runs-right =
+    record { low = leZ-yes tt; high = leZ-yes tt }
+    & (λ h. h .low .le)
+    & record { low = leZ-yes tt; high = leZ-yes tt }
+    & (λ h. h .high .le)
+    & tt
+
+-- the figure where i has so many neighbours, and so many of them other than j are observed
+figure-from : (nbr : ℕ → ℕ) (s i j a b : ℕ) → size (nbr i) ≡ a → size (less (meet (nbr i) s) j) ≡ b → figure nbr s i j ≡ pos 1 -ℤ pos a +ℤ pos (bit s i) +ℤ pos b
+unfolding figure
+figure-from nbr s i j a b p q = ap₂ (λ (x y : ℕ). pos 1 -ℤ pos x +ℤ pos (bit s i) +ℤ pos y) p q
+
+-- the star's figure of 1 towards 2, with the digits counted
+star-figure : (s : ℕ) → less (meet (gridOf figures.star .nbr 1) s) 2 < 2 ^ 65
+    → figure (gridOf figures.star .nbr) s 1 2 ≡ pos 1 -ℤ pos 63 +ℤ pos (bit s 1) +ℤ pos (onesIn 65 (less (meet (gridOf figures.star .nbr 1) s) 2))
+unfolding neighbours setOf onesIn
+star-figure s l = figure-from (gridOf figures.star .nbr) s 1 2 63 (onesIn 65 (less (meet (gridOf figures.star .nbr 1) s) 2)) (ones-in 65 (gridOf figures.star .nbr 1) (lit≤ tt)) (ones-in 65 (less (meet (gridOf figures.star .nbr 1) s) 2) l)
+
+star-ends : (figure (gridOf figures.star .nbr) (set []) 1 2 ≡ negsuc 61) × (figure (gridOf figures.star .nbr) (setOf (2 ^ 64 - 1)) 1 2 ≡ pos 1)
+unfolding meet less lack neighbours setOf onesIn
+star-ends = (star-figure (set []) (lit≤ tt), star-figure (setOf (2 ^ 64 - 1)) (lit≤ tt))
+
+pub ends-right : AllRight figures.ends
+unfolding validTest withinTest rowTest gap total upTo neighbours setOf ones onesIn
+ends-right = valid-passes figures.star refl & star-ends .0 & star-ends .1 & tt
+
+-- ---- weaving
+
+pub weavable-right : AllRight weaving.weavable
+unfolding add neighbours setOf
+weavable-right =
+    ((λ o. record { unit = refl; joined = refl }), ((λ o. refl), tt))
+    & ((λ o. refl), ((λ o. absurd (omega arith)), tt))
+    & (λ h. omega (arith, h .0 refl .unit))
+    & (λ h. omega (arith, h .0 refl .observed))
+    & ((λ o. absurd (omega arith)), tt)
+    & (λ h. omega (arith, h .0 refl .others 3 refl (λ e. omega arith)))
+    & tt
+
+-- ---- shuffles
+
+pub some-right : AllRight weaving.some
+some-right =
+    (omega arith, (omega arith, tt))
+    & (λ h. omega (arith, h .1 .0))
+    & inr (inl (omega arith))
+    & (λ h. ⊎-elim (λ (l : 3 ≤ 2). omega arith) (λ (m : (4 ≤ 2) ⊎ ⊥). ⊎-elim (λ (l : 4 ≤ 2). omega arith) (λ (z : ⊥). z) m) h)
+    & (λ h. h)
+    & tt
+
+-- no step is taken where there are no lists
+no-lists : {x : Step} {yss : List (List Step)} → Taken x [] yss → ⊥
+no-lists = elim [ ]
+
+lacking : Shuffle weaving.desks (near 2 3 ∷ own 3 ∷ []) → ⊥
+lacking (next here (next here (none e))) = omega (arith, ap length (e .1 .0))
+lacking (next here (next (there here) (none e))) = omega (arith, ap length (e .0))
+lacking (next here (next (there (there t)) s)) = no-lists t
+lacking (next (there (there t)) s) = no-lists t
+
+new : {yss : List (List Step)} → Taken (near 4 3) weaving.desks yss → ⊥
+new (there (there t)) = no-lists t
+
+order : Shuffle weaving.desks (own 3 ∷ own 3 ∷ near 2 3 ∷ []) → ⊥
+order (next (there here) (next (there (there t)) s)) = no-lists t
+order (next (there (there t)) s) = no-lists t
+
+added : Shuffle weaving.desks (near 4 3 ∷ near 2 3 ∷ own 3 ∷ own 3 ∷ []) → ⊥
+added (next t s) = new t
+
+-- nothing is left
+done : Shuffle ([] ∷ [] ∷ []) []
+done = none {xss = [] ∷ [] ∷ []} (refl, (refl, tt))
+
+shuffled : Shuffle weaving.desks (own 3 ∷ near 2 3 ∷ own 3 ∷ [])
+shuffled = next (there here) (next here (next here done))
+
+pub shuffles-right : AllRight weaving.shuffles
+shuffles-right =
+    next here (next here (next (there here) done))
+    & shuffled
+    & lacking
+    & added
+    & order
+    & none {xss = []} tt
+    & there here
+    & new
+    & tt
+
+-- ---- demand 3
+
+-- each desk's list is accepted
+accepted : Each (Accepted (sevenGrid (3 ∷ []))) weaving.desks
+unfolding reasonTest allowedTest gap neighbours add lack setOf ones onesIn
+accepted = (
+  (allowed-passes (sevenGrid (3 ∷ [])) (set []) (near 2 3) refl, (allowed-passes (sevenGrid (3 ∷ [])) (set (2 ∷ [])) (own 3) refl, tt)),
+  ((allowed-passes (sevenGrid (3 ∷ [])) (set []) (own 3) refl, tt), tt),
+)
+
+pub demand-right : AllRight weaving.demand
+unfolding add
+demand-right =
+    weaving-shuffles (sevenGrid (3 ∷ [])) weaving.desks (own 3 ∷ near 2 3 ∷ own 3 ∷ []) accepted shuffled
+    & (λ h. omega (arith, h .all 2 (inl refl)))
+    & (λ h. ⊎-elim (λ (l : In (reached (near 2 3 ∷ own 3 ∷ [])) 4). omega arith) (λ (m : In (reached (own 3 ∷ [])) 4 ⊎ ⊥). ⊎-elim (λ (l : In (reached (own 3 ∷ [])) 4). omega arith) (λ (z : ⊥). z) m) (h .only 4 refl))
+    & tt
+
+pub calls-right : AllRight weaving.calls
+unfolding neighbours add setOf
+calls-right =
+    demand-3 (caseOf (seven (3 ∷ []))) weaving.desks (own 3 ∷ near 2 3 ∷ own 3 ∷ []) (own 7 ∷ own 8 ∷ own 9 ∷ []) (own 3 ∷ near 2 3 ∷ own 9 ∷ []) (wove.Written 2 (wordOf (2 ∷ 3 ∷ []))) (known .at3 .valid) accepted shuffled (omega arith) (omega arith)
+    ((known .at3 .valid, (omega arith, (named3, ((λ o. refl), (named23, ((λ o. record { unit = refl; joined = refl }), (named3, ((λ o. refl), (omega arith, tt))))))))), refl, refl, refl)
+    & (λ h. let e = h .answers in let z : _≡_ {A = ℕ} 0 1 = cc in omega arith)
+    & (λ h. omega (arith, ap (λ (xs : List Step). getD xs 0 noStep .bus) (h .records)))
+    & tt
+  where
+    named3 : Names 7 (own 3)
+    named3 = record { bus = record { some = omega arith; most = omega arith }; reason = tt }
+
+    named23 : Names 7 (near 2 3)
+    named23 = record { bus = record { some = omega arith; most = omega arith }; reason = record { some = omega arith; most = omega arith } }

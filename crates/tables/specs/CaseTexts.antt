@@ -1,0 +1,210 @@
+-- Case texts: what reading one says, the case that it gives, and the text that a case has.
+use mathlib.Core.List.{List, [], _∷_, _++_}
+use Prim.Native.Nat.{ℕ}
+use Prim.Native.String.{String}
+use lib.ListN.{replicate}
+use Rattle.text_field.specs.Split.{bytes, lineFeed}
+use Rattle.case_line.specs.declared.Record.{Record}
+use Rattle.case_line.specs.declared.Record.the-variants.{Grid, Line, Pmu, End, Wrong}
+use Rattle.grid.specs.declared.Case.{Case}
+use Rattle.refusals.specs.declared.Refusal.the-variants.{TextTooLong, WrongForm, OutOfRange, OutOfOrder}
+use Rattle.case_build.specs.Building.{withLine}
+use Rattle.case_judge.specs.Judging.{verdict}
+use Rattle.case_read.specs.Reading.{start, readCase, got}
+use Rattle.case_inverse.specs.Grammar as grammar
+use Rattle.case_read.specs.Writing.{caseText}
+use Rattle.case_read.specs.declared.CaseRead.{CaseRead}
+use Rattle.case_judge.specs.declared.Place.{Place}
+use Rattle.case_read.specs.declared.ReadAnswer.{ReadAnswer}
+use Rattle.case_read.specs.declared.ReadAnswer.the-variants.{Read, Refused}
+use Rattle.case_judge.specs.declared.Verdict.{Verdict}
+use Rattle.case_judge.specs.declared.Verdict.the-variants.{Next, Last, Form, Range, Order}
+use Rattle.starred.specs.Table.{caseOf, seven, path}
+use Rattle.tables.specs.Tables.{Right, Reads, Row, holds, fails, block}
+use Rattle.tables.specs.Drawings.{value}
+
+-- ---- whole texts
+
+-- document 01's input of the day report: `grid` and every `bus`
+abbrev pub sevenBuses : List String
+sevenBuses =
+    "grid 7"
+    ∷ "bus 1 I Y"
+    ∷ "bus 2 Z Y"
+    ∷ "bus 3 Z Y"
+    ∷ "bus 4 I Y"
+    ∷ "bus 5 Z Y"
+    ∷ "bus 6 I Y"
+    ∷ "bus 7 I Y"
+    ∷ []
+
+-- every `line`
+abbrev pub sevenLines : List String
+sevenLines = "line 1 2" ∷ "line 2 3" ∷ "line 3 4" ∷ "line 3 7" ∷ "line 4 5" ∷ "line 5 6" ∷ []
+
+-- and all of it
+abbrev pub input : List String
+input = sevenBuses ++ (sevenLines ++ "pmu 3" ∷ "end" ∷ [])
+
+-- the same grid with no units
+abbrev pub bareInput : List String
+bareInput = sevenBuses ++ (sevenLines ++ "end" ∷ [])
+
+-- the path 1-2-3-4-5, only 3 is Z, units at 1 and 5
+abbrev pub pathInput : List String
+pathInput =
+    "grid 5" ∷ "bus 1 I Y" ∷ "bus 2 I Y" ∷ "bus 3 Z Y" ∷ "bus 4 I Y" ∷ "bus 5 I Y"
+    ∷ "line 1 2" ∷ "line 2 3" ∷ "line 3 4" ∷ "line 4 5" ∷ "pmu 1" ∷ "pmu 5" ∷ "end" ∷ []
+
+-- one bus, Z with site N, and a unit on it
+abbrev pub oneInput : List String
+oneInput = "grid 1" ∷ "bus 1 Z N" ∷ "pmu 1" ∷ "end" ∷ []
+
+-- its case
+abbrev pub oneCase : Case
+oneCase = value 1 [] (1 ∷ []) [] (1 ∷ [])
+
+-- texts, and the case that each gives
+abbrev pub cases : List (List ℕ × CaseRead)
+cases =
+    (block input, got (caseOf (seven (3 ∷ []))))
+    ∷ (block bareInput, got (caseOf (seven [])))
+    ∷ (block pathInput, got (caseOf path))
+    ∷ (block oneInput, got oneCase)
+    -- a refusal has no case beside it
+    ∷ (bytes "", record { answer = Refused (WrongForm 1); case = value 0 [] [] [] [] })
+    ∷ []
+
+-- every row is right
+abbrev pub CasesRight : Type 0
+CasesRight = Right readCase cases
+
+-- cases, and the text of each
+abbrev pub texts : List (Case × List ℕ)
+texts = (caseOf (seven (3 ∷ [])), block input) ∷ (caseOf path, block pathInput) ∷ (oneCase, block oneInput) ∷ []
+
+-- every row is right
+abbrev pub TextsRight : Type 0
+TextsRight = Right caseText texts
+
+-- the texts that the order of records allows from the start on, and texts that it does not
+abbrev pub allowed : List Row
+allowed =
+    holds (grammar.Reads start (block oneInput) oneCase)
+    ∷ fails (grammar.Reads start (bytes "end\n") (value 0 [] [] [] []))
+    ∷ fails (grammar.Reads start (block ("grid 1" ∷ "pmu 1" ∷ "bus 1 Z N" ∷ "end" ∷ [])) oneCase)
+    ∷ []
+
+-- a line of three buses, and the rows with it: each end has the other
+abbrev pub wired : List ((ℕ × ℕ) × List ℕ)
+wired = ((1, 3), 4 ∷ 0 ∷ 1 ∷ []) ∷ ((1, 2), 2 ∷ 1 ∷ 0 ∷ []) ∷ []
+
+-- every row is right
+abbrev pub WiredRight : Type 0
+WiredRight = Right (λ q. withLine (0 ∷ 0 ∷ 0 ∷ []) (q .0) (q .1)) wired
+
+-- ---- refusals
+
+-- texts from line 1 on
+abbrev pub whole : List (String × ReadAnswer)
+whole =
+    ("grid\t1\nbus\t1\tI\tY\nend\n", Read)
+    -- a lacking record, at the line where it should stand
+    ∷ ("", Refused (WrongForm 1))
+    ∷ ("\n", Refused (WrongForm 1))
+    ∷ ("bus\t1\tI\tY\n", Refused (WrongForm 1))
+    ∷ ("grid\t64\n", Refused (WrongForm 2))
+    ∷ ("grid\t2\nend\n", Refused (WrongForm 2))
+    ∷ ("grid\t2\nline\t1\t2\n", Refused (WrongForm 2))
+    ∷ ("grid\t2\nbus\t1\tI\tY\npmu\t1\n", Refused (WrongForm 3))
+    -- a lacking line feed comes before 3 and 4
+    ∷ ("grid\t65", Refused (WrongForm 1))
+    ∷ ("grid\t2\nbus\t2\tI\tY", Refused (WrongForm 2))
+    -- 3
+    ∷ ("grid\t65\n", Refused (OutOfRange 1))
+    ∷ ("grid\t0\n", Refused (OutOfRange 1))
+    ∷ ("grid\t9999\n", Refused (OutOfRange 1))
+    ∷ ("grid\t2\nbus\t3\tI\tY\n", Refused (OutOfRange 2))
+    ∷ ("grid\t2\nbus\t0\tI\tY\n", Refused (OutOfRange 2))
+    -- 4
+    ∷ ("grid\t2\nbus\t2\tI\tY\n", Refused (OutOfOrder 2))
+    ∷ ("grid\t2\nbus\t1\tI\tY\nbus\t1\tI\tY\n", Refused (OutOfOrder 3))
+    -- 2 before 3, and the first bad line first
+    ∷ ("grid\t7\nbus\t9\tQ\tY\n", Refused (WrongForm 2))
+    ∷ ("grid\t7\nbus\t9\tI\tY\nbus\n", Refused (OutOfRange 2))
+    ∷ []
+
+-- every row is right
+abbrev pub WholeRight : Type 0
+WholeRight = Reads (λ s. readCase s .answer) whole
+
+-- how a text goes on after the seven-bus grid's `grid` and every `bus`, from line 9 on
+abbrev pub later : List (String × ReadAnswer)
+later =
+    ("end\n", Read)
+    ∷ ("line\t1\t2\nend\n", Read)
+    ∷ ("pmu\t3\nend\n", Read)
+    -- a lacking record or line feed
+    ∷ ("", Refused (WrongForm 9))
+    ∷ ("end", Refused (WrongForm 9))
+    ∷ ("line\t9\t1", Refused (WrongForm 9))
+    ∷ ("line\t1\t2\n", Refused (WrongForm 10))
+    -- another record than may stand there
+    ∷ ("bus\t8\tI\tY\n", Refused (WrongForm 9))
+    ∷ ("grid\t7\n", Refused (WrongForm 9))
+    ∷ ("pmu\t3\nline\t1\t2\nend\n", Refused (WrongForm 10))
+    -- bytes after `end`, at the line after it
+    ∷ ("end\n\n", Refused (WrongForm 10))
+    ∷ ("end\nend\n", Refused (WrongForm 10))
+    ∷ ("end\n\0", Refused (WrongForm 10))
+    -- 3 before 4
+    ∷ ("line\t9\t1\n", Refused (OutOfRange 9))
+    ∷ ("line\t0\t1\n", Refused (OutOfRange 9))
+    ∷ ("line\t1\t8\n", Refused (OutOfRange 9))
+    ∷ ("pmu\t8\n", Refused (OutOfRange 9))
+    ∷ ("pmu\t0\n", Refused (OutOfRange 9))
+    -- rising is strict, by a and then b
+    ∷ ("line\t5\t3\n", Refused (OutOfOrder 9))
+    ∷ ("line\t3\t3\n", Refused (OutOfOrder 9))
+    ∷ ("line\t1\t2\nline\t1\t2\n", Refused (OutOfOrder 10))
+    ∷ ("line\t1\t7\nline\t1\t2\n", Refused (OutOfOrder 10))
+    ∷ ("line\t2\t3\nline\t1\t7\n", Refused (OutOfOrder 10))
+    ∷ ("line\t1\t7\nline\t2\t3\nend\n", Read)
+    ∷ ("pmu\t3\npmu\t3\n", Refused (OutOfOrder 10))
+    ∷ ("pmu\t3\npmu\t2\n", Refused (OutOfOrder 10))
+    ∷ []
+
+-- every row is right
+abbrev pub LaterRight : Type 0
+LaterRight = Right (λ s. readCase (block sevenBuses ++ bytes s) .answer) later
+
+-- line feeds alone: 8,192 of them are 2 at line 1, one more is 1
+abbrev pub limits : List (ℕ × ReadAnswer)
+limits = (8192, Refused (WrongForm 1)) ∷ (8193, Refused TextTooLong) ∷ []
+
+-- every row is right
+abbrev pub LimitsRight : Type 0
+LimitsRight = Right (λ k. readCase (replicate k lineFeed) .answer) limits
+
+-- ---- the 257th line
+
+-- where 64 buses and so many lines are read, the last of which is line 5 9
+abbrev pub lined : ℕ → Place
+lined k = record { n = 64; bus = 64; a = 5; b = 9; lines = k; unit = 0 }
+
+-- records that stand there, and what is said of each: a 257th line is 3, also with a above b; a bad form is 2
+abbrev pub verdicts : List ((ℕ × Record) × Verdict)
+verdicts =
+    ((255, Line 6 7), Next)
+    ∷ ((256, Line 6 7), Range)
+    ∷ ((256, Line 7 6), Range)
+    ∷ ((255, Line 7 6), Order)
+    ∷ ((256, Wrong), Form)
+    ∷ ((256, Grid 64), Form)
+    ∷ ((256, Pmu 64), Next)
+    ∷ ((256, End), Last)
+    ∷ []
+
+-- every row is right
+abbrev pub VerdictsRight : Type 0
+VerdictsRight = Right (λ q. verdict (lined (q .0)) (q .1)) verdicts

@@ -1,0 +1,48 @@
+-- Cross-validation: which units confirm each other, and which no other unit confirms.
+use mathlib.Core.List.{List, [], _∷_}
+use Rattle.rules.specs.Confirming.{Confirm, Unconfirmed, UnconfirmedSet}
+use Rattle.tables.specs.Tables.{Row, holds, fails}
+use Rattle.tables.specs.Drawings.{set, grid, sevenGrid, apart}
+
+-- two buses of the seven, and whether units there confirm each other
+abbrev pub confirm : List Row
+confirm =
+    -- joined
+    holds (Confirm (sevenGrid [] .nbr) 3 4)
+    ∷ holds (Confirm (sevenGrid [] .nbr) 4 3)
+    -- they share 3, which is Z, or 4, which is I
+    ∷ holds (Confirm (sevenGrid [] .nbr) 2 4)
+    ∷ holds (Confirm (sevenGrid [] .nbr) 3 5)
+    -- neither
+    ∷ fails (Confirm (sevenGrid [] .nbr) 1 4)
+    ∷ fails (Confirm (sevenGrid [] .nbr) 1 6)
+    ∷ fails (Confirm (grid (apart []) .nbr) 1 3)
+    ∷ []
+
+-- the units of the seven, and one that no other unit confirms
+abbrev pub unconfirmed : List Row
+unconfirmed =
+    -- a unit does not confirm itself
+    holds (Unconfirmed (sevenGrid [] .nbr) (set (3 ∷ [])) 3)
+    ∷ fails (Unconfirmed (sevenGrid [] .nbr) (set (3 ∷ 4 ∷ [])) 3)
+    -- there is no unit
+    ∷ fails (Unconfirmed (sevenGrid [] .nbr) (set (3 ∷ [])) 6)
+    ∷ []
+
+-- the units, and the set of all that no other unit confirms
+abbrev pub sets : List Row
+sets =
+    -- no units
+    holds (UnconfirmedSet (sevenGrid [] .nbr) (set []) (set []))
+    ∷ holds (UnconfirmedSet (sevenGrid [] .nbr) (set (3 ∷ [])) (set (3 ∷ [])))
+    ∷ holds (UnconfirmedSet (sevenGrid [] .nbr) (set (3 ∷ 4 ∷ [])) (set []))
+    ∷ holds (UnconfirmedSet (sevenGrid [] .nbr) (set (2 ∷ 4 ∷ [])) (set []))
+    ∷ holds (UnconfirmedSet (sevenGrid [] .nbr) (set (1 ∷ 4 ∷ [])) (set (1 ∷ 4 ∷ [])))
+    -- a unit at a bus with no lines, beside others
+    ∷ holds (UnconfirmedSet (grid (apart []) .nbr) (set (1 ∷ 2 ∷ 3 ∷ [])) (set (3 ∷ [])))
+    -- a unit would confirm itself
+    ∷ fails (UnconfirmedSet (sevenGrid [] .nbr) (set (3 ∷ [])) (set []))
+    -- too few, too many
+    ∷ fails (UnconfirmedSet (sevenGrid [] .nbr) (set (1 ∷ 4 ∷ [])) (set (1 ∷ [])))
+    ∷ fails (UnconfirmedSet (sevenGrid [] .nbr) (set (3 ∷ 4 ∷ [])) (set (3 ∷ [])))
+    ∷ []

@@ -1,0 +1,67 @@
+-- The firing figure.
+use mathlib.Core.List.{List, [], _∷_}
+use mathlib.Core.Path.{_≡_}
+use Prim.Native.Nat.{ℕ, _-_, _^_}
+use lib.IntN.{ℤ, pos, negsuc}
+use lib.ListN.{replicate}
+use Rattle.busset.specs.Sets.{setOf}
+use Rattle.rules.specs.Figures.{figure, Runs}
+use Rattle.grid.specs.declared.Case.{Case}
+use Rattle.grid.specs.Cases.{gridOf, Valid}
+use Rattle.starred.specs.Table.{wordOf, caseOf, seven}
+use Rattle.observe_calls.specs.Replies.{stated}
+use Rattle.tables.specs.Tables.{Right, Row, holds, fails}
+use Rattle.tables.specs.Drawings.{set, sevenGrid}
+
+-- the observed buses, i and j, and the figure of i towards j in the seven-bus grid; negsuc k is -(k + 1)
+abbrev pub figures : List ((List ℕ × ℕ × ℕ) × ℤ)
+figures =
+    -- document 01's, with a unit at 2
+    ((1 ∷ 2 ∷ 3 ∷ [], 3, 7), pos 0)
+    ∷ ((1 ∷ 2 ∷ 3 ∷ [], 3, 2), negsuc 0)
+    ∷ ((1 ∷ 2 ∷ 3 ∷ [], 2, 1), pos 1)
+    -- j itself does not count
+    ∷ ((2 ∷ 3 ∷ [], 2, 1), pos 1)
+    -- class does not enter: 4 is I
+    ∷ ((3 ∷ 4 ∷ [], 4, 5), pos 1)
+    -- i is not observed
+    ∷ ((3 ∷ [], 4, 5), pos 0)
+    -- a bus with one neighbour
+    ∷ ((1 ∷ [], 1, 2), pos 1)
+    ∷ (([], 1, 2), pos 0)
+    -- nothing is observed, and i has three neighbours
+    ∷ (([], 3, 2), negsuc 1)
+    ∷ []
+
+-- every row is right
+abbrev pub FiguresRight : Type 0
+FiguresRight = Right (λ q. figure (sevenGrid [] .nbr) (set (q .0)) (q .1) (q .2)) figures
+
+-- 64 buses, of which 1 is joined to every other
+abbrev pub star : Case
+star = record { n = 64; nbr = (2 ^ 64 - 2) ∷ replicate 63 1; zero = 0; site = 0; units = 0 }
+
+-- its figures of 1 towards 2 where no bus is observed, and where all are: the lowest and the highest that there are
+abbrev pub ends : List Row
+ends =
+    holds (Valid star)
+    ∷ holds (figure (gridOf star .nbr) (set []) 1 2 ≡ negsuc 61)
+    ∷ holds (figure (gridOf star .nbr) (setOf (2 ^ 64 - 1)) 1 2 ≡ pos 1)
+    ∷ []
+
+-- where the figure runs: from -62 to 1
+abbrev pub runs : List Row
+runs =
+    holds (Runs 62 (negsuc 61))
+    ∷ fails (Runs 62 (negsuc 62))
+    ∷ holds (Runs 62 (pos 1))
+    ∷ fails (Runs 62 (pos 2))
+    ∷ []
+
+-- stated sets on the seven buses, and what counts: buses above n are ignored
+abbrev pub statedSets : List (List ℕ × ℕ)
+statedSets = (1 ∷ 7 ∷ [], set (1 ∷ 7 ∷ [])) ∷ (1 ∷ 8 ∷ 64 ∷ [], set (1 ∷ [])) ∷ (8 ∷ [], set []) ∷ []
+
+-- every row is right
+abbrev pub StatedRight : Type 0
+StatedRight = Right (λ bs. stated (caseOf (seven [])) (wordOf bs)) statedSets

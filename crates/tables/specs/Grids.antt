@@ -1,0 +1,170 @@
+-- The grid that a case value says, and which case values are valid: one row for each clause of refusal 5.
+use mathlib.Core.Bool.{cond}
+use mathlib.Core.List.{List, [], _∷_, _++_}
+use Prim.Native.Nat.{ℕ, zero, suc, _+_, _-_, _^_}
+use lib.Dec.{leb}
+use lib.ListN.{replicate}
+use Rattle.busset.specs.Sets.{width}
+use Rattle.rules.specs.Grids.{Line, Proper, total, lineCount}
+use Rattle.grid.specs.declared.Case.{Case}
+use Rattle.grid.specs.Cases.{mostBuses, mostLines, mostSteps, neighbours, gridOf, LinesAt, Lines, Valid, mostBytes, mostStepBytes}
+use Rattle.plan_input.specs.Asking.{mostBudget}
+use Rattle.starred.specs.Table.{caseOf, seven, path}
+use Rattle.tables.specs.Tables.{Right, Row, holds, fails}
+use Rattle.tables.specs.Drawings.{set, value, sevenGrid, grid}
+
+-- ---- document 01's numbers
+
+-- each limit, and its number
+abbrev pub limits : List (ℕ × ℕ)
+limits =
+    (mostBuses, 64)
+    ∷ (width, 64)
+    ∷ (mostLines, 256)
+    ∷ (mostSteps, 1024)
+    ∷ (mostBytes, 8192)
+    ∷ (mostStepBytes, 16384)
+    ∷ (mostBudget, 8)
+    ∷ []
+
+-- every row is right
+abbrev pub LimitsRight : Type 0
+LimitsRight = Right (λ k. k) limits
+
+-- ---- the grid that a case value says
+
+-- the neighbours of a number in the seven-bus grid
+abbrev pub neighboursOf : List (ℕ × ℕ)
+neighboursOf =
+    (1, set (2 ∷ []))
+    ∷ (2, set (1 ∷ 3 ∷ []))
+    ∷ (3, set (2 ∷ 4 ∷ 7 ∷ []))
+    ∷ (4, set (3 ∷ 5 ∷ []))
+    ∷ (5, set (4 ∷ 6 ∷ []))
+    ∷ (6, set (5 ∷ []))
+    ∷ (7, set (3 ∷ []))
+    ∷ (0, set [])
+    ∷ (8, set [])
+    ∷ (65, set [])
+    ∷ []
+
+-- every row is right
+abbrev pub NeighboursRight : Type 0
+NeighboursRight = Right (neighbours (caseOf (seven []) .nbr)) neighboursOf
+
+-- the seven-bus grid with a unit at 3: n, the neighbours of 3, the Z buses, the Y sites and the units
+abbrev pub parts : List (ℕ × ℕ)
+parts =
+    (sevenGrid (3 ∷ []) .n, 7)
+    ∷ (sevenGrid (3 ∷ []) .nbr 3, set (2 ∷ 4 ∷ 7 ∷ []))
+    ∷ (sevenGrid (3 ∷ []) .zero, set (2 ∷ 3 ∷ 5 ∷ []))
+    ∷ (sevenGrid (3 ∷ []) .site, set (1 ∷ 2 ∷ 3 ∷ 4 ∷ 5 ∷ 6 ∷ 7 ∷ []))
+    ∷ (sevenGrid (3 ∷ []) .units, set (3 ∷ []))
+    ∷ []
+
+-- every row is right
+abbrev pub PartsRight : Type 0
+PartsRight = Right (λ k. k) parts
+
+-- sums over the buses 1 to n, and how many lines a grid has
+abbrev pub sums : List (ℕ × ℕ)
+sums =
+    (total 0 (λ b. b), 0)
+    ∷ (total 4 (λ b. b), 10)
+    ∷ (lineCount 7 (sevenGrid [] .nbr), 6)
+    ∷ (lineCount 5 (grid path .nbr), 4)
+    ∷ (lineCount 3 (λ b. set []), 0)
+    ∷ []
+
+-- every row is right
+abbrev pub SumsRight : Type 0
+SumsRight = Right (λ k. k) sums
+
+-- ---- lines
+
+-- two buses, joined
+abbrev pub pair : List (List ℕ)
+pair = (2 ∷ []) ∷ (1 ∷ []) ∷ []
+
+-- two buses, of which only bus 1 says that they are joined
+abbrev pub oneSided : List (List ℕ)
+oneSided = (2 ∷ []) ∷ [] ∷ []
+
+-- bus 1 is joined to itself
+abbrev pub looped : List (List ℕ)
+looped = (1 ∷ []) ∷ [] ∷ []
+
+-- three buses, 1 joined to 3
+abbrev pub far : List (List ℕ)
+far = (3 ∷ []) ∷ [] ∷ (1 ∷ []) ∷ []
+
+-- four buses, 3 joined to 4
+abbrev pub high : List (List ℕ)
+high = [] ∷ [] ∷ (4 ∷ []) ∷ (3 ∷ []) ∷ []
+
+-- the neighbours where these are the rows
+abbrev pub near : List (List ℕ) → ℕ → ℕ
+near rows = neighbours (value 2 rows [] [] [] .nbr)
+
+-- what is a line, and what is none
+abbrev pub lines : List Row
+lines =
+    holds (Line 2 (near pair) 1 2)
+    ∷ fails (Line 2 (near oneSided) 1 2)
+    ∷ fails (Line 2 (near looped) 1 1)
+    ∷ fails (Line 2 (near far) 1 3)
+    ∷ holds (Line 3 (near far) 1 3)
+    ∷ holds (LinesAt 2 (near pair) 1)
+    ∷ holds (LinesAt 2 (near pair) 3)
+    ∷ fails (LinesAt 2 (near oneSided) 1)
+    ∷ holds (Lines 2 (near pair))
+    ∷ fails (Lines 2 (near far))
+    ∷ []
+
+-- ---- which case values are valid
+
+-- what 5 does not refuse, and for each clause of it a value that it refuses
+abbrev pub valid : List Row
+valid =
+    holds (Valid (caseOf (seven (3 ∷ []))))
+    ∷ holds (Valid (caseOf path))
+    ∷ holds (Valid (value 1 [] [] [] []))
+    ∷ holds (Valid (value 64 [] [] [] (64 ∷ [])))
+    ∷ holds (Valid (value 2 pair (1 ∷ []) (1 ∷ 2 ∷ []) (2 ∷ [])))
+    -- an installed unit may stand at a site N
+    ∷ holds (Valid (value 2 pair [] [] (1 ∷ [])))
+    -- n outside 1 to 64
+    ∷ fails (Valid (value 0 [] [] [] []))
+    ∷ fails (Valid (value 65 [] [] [] []))
+    -- lines not the same seen from both ends
+    ∷ fails (Valid (value 2 oneSided [] [] []))
+    -- a bus joined to itself
+    ∷ fails (Valid (value 2 looped [] [] []))
+    -- a line, unit, class Z or site Y at a bus above n
+    ∷ fails (Valid (value 2 far [] [] []))
+    ∷ fails (Valid (value 2 high [] [] []))
+    ∷ fails (Valid (value 2 pair [] [] (3 ∷ [])))
+    ∷ fails (Valid (value 2 pair (3 ∷ []) [] []))
+    ∷ fails (Valid (value 2 pair [] (3 ∷ []) []))
+    ∷ []
+
+-- the rows of m buses from b on: each is joined to all of 1 to 23 but itself, and to bus 24 where it is one of the first k
+abbrev pub crowdRows : ℕ → ℕ → ℕ → List ℕ
+crowdRows k b zero = []
+crowdRows k b (suc m) = ((2 ^ 23 - 1 - 2 ^ (b - 1)) + cond (leb b k) (2 ^ 23) 0) ∷ crowdRows k (b + 1) m
+
+-- 24 buses, 1 to 23 all joined to one another by 253 lines, and bus 24 to the first k
+abbrev pub crowd : ℕ → Case
+crowd k = record { n = 24; nbr = crowdRows k 1 23 ++ (2 ^ k - 1) ∷ replicate 40 0; zero = 0; site = 0; units = 0 }
+
+-- 256 lines, and 257
+abbrev pub most : List Row
+most = holds (Valid (crowd 3)) ∷ fails (Valid (crowd 4)) ∷ []
+
+-- the same of a grid: every line is one, and every Z bus, Y site and unit is at a bus 1 to n
+abbrev pub proper : List Row
+proper =
+    holds (Proper (sevenGrid (3 ∷ [])))
+    ∷ fails (Proper (gridOf (value 2 oneSided [] [] [])))
+    ∷ fails (Proper (gridOf (value 2 pair [] [] (3 ∷ []))))
+    ∷ []

@@ -1,0 +1,73 @@
+-- What a C program gets: the result, and the bytes that it lent.
+use mathlib.Core.List.{List, [], _∷_}
+use Prim.Native.Nat.{ℕ}
+use Rattle.busset.specs.Bytes.{setBytes}
+use Rattle.refusals.specs.declared.Refusal.{Refusal}
+use Rattle.refusals.specs.declared.Refusal.the-variants.{TextTooLong, WrongForm, OutOfRange, NoSuchBus, ReasonFails, OverBudget, NoCover, TooManySteps}
+use Rattle.estimator_reply.specs.Results.{codeOf, resultOf, leftBy}
+use Rattle.estimator_reply.specs.declared.Answer.{Answer}
+use Rattle.estimator_reply.specs.declared.Answer.the-variants.{Set, Refused, Unread}
+use Rattle.starred.specs.Table.{wordOf}
+use Rattle.tables.specs.Tables.{Right}
+
+-- ---- the result
+
+-- refusals, and 100 times the place plus the number
+abbrev pub codes : List (Refusal × ℕ)
+codes = (WrongForm 5, 502) ∷ (TextTooLong, 1) ∷ (OverBudget 0, 10) ∷ (NoCover, 11) ∷ (ReasonFails 1, 109) ∷ (TooManySteps 1025, 102512) ∷ []
+
+-- every row is right
+abbrev pub CodesRight : Type 0
+CodesRight = Right codeOf codes
+
+-- answers and how many bytes are lent, and the result: 50 is added in reading the step text, and 6 comes last
+abbrev pub results : List ((Answer × ℕ) × ℕ)
+results =
+    ((Set 5, 8), 0)
+    ∷ ((Set 5, 9), 0)
+    ∷ ((Set 0, 8), 0)
+    ∷ ((Set 5, 7), 6)
+    ∷ ((Set 5, 0), 6)
+    ∷ ((Refused (WrongForm 1), 8), 102)
+    ∷ ((Refused (WrongForm 1), 0), 102)
+    ∷ ((Refused (NoSuchBus 2), 8), 207)
+    ∷ ((Unread (WrongForm 5), 8), 552)
+    ∷ ((Unread (OutOfRange 1), 0), 153)
+    ∷ ((Unread TextTooLong, 8), 51)
+    ∷ ((Unread (TooManySteps 1025), 8), 102562)
+    ∷ []
+
+-- every row is right
+abbrev pub ResultsRight : Type 0
+ResultsRight = Right (λ q. resultOf (q .0) (q .1)) results
+
+-- ---- the bytes
+
+-- sets, and their eight bytes: the lowest bus is in the lowest bit of the first
+abbrev pub bytesOf : List (List ℕ × List ℕ)
+bytesOf =
+    ([], 0 ∷ 0 ∷ 0 ∷ 0 ∷ 0 ∷ 0 ∷ 0 ∷ 0 ∷ [])
+    ∷ (1 ∷ [], 1 ∷ 0 ∷ 0 ∷ 0 ∷ 0 ∷ 0 ∷ 0 ∷ 0 ∷ [])
+    ∷ (8 ∷ [], 128 ∷ 0 ∷ 0 ∷ 0 ∷ 0 ∷ 0 ∷ 0 ∷ 0 ∷ [])
+    ∷ (9 ∷ [], 0 ∷ 1 ∷ 0 ∷ 0 ∷ 0 ∷ 0 ∷ 0 ∷ 0 ∷ [])
+    ∷ (64 ∷ [], 0 ∷ 0 ∷ 0 ∷ 0 ∷ 0 ∷ 0 ∷ 0 ∷ 128 ∷ [])
+    ∷ (1 ∷ 2 ∷ 3 ∷ 4 ∷ 7 ∷ [], 79 ∷ 0 ∷ 0 ∷ 0 ∷ 0 ∷ 0 ∷ 0 ∷ 0 ∷ [])
+    ∷ []
+
+-- every row is right
+abbrev pub BytesRight : Type 0
+BytesRight = Right (λ bs. setBytes (wordOf bs)) bytesOf
+
+-- answers and the bytes lent, and what these hold afterwards
+abbrev pub lefts : List ((Answer × List ℕ) × List ℕ)
+lefts =
+    ((Set 79, 9 ∷ 9 ∷ 9 ∷ 9 ∷ 9 ∷ 9 ∷ 9 ∷ 9 ∷ []), 79 ∷ 0 ∷ 0 ∷ 0 ∷ 0 ∷ 0 ∷ 0 ∷ 0 ∷ [])
+    ∷ ((Set 79, 9 ∷ 9 ∷ 9 ∷ 9 ∷ 9 ∷ 9 ∷ 9 ∷ 9 ∷ 5 ∷ 6 ∷ []), 79 ∷ 0 ∷ 0 ∷ 0 ∷ 0 ∷ 0 ∷ 0 ∷ 0 ∷ 5 ∷ 6 ∷ [])
+    ∷ ((Set 79, 9 ∷ 9 ∷ 9 ∷ 9 ∷ 9 ∷ 9 ∷ 9 ∷ []), 9 ∷ 9 ∷ 9 ∷ 9 ∷ 9 ∷ 9 ∷ 9 ∷ [])
+    ∷ ((Refused (ReasonFails 1), 9 ∷ 9 ∷ 9 ∷ 9 ∷ 9 ∷ 9 ∷ 9 ∷ 9 ∷ []), 9 ∷ 9 ∷ 9 ∷ 9 ∷ 9 ∷ 9 ∷ 9 ∷ 9 ∷ [])
+    ∷ ((Unread (WrongForm 1), 9 ∷ 9 ∷ 9 ∷ 9 ∷ 9 ∷ 9 ∷ 9 ∷ 9 ∷ []), 9 ∷ 9 ∷ 9 ∷ 9 ∷ 9 ∷ 9 ∷ 9 ∷ 9 ∷ [])
+    ∷ []
+
+-- every row is right
+abbrev pub LeftsRight : Type 0
+LeftsRight = Right (λ q. leftBy (q .0) (q .1)) lefts

@@ -1,0 +1,150 @@
+-- Step texts: what reading one says, its steps, and the records lent for them.
+use mathlib.Core.Bool.{Bool, true, false}
+use mathlib.Core.List.{List, [], _∷_}
+use Prim.Native.Nat.{ℕ}
+use Prim.Native.String.{String}
+use lib.ListN.{replicate}
+use Rattle.text_field.specs.Split.{bytes, split, lineFeed}
+use Rattle.step.specs.declared.Step.{Step}
+use Rattle.refusals.specs.declared.Refusal.the-variants.{TextTooLong, WrongForm, OutOfRange, NoRoom, TooManySteps}
+use Rattle.step_text.specs.Steps.{stepInRange, stepLines, readSteps, stepsOf, AllNamed}
+use Rattle.taking.specs.Taking.{StepAt, withRoom, leaves, Takes}
+use Rattle.taking.specs.declared.NextStep.the-variants.{At, Nothing}
+use Rattle.step_text.specs.declared.StepsRead.{StepsRead}
+use Rattle.step_text.specs.declared.StepsRead.the-variants.{Steps, Refused}
+use Rattle.tables.specs.Tables.{Right, Reads, Row, holds, fails, block}
+use Rattle.tables.specs.Drawings.{own, near, zeroAt}
+
+-- ---- one step
+
+-- steps, and whether their numbers are 1 to 64
+abbrev pub ranges : List (Step × Bool)
+ranges =
+    (own 1, true)
+    ∷ (own 64, true)
+    ∷ (own 0, false)
+    ∷ (own 65, false)
+    ∷ (near 1 64, true)
+    ∷ (near 1 0, false)
+    ∷ (near 65 1, false)
+    ∷ (zeroAt 64 1, true)
+    ∷ (zeroAt 1 65, false)
+    ∷ []
+
+-- every row is right
+abbrev pub RangesRight : Type 0
+RangesRight = Right stepInRange ranges
+
+-- ---- whole texts
+
+-- texts, and how many steps each has, or its refusal
+abbrev pub readings : List (String × StepsRead)
+readings =
+    ("end\n", Steps 0)
+    ∷ ("step\t3\tO\nend\n", Steps 1)
+    ∷ ("step\t2\tN\t3\nstep\t3\tO\nend\n", Steps 2)
+    -- no rule of observation is asked here, and no case's n
+    ∷ ("step\t64\tO\nstep\t64\tO\nend\n", Steps 2)
+    -- 2
+    ∷ ("", Refused (WrongForm 1))
+    ∷ ("end", Refused (WrongForm 1))
+    ∷ ("step\t3\tO\n", Refused (WrongForm 2))
+    ∷ ("step\t1\tO\t2\nend\n", Refused (WrongForm 1))
+    ∷ ("step\t1\tN\nend\n", Refused (WrongForm 1))
+    ∷ ("end\n\n", Refused (WrongForm 2))
+    ∷ ("step\t3\tO\nend\nend\n", Refused (WrongForm 3))
+    -- 3, and 2 before it
+    ∷ ("step\t0\tO\nend\n", Refused (OutOfRange 1))
+    ∷ ("step\t65\tO\nend\n", Refused (OutOfRange 1))
+    ∷ ("step\t1\tN\t0\nend\n", Refused (OutOfRange 1))
+    ∷ ("step\t1\tZ\t65\nend\n", Refused (OutOfRange 1))
+    ∷ ("step\t65\tO\t1\nend\n", Refused (WrongForm 1))
+    ∷ ("step\t65\tO", Refused (WrongForm 1))
+    -- the first bad line
+    ∷ ("step\t65\tO\nstep\nend\n", Refused (OutOfRange 1))
+    ∷ []
+
+-- every row is right
+abbrev pub ReadingsRight : Type 0
+ReadingsRight = Reads readSteps readings
+
+-- texts from line 1,025 on, after 1,024 steps: `end` is fine; a step is 12, after 2 and 3
+abbrev pub beyond : List (String × StepsRead)
+beyond =
+    ("end\n", Steps 1024)
+    ∷ ("", Refused (WrongForm 1025))
+    ∷ ("step\t1\tO\nend\n", Refused (TooManySteps 1025))
+    ∷ ("step\t65\tO\nend\n", Refused (OutOfRange 1025))
+    ∷ ("step\t1\nend\n", Refused (WrongForm 1025))
+    ∷ ("step\t1\tO\nstep\n", Refused (TooManySteps 1025))
+    ∷ []
+
+-- every row is right
+abbrev pub BeyondRight : Type 0
+BeyondRight = Reads (λ s. stepLines 1025 (split lineFeed s .first) (split lineFeed s .rest)) beyond
+
+-- line feeds alone: 16,384 of them are 2 at line 1, one more is 1
+abbrev pub limits : List (ℕ × StepsRead)
+limits = (16384, Refused (WrongForm 1)) ∷ (16385, Refused TextTooLong) ∷ []
+
+-- every row is right
+abbrev pub LimitsRight : Type 0
+LimitsRight = Right (λ k. readSteps (replicate k lineFeed)) limits
+
+-- ---- the steps
+
+-- document 01's derivation as a step text
+abbrev pub derivation : List ℕ
+derivation = block ("step 2 N 3" ∷ "step 3 O" ∷ "step 1 Z 2" ∷ "step 4 N 3" ∷ "step 7 N 3" ∷ "end" ∷ [])
+
+-- texts, and their steps
+abbrev pub lists : List (List ℕ × List Step)
+lists =
+    (derivation, near 2 3 ∷ own 3 ∷ zeroAt 1 2 ∷ near 4 3 ∷ near 7 3 ∷ [])
+    ∷ (bytes "end\n", [])
+    ∷ []
+
+-- every row is right
+abbrev pub ListsRight : Type 0
+ListsRight = Right stepsOf lists
+
+-- each step names buses 1 to 64; and the step that starts at an index, with the index of the line after it
+abbrev pub found : List Row
+found =
+    holds (AllNamed (own 1 ∷ near 64 1 ∷ []))
+    ∷ fails (AllNamed (own 1 ∷ near 64 65 ∷ []))
+    ∷ holds (StepAt (bytes "step\t3\tO\nend\n") 0 (At (own 3) 9))
+    ∷ holds (StepAt (bytes "step\t3\tO\nend\n") 9 Nothing)
+    ∷ fails (StepAt (bytes "step\t3\tO\nend\n") 0 Nothing)
+    ∷ fails (StepAt (bytes "step\t3\tO\nend\n") 0 (At (own 4) 9))
+    ∷ holds (Takes (bytes "step\t3\tO\nend\n") 0 (record { step = own 3; next = 9 }))
+    ∷ fails (Takes (bytes "step\t3\tO\nend\n") 0 (record { step = own 3; next = 0 }))
+    ∷ []
+
+-- ---- the records lent
+
+-- how many records are lent, what reading says, and what is said then: 6 comes last
+abbrev pub rooms : List ((ℕ × StepsRead) × StepsRead)
+rooms =
+    ((5, Steps 5), Steps 5)
+    ∷ ((64, Steps 5), Steps 5)
+    ∷ ((4, Steps 5), Refused NoRoom)
+    ∷ ((0, Steps 0), Steps 0)
+    ∷ ((0, Refused (WrongForm 3)), Refused (WrongForm 3))
+    ∷ []
+
+-- every row is right
+abbrev pub RoomsRight : Type 0
+RoomsRight = Right (λ q. withRoom (q .0) (q .1)) rooms
+
+-- what three records hold after the steps 2 N 3, 3 O were read into them, and after a refusal
+abbrev pub lefts : List (StepsRead × List Step)
+lefts =
+    (Steps 2, near 2 3 ∷ own 3 ∷ own 9 ∷ [])
+    ∷ (Refused NoRoom, own 7 ∷ own 8 ∷ own 9 ∷ [])
+    ∷ (Refused (WrongForm 3), own 7 ∷ own 8 ∷ own 9 ∷ [])
+    ∷ []
+
+-- every row is right
+abbrev pub LeftsRight : Type 0
+LeftsRight = Right (λ r. leaves r (near 2 3 ∷ own 3 ∷ []) (own 7 ∷ own 8 ∷ own 9 ∷ [])) lefts

@@ -1,0 +1,100 @@
+-- Weaving a received list, and shuffles of the desks' lists.
+use mathlib.Core.List.{List, [], _∷_}
+use Prim.Native.Nat.{ℕ, _≤_}
+use Rattle.step.specs.declared.Step.{Step}
+use Rattle.rules.specs.Weaving.{woven, wovenFrom, WeavableFrom, Weavable, Each, Some, Taken, Shuffle, Woven}
+use Rattle.refusals.specs.declared.Refusal.the-variants.{NoRoom}
+use Rattle.ending.specs.declared.Wove.the-variants as wove
+use Rattle.demands.specs.Demand3.{Demand3}
+use Rattle.starred.specs.Table.{wordOf, caseOf, seven}
+use Rattle.tables.specs.Tables.{Right, Row, holds, fails}
+use Rattle.tables.specs.Drawings.{set, own, near, zeroAt, sevenGrid}
+use Rattle.tables.specs.Steps.{derivation}
+
+-- ---- weaving
+
+-- received lists, and what is written: in order, each step whose bus is not yet observed
+abbrev pub wovens : List (List Step × List Step)
+wovens =
+    ([], [])
+    ∷ (derivation, derivation)
+    ∷ (near 2 3 ∷ near 2 3 ∷ own 3 ∷ [], near 2 3 ∷ own 3 ∷ [])
+    ∷ (own 3 ∷ near 2 3 ∷ near 3 1 ∷ zeroAt 1 2 ∷ zeroAt 2 1 ∷ [], own 3 ∷ near 2 3 ∷ zeroAt 1 2 ∷ [])
+    ∷ []
+
+-- every row is right
+abbrev pub WovensRight : Type 0
+WovensRight = Right woven wovens
+
+-- what is written where 3 is observed
+abbrev pub wovensFrom : List (List Step × List Step)
+wovensFrom = (own 3 ∷ near 2 3 ∷ [], near 2 3 ∷ []) ∷ []
+
+-- every row is right
+abbrev pub WovensFromRight : Type 0
+WovensFromRight = Right (wovenFrom (set (3 ∷ []))) wovensFrom
+
+-- lists with no bad step, on the seven buses with a unit at 3
+abbrev pub weavable : List Row
+weavable =
+    holds (Weavable (sevenGrid (3 ∷ [])) (near 2 3 ∷ own 3 ∷ []))
+    -- a step for an observed bus is passed over, whether its reason is true or not
+    ∷ holds (Weavable (sevenGrid (3 ∷ [])) (own 3 ∷ near 3 1 ∷ []))
+    -- a false reason for a bus that is not observed
+    ∷ fails (Weavable (sevenGrid (3 ∷ [])) (near 3 1 ∷ own 3 ∷ []))
+    ∷ fails (Weavable (sevenGrid (3 ∷ [])) (zeroAt 1 2 ∷ []))
+    ∷ holds (WeavableFrom (sevenGrid (3 ∷ [])) (set (1 ∷ [])) (zeroAt 1 2 ∷ []))
+    ∷ fails (WeavableFrom (sevenGrid (3 ∷ [])) (set (2 ∷ [])) (zeroAt 1 2 ∷ []))
+    ∷ []
+
+-- ---- shuffles
+
+-- each of a list, and some of a list
+abbrev pub some : List Row
+some =
+    holds (Each (λ n. n ≤ 2) (1 ∷ 2 ∷ []))
+    ∷ fails (Each (λ n. n ≤ 2) (1 ∷ 3 ∷ []))
+    ∷ holds (Some (λ n. n ≤ 2) (3 ∷ 2 ∷ []))
+    ∷ fails (Some (λ n. n ≤ 2) (3 ∷ 4 ∷ []))
+    ∷ fails (Some {A = ℕ} (λ n. n ≤ 2) [])
+    ∷ []
+
+-- two desks
+abbrev pub desks : List (List Step)
+desks = (near 2 3 ∷ own 3 ∷ []) ∷ (own 3 ∷ []) ∷ []
+
+-- lists that have the steps of both desks, and those of each in its order
+abbrev pub shuffles : List Row
+shuffles =
+    holds (Shuffle desks (near 2 3 ∷ own 3 ∷ own 3 ∷ []))
+    ∷ holds (Shuffle desks (own 3 ∷ near 2 3 ∷ own 3 ∷ []))
+    -- a step is lacking
+    ∷ fails (Shuffle desks (near 2 3 ∷ own 3 ∷ []))
+    -- a step is new
+    ∷ fails (Shuffle desks (near 4 3 ∷ near 2 3 ∷ own 3 ∷ own 3 ∷ []))
+    -- the first desk's steps are out of its order
+    ∷ fails (Shuffle desks (own 3 ∷ own 3 ∷ near 2 3 ∷ []))
+    ∷ holds (Shuffle [] [])
+    ∷ holds (Taken (own 3) desks ((near 2 3 ∷ own 3 ∷ []) ∷ [] ∷ []))
+    ∷ fails (Taken (near 4 3) desks desks)
+    ∷ []
+
+-- what demand 3 says of weaving
+abbrev pub demand : List Row
+demand =
+    holds (Woven (sevenGrid (3 ∷ [])) desks (own 3 ∷ near 2 3 ∷ own 3 ∷ []))
+    -- a bus that a desk observed is lacking
+    ∷ fails (Woven (sevenGrid (3 ∷ [])) desks (own 3 ∷ []))
+    -- a bus that no desk observed is reached
+    ∷ fails (Woven (sevenGrid (3 ∷ [])) desks (near 2 3 ∷ own 3 ∷ near 4 3 ∷ []))
+    ∷ []
+
+-- the same of the call, with the records before and after and the answer
+abbrev pub calls : List Row
+calls =
+    holds (Demand3 (caseOf (seven (3 ∷ []))) desks (own 3 ∷ near 2 3 ∷ own 3 ∷ []) (own 7 ∷ own 8 ∷ own 9 ∷ []) (own 3 ∷ near 2 3 ∷ own 9 ∷ []) (wove.Written 2 (wordOf (2 ∷ 3 ∷ []))))
+    -- it never refuses
+    ∷ fails (Demand3 (caseOf (seven (3 ∷ []))) desks (own 3 ∷ near 2 3 ∷ own 3 ∷ []) [] [] (wove.Refused NoRoom))
+    -- nothing is woven
+    ∷ fails (Demand3 (caseOf (seven (3 ∷ []))) desks (own 3 ∷ near 2 3 ∷ own 3 ∷ []) (own 7 ∷ own 8 ∷ []) (own 7 ∷ own 8 ∷ []) (wove.Written 0 0))
+    ∷ []

@@ -1,0 +1,39 @@
+-- What each call on texts promises; for `read_steps` it is `StepsReadReply` (crate taking).
+use mathlib.Core.Path.{_≡_}
+use mathlib.Core.List.{List, [], _∷_, _++_}
+use Prim.Native.Nat.{ℕ, _≤_}
+use lib.ListN.{length, drop}
+use Rattle.grid.specs.declared.Case.{Case}
+use Rattle.grid.specs.Cases.{Valid}
+use Rattle.refusals.specs.Refusals.{Check, check, Passed, Failed}
+use Rattle.case_read.specs.Reading.{readCase}
+use Rattle.case_read.specs.Writing.{caseText}
+use Rattle.case_read.specs.declared.CaseRead.{CaseRead}
+use Rattle.step_text.specs.Steps.{readSteps}
+use Rattle.step_text.specs.declared.StepsRead.{StepsRead}
+use Rattle.text_put.specs.declared.Written.{Written}
+use Rattle.text_put.specs.declared.Written.the-variants as written
+
+-- ---- a case text read: 1, then the first bad line, in it 2, 3, 4
+
+-- the case that the text says, or its refusal
+abbrev pub CaseReadReply : List ℕ → CaseRead → Type 0
+CaseReadReply text r = r ≡ readCase text
+
+-- ---- a case text written into the bytes lent
+
+-- the case is valid, or 5; its text has room, or 6
+abbrev pub writeChecks : Case → List ℕ → List Check
+writeChecks c lent = check (Valid c) 5 0 ∷ check (length (caseText c) ≤ length lent) 6 0 ∷ []
+
+-- the bytes after the text stay as they were; a refusal leaves every byte
+abbrev pub CaseWrittenReply : Case → List ℕ → Written → List ℕ → Type 0
+CaseWrittenReply c lent (written.Bytes k) left =
+    Passed (writeChecks c lent) × (k ≡ length (caseText c)) × (left ≡ caseText c ++ drop (length (caseText c)) lent)
+CaseWrittenReply c lent (written.Refused r) left = Failed (writeChecks c lent) r × (left ≡ lent)
+
+-- ---- a step text checked: 1, then the first bad line, in it 2, 3, 12
+
+-- how many steps the text has, or its refusal
+abbrev pub StepsCheckedReply : List ℕ → StepsRead → Type 0
+StepsCheckedReply text r = r ≡ readSteps text
