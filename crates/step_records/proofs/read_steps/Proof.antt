@@ -71,11 +71,11 @@ use Rattle.taking.proofs.take as take
 use Rattle.taking.proofs.take.Symbol as take-def
 use Rattle.taking.proofs.take.Symbol.{name as #taking·take}
 use Rattle.taking.proofs.take.Met as take-thm
-use Rattle.walking.proofs.StepRow.{step-made, step-typed}
+use Rattle.step.proofs.StepRow.{step-made, step-typed}
 use Rattle.step_records.proofs.Rows.{steps-read-made, steps-read-typed, taken-typed}
-use Rattle.walking.proofs.Calling.{calls-lent, calls-plain}
-use Rattle.walking.proofs.Counting.{next-fits, next-le, nearer, Nearer, nearer-wf, below, above, inside}
-use Rattle.walking.proofs.Walking.{let-go, walk-proves}
+use Rattle.step.proofs.Calling.{calls-lent, calls-plain}
+use Rattle.step.proofs.Counting.{next-fits, next-le, nearer, Nearer, nearer-wf, below, above, inside}
+use Rattle.step.proofs.Walking.{let-go, walk-proves}
 use Rattle.step_records.proofs.read_steps.Key.{name as #step_records·read-steps}
 use Rattle.step_records.proofs.read_steps as f
 use Rattle.step_records.proofs.read_steps.Statement as stated
