@@ -30,7 +30,7 @@ use Rattle.refusals.proofs.Orders.{itself, failed-or-passed, failed-unique}
 use Rattle.grid.proofs.Drawn.{withinTest, rowTest, validTest, valid-passes}
 use Rattle.case_line.specs.Fields.{none}
 use Rattle.step_line.specs.StepLine.{stepWordOf, stepLineOf}
-use Rattle.taking.specs.Taking.{countOf}
+use Rattle.step_text.specs.Taking.{countOf}
 use Rattle.step_text.specs.Steps.{stepLines, readSteps}
 use Rattle.case_read.specs.Reading.{readLines, readText, readCase}
 use Rattle.case_read.specs.Writing.{busRecords, members, lineRecords, linesText}

@@ -8,7 +8,7 @@ use Rattle.refusals.specs.declared.Refusal.the-variants.{WrongForm, OutOfRange,
 use Rattle.text_put.specs.Put.{Put}
 use Rattle.report_lines.specs.Printing.{RefusedText, PrintedReply}
 use Rattle.text_put.specs.declared.Written.the-variants as written
-use Rattle.taking.specs.Taking.{StepsReadReply}
+use Rattle.step_text.specs.Taking.{StepsReadReply}
 use Rattle.step_text.specs.declared.StepsRead.the-variants as steps
 use Rattle.report_day.specs.Day.{Day}
 use Rattle.report_plan.specs.Plan.{Plan}

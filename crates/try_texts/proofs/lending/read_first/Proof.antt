@@ -45,7 +45,7 @@ use Rattle.step.specs.declared.Step.{Step}
 use Rattle.step.proofs.Parted.{Steps, machs, mach, stepsTy, First, Past, Others, Returned, first-long, new-long, as-field, parted, joined}
 use Rattle.step.proofs.Step as T
 use Rattle.step.proofs.Step.Laws as T′
-use Rattle.taking.specs.Taking.{StepsReadReply}
+use Rattle.step_text.specs.Taking.{StepsReadReply}
 use Rattle.step_text.specs.declared.StepsRead.{StepsRead}
 use Rattle.step_text.proofs.StepsRead as O
 use Rattle.step.proofs.StepRow.{step-made}

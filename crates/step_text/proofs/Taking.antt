@@ -14,14 +14,14 @@ use Rattle.step.specs.declared.Step.{Step}
 use Rattle.step.proofs.Records.{put-first}
 use Rattle.refusals.specs.declared.Refusal.{Refusal}
 use Rattle.refusals.specs.declared.Refusal.the-variants.{NoRoom}
 use Rattle.step_text.specs.Steps.{readSteps, stepsIn, stepsFrom, stepsOf, StepHere}
-use Rattle.taking.specs.Taking.{StepAt, withRoom, leaves, StepsReadReply, countOf, Takes}
+use Rattle.step_text.specs.Taking.{StepAt, withRoom, leaves, StepsReadReply, countOf, Takes}
 use Rattle.step_text.specs.declared.StepsRead.{StepsRead}
 use Rattle.step_text.specs.declared.StepsRead.the-variants.{Steps, Refused}
-use Rattle.taking.specs.declared.NextStep.{NextStep}
-use Rattle.taking.specs.declared.NextStep.the-variants.{At, Nothing}
-use Rattle.taking.specs.declared.Taken.{Taken}
+use Rattle.step_text.specs.declared.taking.NextStep.{NextStep}
+use Rattle.step_text.specs.declared.taking.NextStep.the-variants.{At, Nothing}
+use Rattle.step_text.specs.declared.taking.Taken.{Taken}
 use Rattle.step_text.proofs.Found.{not-steps, steps-count}
 
 -- ---- a step taken
 

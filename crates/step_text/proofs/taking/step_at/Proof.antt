@@ -1,7 +1,7 @@
 use Rattle.step_text.proofs.Stepping.{steps-none, steps-said, step-here}
 use borrow.Author.Needs.{needs}
-use Rattle.taking.proofs.step_at.Statement.{statement}
-use Rattle.taking.proofs.step_at.Tie as tie
+use Rattle.step_text.proofs.taking.step_at.Statement.{statement}
+use Rattle.step_text.proofs.taking.step_at.Tie as tie
 
 piece-end-requires : tie.Need-piece-end-requires
 piece-end-requires c κs = search needs

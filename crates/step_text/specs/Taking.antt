@@ -8,12 +8,12 @@ use lib.ListN.{length, drop, getD}
 use Rattle.step.specs.Records.{noStep, written}
 use Rattle.step.specs.declared.Step.{Step}
 use Rattle.refusals.specs.declared.Refusal.the-variants.{NoRoom}
 use Rattle.step_text.specs.Steps.{readSteps, stepsFrom, stepsOf, StepHere}
 use Rattle.step_text.specs.declared.StepsRead.{StepsRead}
 use Rattle.step_text.specs.declared.StepsRead.the-variants.{Steps, Refused}
-use Rattle.taking.specs.declared.NextStep.{NextStep}
-use Rattle.taking.specs.declared.NextStep.the-variants.{At, Nothing}
-use Rattle.taking.specs.declared.Taken.{Taken}
+use Rattle.step_text.specs.declared.taking.NextStep.{NextStep}
+use Rattle.step_text.specs.declared.taking.NextStep.the-variants.{At, Nothing}
+use Rattle.step_text.specs.declared.taking.Taken.{Taken}
 
 -- ---- one step
 

@@ -1,7 +1,7 @@
-use Rattle.taking.proofs.Taking.{takes-past, takes-nothing, takes-step}
+use Rattle.step_text.proofs.Taking.{takes-past, takes-nothing, takes-step}
 use borrow.Author.Needs.{needs}
-use Rattle.taking.proofs.take.Statement.{statement}
-use Rattle.taking.proofs.take.Tie as tie
+use Rattle.step_text.proofs.taking.take.Statement.{statement}
+use Rattle.step_text.proofs.taking.take.Tie as tie
 
 returns : tie.Need-returns
 returns c = takes-past (c .if1 .taken)

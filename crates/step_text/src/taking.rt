@@ -2,14 +2,14 @@
 ghost use mathlib.Core.Path.{_≡_};
 ghost use Prim.Native.Nat.{_≤_};
 ghost use lib.ListN.{length};
 ghost use Rattle.step_text.specs.Steps.{readSteps};
-ghost use Rattle.taking.specs.Taking.{StepAt, Takes, withRoom, countOf};
+ghost use Rattle.step_text.specs.Taking.{StepAt, Takes, withRoom, countOf};
+use crate::StepsRead;
+use crate::check_steps;
 use refusals::Refusal;
 use step::Reason;
 use step::Step;
 use step_line::StepLine;
-use step_text::StepsRead;
-use step_text::check_steps;
 use text_field::piece_end;
 
 // A step, and where the line after it starts.

@@ -1,7 +1,7 @@
-use Rattle.taking.proofs.Taking.{room-short, room-enough, room-refused}
+use Rattle.step_text.proofs.Taking.{room-short, room-enough, room-refused}
 use borrow.Author.Needs.{needs}
-use Rattle.taking.proofs.check_room.Statement.{statement}
-use Rattle.taking.proofs.check_room.Tie as tie
+use Rattle.step_text.proofs.taking.check_room.Statement.{statement}
+use Rattle.step_text.proofs.taking.check_room.Tie as tie
 
 check-steps-requires : tie.Need-check-steps-requires
 check-steps-requires c κs = search needs
