@@ -16,7 +16,7 @@ use Rattle.step_replay.specs.Replying.{TextReplayReply}
 use Rattle.step_replay.specs.declared.TextReplayed.the-variants as replayed
 use Rattle.estimator.specs.Answers.{ObservedFor, UnconfirmedFor, FewestFor, ReplayFor, OfText}
 use Rattle.estimator_reply.specs.Results.{Answered}
-use Rattle.starred.specs.Table.{wordOf}
+use Rattle.tables.specs.Starred.{wordOf}
 use Rattle.tables.specs.Tables.{Row, holds, fails, block}
 use Rattle.tables.specs.Drawings.{own}
 use Rattle.tables.specs.CaseTexts.{input, bareInput}

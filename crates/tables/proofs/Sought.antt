@@ -12,18 +12,18 @@ use Rattle.busset.proofs.Sizes.{size-empty, size-some, one-more}
 use Rattle.step.specs.declared.Reason.{Reason}
 use Rattle.step.specs.declared.Reason.the-variants.{OwnUnit, NeighbourOf, ZeroInjection}
 use Rattle.step.specs.declared.Step.{Step}
 use Rattle.rules.specs.Grids.{Grid, Proper, total}
 use Rattle.rules.specs.Observation.{Least}
 use Rattle.rules.specs.Steps.{reached}
 use Rattle.rules.specs.Confirming.{Confirm, joined, share, Unconfirmed, UnconfirmedSet}
 use Rattle.rules.specs.Placing.{at, Full, Free, SomePlan, Fewest}
 use Rattle.rules.specs.Ways.{NoWay, FirstWay}
 use Rattle.rules.specs.Choosing as choosing
 use Rattle.rules.specs.Choosing.{Greedy}
-use Rattle.rules.proofs.Tests.{total-none, total-pass, gap, gap-none, given, given-passes, holdsTest, leastTest, least-passes}
+use Rattle.tables.proofs.Tests.{total-none, total-pass, gap, gap-none, given, given-passes, holdsTest, leastTest, least-passes}
 use Rattle.rules.proofs.Leasts.{least-unique}
 use Rattle.rules.proofs.Covering.{covers-full, full-covers}
 use Rattle.rules.proofs.Searching.{way-none, no-way-none, no-way-left, first-take, passed-lowest, passed-no, passed-first, NoFewer, no-fewer-none, no-fewer-more, first-fewest, no-plan}
 
 -- ---- what helps to compute
 

@@ -9,10 +9,10 @@ use Rattle.busset.proofs.Tests.{below-or}
 use Rattle.busset.proofs.Digits.{bit-in, bit-zero}
 use Rattle.busset.proofs.Words.{set-bus}
 use Rattle.rules.specs.Grids.{total, lineCount}
-use Rattle.rules.proofs.Tests.{gap, gap-none, total-none}
+use Rattle.tables.proofs.Tests.{gap, gap-none, total-none}
 use Rattle.grid.specs.declared.Case.{Case}
 use Rattle.grid.specs.Cases.{mostBuses, mostLines, neighbours, Valid}
 use Rattle.grid.proofs.Rows.{row-zero, row-past, row-bus}
 
 -- the buses of the word are 1 to n
 unfoldable pub withinTest : ℕ → ℕ → ℕ

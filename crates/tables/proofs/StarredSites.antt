@@ -11,16 +11,16 @@ use Rattle.busset.proofs.Words.{set-bus}
 use Rattle.rules.specs.Grids.{Grid}
 use Rattle.rules.proofs.Choices.{greedy-unique}
 use Rattle.rules.proofs.Ordering.{fewest-some}
-use Rattle.rules.proofs.Sought.{unconfirmedTest, unconfirmed-passes, greedyTest, greedy-passes, none, some, smallest, fewest-passes}
+use Rattle.tables.proofs.Sought.{unconfirmedTest, unconfirmed-passes, greedyTest, greedy-passes, none, some, smallest, fewest-passes}
 use Rattle.refusals.specs.declared.Refusal.the-variants.{NoCover}
 use Rattle.grid.specs.Cases.{gridOf, Valid}
 use Rattle.refusals.proofs.Orders.{itself}
-use Rattle.grid.proofs.Drawn.{withinTest, validTest, valid-passes}
+use Rattle.tables.proofs.Drawn.{withinTest, validTest, valid-passes}
 use Rattle.place_calls.specs.declared.Verdict.the-variants as verdict
 use Rattle.place_calls.specs.declared.Greedy.the-variants as greedy
 use Rattle.place_calls.specs.declared.Fewest.the-variants as fewest
 use Rattle.place_calls.specs.Replies.{VerdictReply, GreedyReply, FewestReply}
-use Rattle.starred.specs.Table.{Drawing, wordOf, caseOf}
+use Rattle.tables.specs.Starred.{Drawing, wordOf, caseOf}
 
 -- ---- a row, from its test
 

@@ -15,14 +15,14 @@ use Rattle.step.specs.declared.Step.{Step}
 use Rattle.rules.specs.Grids.{total}
 use Rattle.rules.specs.Steps.{Names, ReasonNames}
 use Rattle.rules.specs.Figures.{figure}
-use Rattle.rules.proofs.Tests.{gap, gap-none, isOne, given, subTest, holdsTest, acceptedTest, closedTest, leastTest, least-passes, holds-tests}
-use Rattle.rules.proofs.Sought.{Sought, pick, reasonFor, reasonAt, stepFor, passFrom, extended, derive, confirmTest, aloneTest, unconfirmedTest, noBetter, bestTest, noneTest, greedyTest, after, none, some, unsure, judged, judge, orElse, choose, seek, firstOf, smallest}
+use Rattle.tables.proofs.Tests.{gap, gap-none, isOne, given, subTest, holdsTest, acceptedTest, closedTest, leastTest, least-passes, holds-tests}
+use Rattle.tables.proofs.Sought.{Sought, pick, reasonFor, reasonAt, stepFor, passFrom, extended, derive, confirmTest, aloneTest, unconfirmedTest, noBetter, bestTest, noneTest, greedyTest, after, none, some, unsure, judged, judge, orElse, choose, seek, firstOf, smallest}
 use Rattle.refusals.proofs.Orders.{itself}
 use Rattle.grid.specs.Cases.{neighbours, gridOf, Valid}
-use Rattle.grid.proofs.Drawn.{withinTest, rowTest, validTest, valid-passes}
+use Rattle.tables.proofs.Drawn.{withinTest, rowTest, validTest, valid-passes}
 use Rattle.observe_calls.specs.Replies.{stated}
-use Rattle.starred.proofs.SitingRows.{grid, free, verdict-right, greedy-right, fewest-right, uncovered-right}
-use Rattle.starred.specs.Table.{wordOf, caseOf, Row, observes, figures, fails, unconfirmed, adds, fewestIs, uncovered, Right, AllRight, table}
+use Rattle.tables.proofs.StarredSites.{grid, free, verdict-right, greedy-right, fewest-right, uncovered-right}
+use Rattle.tables.specs.Starred.{wordOf, caseOf, Row, observes, figures, fails, unconfirmed, adds, fewestIs, uncovered, Right, AllRight, table}
 
 -- how far two integers are apart
 abbrev gapZ : ℤ → ℤ → ℕ
