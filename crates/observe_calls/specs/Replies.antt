@@ -36,11 +36,11 @@ ObservedReply c (observed.Refused r) = Failed (observedChecks c) r
 
 -- 5; i and j are 1 to n, or 7; they are joined, or 13
 abbrev pub figureChecks : Case → ℕ → ℕ → List Check
-figureChecks c i j = check (Valid c) 5 0 ∷ check (Bus (c .n) i × Bus (c .n) j) 7 0 ∷ check (In (gridOf c .nbr i) j) 13 0 ∷ []
+figureChecks c i j = check (Valid c) 5 0 ∷ check (Bus (c .n) i × Bus (c .n) j) 7 0 ∷ check (In (gridOf c .neighbours i) j) 13 0 ∷ []
 
 -- the figure in the stated set
 abbrev pub FigureReply : Case → ℕ → ℕ → ℕ → Figured → Type 0
-FigureReply c s i j (figured.Figure z) = Passed (figureChecks c i j) × (z ≡ figure (gridOf c .nbr) (stated c s) i j)
+FigureReply c s i j (figured.Figure z) = Passed (figureChecks c i j) × (z ≡ figure (gridOf c .neighbours) (stated c s) i j)
 FigureReply c s i j (figured.Refused r) = Failed (figureChecks c i j) r
 
 -- ---- the test of one step, which is step 1

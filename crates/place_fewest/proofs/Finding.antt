@@ -15,7 +15,7 @@ use Rattle.place_fewest.specs.Answers.{FoundIs}
 use Rattle.place_light.proofs.Lighting.{lit-least}
 
 module _ (g : Grid) {n sites x rest k s t : ℕ} (some : 0 < k) (low : Lowest n sites x) (w : Without sites x rest)
-    (l : Least g s) (lit : Lit (g .nbr) (g .zero) s x t)
+    (l : Least g s) (lit : Lit (g .neighbours) (g .zeros) s x t)
     (r : Found) (f : Least (at g (add (g .units) x)) t → FoundIs (at g (add (g .units) x)) rest (k - 1) r) where
   found : (r′ : Found) → r ≡ r′ → FoundIs (at g (add (g .units) x)) rest (k - 1) r′
   found r′ q = subst (FoundIs (at g (add (g .units) x)) rest (k - 1)) q (f (lit-least l lit))

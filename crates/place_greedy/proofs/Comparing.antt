@@ -38,7 +38,7 @@ pub record Compared (g : Grid) (s left most site : ℕ) : Type 0 where
   pub passed : (y t : ℕ) → Out left y → choosing.With g y t → size t ≤ most
   pub best : SoFar g s most site
 
-pub compared-none : {g : Grid} {s left most : ℕ} → Minus (g .site) (g .units) left → most ≡ size s → Compared g s left most 0
+pub compared-none : {g : Grid} {s left most : ℕ} → Minus (g .sites) (g .units) left → most ≡ size s → Compared g s left most 0
 compared-none m e = record {
   free = λ y h. record { site = omega (arith, m .at y); bare = omega (arith, m .at y) };
   base = omega arith;
@@ -98,7 +98,7 @@ pub compared-to : {g : Grid} {s left most site most′ site′ : ℕ} → Compar
 compared-to {g} {s} {left} {most} {site} {most′} {site′} c p q = subst⁻¹ (λ (x : ℕ). Compared g s left most′ x) p (subst⁻¹ (λ (m : ℕ). Compared g s left m site) q c)
 
 -- the best site is a site
-pub chosen-site : (g : Grid) (x : ℕ) → ChosenIs g x → (x ≡ 0 → ⊥) → In (g .site) x
+pub chosen-site : (g : Grid) (x : ℕ) → ChosenIs g x → (x ≡ 0 → ⊥) → In (g .sites) x
 chosen-site g zero b ne = absurd (ne refl)
 chosen-site g (suc i) b ne = b .with .free .site
 

@@ -18,7 +18,7 @@ pub struct Order {
 
 // The free site that makes the observed set largest where s is observed, the lowest number on a tie; 0 where none adds a bus.
 pub fn best(nbr: &[BusSet; 64], zero: BusSet, s: BusSet, free: BusSet) -> usize
-    ensures { λ r. ⌜ ((n : ℕ) → Whatever n (neighbours (now (nbr .entry))) (setOf zero) (λ g. Minus (g .site) (g .units) (setOf free) → Least g (setOf s) → ChosenIs g r)) ⌝ }
+    ensures { λ r. ⌜ ((n : ℕ) → Whatever n (neighbours (now (nbr .entry))) (setOf zero) (λ g. Minus (g .sites) (g .units) (setOf free) → Least g (setOf s) → ChosenIs g r)) ⌝ }
 {
     let mut site: usize = 0;
     let mut most = busset::count(s);

@@ -50,7 +50,7 @@ pub record DayReport (c : Case) (t : List ℕ) : Type 0 where
   pub steps : List Step
   pub derived : Derivation (gridOf c) steps
   pub unconfirmed : ℕ
-  pub verdict : UnconfirmedSet (gridOf c .nbr) (gridOf c .units) unconfirmed
+  pub verdict : UnconfirmedSet (gridOf c .neighbours) (gridOf c .units) unconfirmed
   pub is : t ≡ dayText (size observed) (c .n) steps (size unconfirmed)
 
 -- by what reading says: the report of the case, or the refusal

@@ -137,7 +137,7 @@ no-fewer-more {g} {free} {k} h n = record {
   low = λ j l. ⊎-elim (λ (m : j < k). h .low j m) (λ (m : k ≤ j). let e : j ≡ k = omega arith in subst⁻¹ (NoWay g free) e n) (below-or j k);
 }
 
-module _ {g : Grid} {free : ℕ} (m : Minus (g .site) (g .units) free) where
+module _ {g : Grid} {free : ℕ} (m : Minus (g .sites) (g .units) free) where
   -- a plan is a way of as many sites as it has
   plan-way : {budget : ℕ} {xs : List ℕ} → Plan g budget xs → Way g free (length xs) xs
   plan-way {xs = xs} p = record {

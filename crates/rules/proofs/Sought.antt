@@ -91,7 +91,7 @@ seenTest g = leastTest g (derived g) (seen g)
 seen-least : (g : Grid) → Proper g → seenTest g ≡ 0 → Least g (seen g)
 seen-least g v e = least-passes g (derived g) (seen g) v e
 
-proper-with : {g : Grid} (x : ℕ) → Proper g → In (g .site) x → Proper (at g (add (g .units) x))
+proper-with : {g : Grid} (x : ℕ) → Proper g → In (g .sites) x → Proper (at g (add (g .units) x))
 proper-with {g} x v h = record {
   lines = v .lines;
   zeros = v .zeros;
@@ -103,7 +103,7 @@ proper-with {g} x v h = record {
 
 -- whether a unit at a, which is not b, confirms one at b
 unfoldable pub confirmTest : Grid → ℕ → ℕ → ℕ
-confirmTest g b a = given (bit (g .units) a) (given (gap a b) (bit (g .nbr a) b + size (meet (g .nbr a) (g .nbr b))))
+confirmTest g b a = given (bit (g .units) a) (given (gap a b) (bit (g .neighbours a) b + size (meet (g .neighbours a) (g .neighbours b))))
 
 -- 1 where no other unit confirms the one at b
 unfoldable pub aloneTest : Grid → ℕ → ℕ
@@ -117,49 +117,49 @@ module _ (g : Grid) (v : Proper g) where
   unfolding gap
   apart a b ne = ⊎-elim (λ (l : a < b). omega arith) (λ (l : b ≤ a). ⊎-elim (λ (m : b < a). omega arith) (λ (m : a ≤ b). absurd (ne (omega arith))) (below-or b a)) (below-or a b)
 
-  alone-none : (b : ℕ) → total (g .n) (confirmTest g b) ≡ 0 → (a : ℕ) → In (g .units) a → (a ≡ b → ⊥) → Confirm (g .nbr) a b → ⊥
+  alone-none : (b : ℕ) → total (g .n) (confirmTest g b) ≡ 0 → (a : ℕ) → In (g .units) a → (a ≡ b → ⊥) → Confirm (g .neighbours) a b → ⊥
   unfolding confirmTest
   alone-none b e a u ne c =
       go c
-      (given-some (gap a b) (bit (g .nbr a) b + size (meet (g .nbr a) (g .nbr b))) (apart a b ne)
-      (given-passes (bit (g .units) a) (given (gap a b) (bit (g .nbr a) b + size (meet (g .nbr a) (g .nbr b)))) u (total-none (g .n) (confirmTest g b) e a (v .units a u))))
+      (given-some (gap a b) (bit (g .neighbours a) b + size (meet (g .neighbours a) (g .neighbours b))) (apart a b ne)
+      (given-passes (bit (g .units) a) (given (gap a b) (bit (g .neighbours a) b + size (meet (g .neighbours a) (g .neighbours b)))) u (total-none (g .n) (confirmTest g b) e a (v .units a u))))
     where
-      go : Confirm (g .nbr) a b → bit (g .nbr a) b + size (meet (g .nbr a) (g .nbr b)) ≡ 0 → ⊥
+      go : Confirm (g .neighbours) a b → bit (g .neighbours a) b + size (meet (g .neighbours a) (g .neighbours b)) ≡ 0 → ⊥
       go (joined j) z = omega arith
-      go (share x j k) z = omega (arith, size-some (meet (g .nbr a) (g .nbr b)) x (let m = meet-at (g .nbr a) (g .nbr b) x in omega arith))
+      go (share x j k) z = omega (arith, size-some (meet (g .neighbours a) (g .neighbours b)) x (let m = meet-at (g .neighbours a) (g .neighbours b) x in omega arith))
 
-  alone-all : (b : ℕ) → Unconfirmed (g .nbr) (g .units) b → total (g .n) (confirmTest g b) ≡ 0
+  alone-all : (b : ℕ) → Unconfirmed (g .neighbours) (g .units) b → total (g .n) (confirmTest g b) ≡ 0
   unfolding confirmTest gap
   alone-all b u = total-pass (g .n) (confirmTest g b)
-      (λ a. given-none (bit (g .units) a) (given (gap a b) (bit (g .nbr a) b + size (meet (g .nbr a) (g .nbr b))))
-      (λ h. given-none (gap a b) (bit (g .nbr a) b + size (meet (g .nbr a) (g .nbr b))) (λ d. none a (omega arith) (λ e. omega arith))))
+      (λ a. given-none (bit (g .units) a) (given (gap a b) (bit (g .neighbours a) b + size (meet (g .neighbours a) (g .neighbours b))))
+      (λ h. given-none (gap a b) (bit (g .neighbours a) b + size (meet (g .neighbours a) (g .neighbours b))) (λ d. none a (omega arith) (λ e. omega arith))))
     where
-      none : (a : ℕ) → In (g .units) a → (a ≡ b → ⊥) → bit (g .nbr a) b + size (meet (g .nbr a) (g .nbr b)) ≡ 0
+      none : (a : ℕ) → In (g .units) a → (a ≡ b → ⊥) → bit (g .neighbours a) b + size (meet (g .neighbours a) (g .neighbours b)) ≡ 0
       none a h ne =
-          let far = out-of (g .nbr a) b (λ j. u .none a h ne (joined j)) in
-          let nothing = empty-of (meet (g .nbr a) (g .nbr b))
-          (λ x. out-of (meet (g .nbr a) (g .nbr b)) x
-          (λ m. u .none a h ne (share x (let e = meet-at (g .nbr a) (g .nbr b) x in omega arith) (let e = meet-at (g .nbr a) (g .nbr b) x in omega arith)))) in
+          let far = out-of (g .neighbours a) b (λ j. u .none a h ne (joined j)) in
+          let nothing = empty-of (meet (g .neighbours a) (g .neighbours b))
+          (λ x. out-of (meet (g .neighbours a) (g .neighbours b)) x
+          (λ m. u .none a h ne (share x (let e = meet-at (g .neighbours a) (g .neighbours b) x in omega arith) (let e = meet-at (g .neighbours a) (g .neighbours b) x in omega arith)))) in
           omega (arith, ap size nothing, size-empty)
 
-  pub unconfirmed-passes : (s : ℕ) → Within (g .n) s → unconfirmedTest g s ≡ 0 → UnconfirmedSet (g .nbr) (g .units) s
+  pub unconfirmed-passes : (s : ℕ) → Within (g .n) s → unconfirmedTest g s ≡ 0 → UnconfirmedSet (g .neighbours) (g .units) s
   unfolding unconfirmedTest aloneTest given
   unconfirmed-passes s w e = record { all = all; only = only }
     where
       at-bus : (b : ℕ) → Bus (g .n) b → bit s b ≡ aloneTest g b
       at-bus b h = gap-none (bit s b) (aloneTest g b) (total-none (g .n) (λ b. gap (bit s b) (aloneTest g b)) e b h)
 
-      all : (b : ℕ) → Unconfirmed (g .nbr) (g .units) b → In s b
+      all : (b : ℕ) → Unconfirmed (g .neighbours) (g .units) b → In s b
       all b u = at-bus b (v .units b (u .unit)) ∙ go (bit (g .units) b) refl
         where
           go : (d : ℕ) → bit (g .units) b ≡ d → given d (1 - total (g .n) (confirmTest g b)) ≡ 1
           go zero q = absurd (omega (arith, u .unit))
           go (suc d) q = omega (arith, alone-all b u)
 
-      only : (b : ℕ) → In s b → Unconfirmed (g .nbr) (g .units) b
+      only : (b : ℕ) → In s b → Unconfirmed (g .neighbours) (g .units) b
       only b h = go (bit (g .units) b) refl (sym (at-bus b (w b h)) ∙ h)
         where
-          go : (d : ℕ) → bit (g .units) b ≡ d → given d (1 - total (g .n) (confirmTest g b)) ≡ 1 → Unconfirmed (g .nbr) (g .units) b
+          go : (d : ℕ) → bit (g .units) b ≡ d → given d (1 - total (g .n) (confirmTest g b)) ≡ 1 → Unconfirmed (g .neighbours) (g .units) b
           go zero q r = absurd (omega arith)
           go (suc d) q r = record { unit = omega arith; none = alone-none b (omega arith) }
 
@@ -167,13 +167,13 @@ module _ (g : Grid) (v : Proper g) where
 
 -- how far from allowed, observed and no better than `most` a unit at y is: 0 where y is not free, or with it at most `most` buses are observed
 unfoldable pub noBetter : Grid → ℕ → ℕ → ℕ
-noBetter g most y = given (bit (g .site) y - bit (g .units) y) (seenTest (at g (add (g .units) y)) + (size (seen (at g (add (g .units) y))) - most))
+noBetter g most y = given (bit (g .sites) y - bit (g .units) y) (seenTest (at g (add (g .units) y)) + (size (seen (at g (add (g .units) y))) - most))
 
 -- x is the best site
 unfoldable pub bestTest : Grid → ℕ → ℕ
 bestTest g x =
     let most = size (seen (at g (add (g .units) x))) in
-    seenTest g + (1 - (bit (g .site) x - bit (g .units) x)) + seenTest (at g (add (g .units) x)) + (suc (size (seen g)) - most)
+    seenTest g + (1 - (bit (g .sites) x - bit (g .units) x)) + seenTest (at g (add (g .units) x)) + (suc (size (seen g)) - most)
     + total (g .n) (noBetter g most) + total (x - 1) (noBetter g (most - 1))
 
 -- no site adds a bus
@@ -190,7 +190,7 @@ greedyTest g (suc k) (x ∷ xs) = bestTest g x + greedyTest (at g (add (g .units
 no-better : (g : Grid) (most y t : ℕ) → Proper g → noBetter g most y ≡ 0 → choosing.With g y t → size t ≤ most
 unfolding noBetter
 no-better g most y t v e w =
-    let f = given-some (bit (g .site) y - bit (g .units) y) (seenTest (at g (add (g .units) y)) + (size (seen (at g (add (g .units) y))) - most)) (let a = w .free .site in let b = w .free .bare in omega arith) e in
+    let f = given-some (bit (g .sites) y - bit (g .units) y) (seenTest (at g (add (g .units) y)) + (size (seen (at g (add (g .units) y))) - most)) (let a = w .free .site in let b = w .free .bare in omega arith) e in
     let l = seen-least (at g (add (g .units) y)) (proper-with y v (w .free .site)) (omega arith) in
     omega (arith, ap size (least-unique (at g (add (g .units) y)) t (seen (at g (add (g .units) y))) (w .observed) l))
 
@@ -323,7 +323,7 @@ seek-turn g free x k (suc d) (some m) b e ha hb =
     first-take (after-lowest x free (omega arith)) (after-without x free (omega arith)) (omega arith) (subst⁻¹ (λ (j : ℕ). FirstWay (at g (add (g .units) (suc x))) (after (suc x) free) j m) (less-one k) (ha (omega arith)))
 seek-turn g free x k (suc d) unsure b e ha hb = tt
 
-seek-right : (g : Grid) (free f x k : ℕ) → Proper g → Within (g .n) free → Sub free (g .site) → g .n ≤ x + f → SoughtIs g (after x free) k (seek g free f x k)
+seek-right : (g : Grid) (free f x k : ℕ) → Proper g → Within (g .n) free → Sub free (g .sites) → g .n ≤ x + f → SoughtIs g (after x free) k (seek g free f x k)
 unfolding seek
 seek-right g free f x zero v w s l = judge-right g (after x free) v
 seek-right g free zero x (suc k) v w s l = no-way-left (empty-of (after x free) gone) (omega arith)
@@ -352,7 +352,7 @@ unfoldable pub smallest : Grid → ℕ → ℕ → ℕ → Sought
 smallest g free zero k = none
 smallest g free (suc j) k = firstOf (seek g free (g .n) 0 k) (smallest g free j (k + 1))
 
-module _ (g : Grid) (v : Proper g) (free : ℕ) (m : Minus (g .site) (g .units) free) where
+module _ (g : Grid) (v : Proper g) (free : ℕ) (m : Minus (g .sites) (g .units) free) where
   whole : after 0 free ≡ free
   whole = ext (after 0 free) free (λ b. ⊎-elim (λ (l : 0 < b). after-in 0 free b l) (λ (l : b ≤ 0). let e : b ≡ 0 = omega arith in after-out 0 free b l ∙ sym (out-of free b (λ h. let bus = v .sites b (omega (arith, m .at b)) .some in omega arith))) (below-or 0 b))
 

@@ -12,7 +12,7 @@ use Rattle.rules.specs.Observation.{Closed}
 
 -- g with the units u
 abbrev pub at : Grid → ℕ → Grid
-at g u = record { n = g .n; nbr = g .nbr; zero = g .zero; site = g .site; units = u }
+at g u = record { n = g .n; neighbours = g .neighbours; zeros = g .zeros; sites = g .sites; units = u }
 
 -- s has all n buses
 abbrev pub Full : ℕ → ℕ → Type 0
@@ -26,7 +26,7 @@ Covers g u = (s : ℕ) → Closed (at g u) s → Full (g .n) s
 
 -- a new unit may go on x: a Y site without a unit
 pub record Free (g : Grid) (x : ℕ) : Type 0 where
-  pub site : In (g .site) x
+  pub site : In (g .sites) x
   pub bare : Out (g .units) x
 
 -- a rising list of numbers above `low`, and P holds of each

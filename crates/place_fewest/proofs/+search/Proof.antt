@@ -73,7 +73,7 @@ abbrev entry : {t : ℕ} → search-lts.At-loop (calls t) (search-at t) search�
 entry l = l .before .before
 
 abbrev asked : {t : ℕ} → search-lts.Start (calls t) (search-at t) search′.Post search-Inv-loop search-μ-loop → ℕ → ℕ → Grid
-asked s sites units = record { n = s .args .n; nbr = neighbours (s .args .nbr .now); zero = setOf (s .args .zero); site = sites; units = units }
+asked s sites units = record { n = s .args .n; neighbours = neighbours (s .args .nbr .now); zeros = setOf (s .args .zero); sites = sites; units = units }
 
 -- the turn that a recursive call belongs to
 abbrev turn : {t : ℕ} → search-lts.After-lit (calls t) (search-at t) search′.Post search-Inv-loop search-μ-loop → search-lts.At-loop (calls t) (search-at t) search′.Post search-Inv-loop search-μ-loop
