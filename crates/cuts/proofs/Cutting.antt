@@ -10,7 +10,7 @@ use Rattle.busset.proofs.Members.{in-or}
 use Rattle.busset.proofs.Sizes.{size-some}
 use Rattle.rules.specs.Grids.{Grid}
 use Rattle.rules.specs.Observation.{Closed}
-use Rattle.rules.specs.Placing.{at, Full}
+use Rattle.rules.specs.Placing.{withUnits, Full}
 use Rattle.rules.specs.Ways.{NoCover, Spared}
 use Rattle.rules.specs.Blocking.{Idle}
 use Rattle.rules.proofs.Blocks.{cover-less, cover-not-idle}
@@ -18,7 +18,7 @@ use Rattle.place_light.proofs.Sparing.{without-less, without-out}
 
 -- x is tried, and left out where it does not help
 module _ {sites x rest : ℕ} (w : Without sites x rest) where
-  pub spared-tried : {g : Grid} {k : ℕ} → 0 < k → NoCover (at g (add (g .units) x)) rest (k - 1) → Spared g sites k rest
+  pub spared-tried : {g : Grid} {k : ℕ} → 0 < k → NoCover (withUnits g (add (g .units) x)) rest (k - 1) → Spared g sites k rest
   spared-tried p with-it without v c =
       ⊎-elim
       (λ (h : In v x). with-it (less v x) (cover-less x c h (without-less w v (c .of)) p))

@@ -11,7 +11,7 @@ use Rattle.busset.proofs.Digits.{bit-zero}
 use Rattle.busset.proofs.Members.{without-of, without-sub}
 use Rattle.rules.specs.Grids.{Grid}
 use Rattle.rules.specs.Observation.{Least}
-use Rattle.rules.specs.Placing.{at, Free}
+use Rattle.rules.specs.Placing.{withUnits, Free}
 use Rattle.rules.specs.Choosing.{Greedy}
 use Rattle.rules.specs.Choosing as choosing
 use Rattle.rules.proofs.Leasts.{least-unique}
@@ -48,9 +48,9 @@ compared-none m e = record {
 
 -- one site more: x, with which t is observed
 module _ {g : Grid} {n s left most site x rest t m : ℕ} (c : Compared g s left most site) (low : Lowest n left x) (w : Without left x rest)
-    (l : Least (at g (add (g .units) x)) t) (e : m ≡ size t) where
+    (l : Least (withUnits g (add (g .units) x)) t) (e : m ≡ size t) where
   same : (v : ℕ) → choosing.With g x v → size v ≡ m
-  same v h = ap size (least-unique (at g (add (g .units) x)) v t (h .observed) l) ∙ sym e
+  same v h = ap size (least-unique (withUnits g (add (g .units) x)) v t (h .observed) l) ∙ sym e
 
   freed : (y : ℕ) → In rest y → Free g y
   freed y h = c .free y (omega (arith, without-sub w y))
@@ -108,8 +108,8 @@ chosen-site g (suc i) b ne = b .with .free .site
 pub record Adding (g : Grid) (budget count u s : ℕ) (sites : List ℕ) : Type 0 where
   pub room : length sites ≡ 64
   pub most : count ≤ budget
-  pub least : Least (at g u) s
-  pub rest : (ys : List ℕ) → Greedy (at g u) (budget - count) ys → Greedy g budget (take count sites ++ ys)
+  pub least : Least (withUnits g u) s
+  pub rest : (ys : List ℕ) → Greedy (withUnits g u) (budget - count) ys → Greedy g budget (take count sites ++ ys)
 
 pub adding-none : {g : Grid} {s : ℕ} (budget : ℕ) {sites : List ℕ} → length sites ≡ 64 → Least g s → Adding g budget 0 (g .units) s sites
 adding-none {g} budget r l = record { room = r; most = omega arith; least = l; rest = λ ys h. subst (λ (k : ℕ). Greedy g k ys) (whole budget) h }
@@ -118,13 +118,13 @@ adding-none {g} budget r l = record { room = r; most = omega arith; least = l; r
     whole budget = omega arith
 
 pub adding-more : {g : Grid} {budget count u s v t : ℕ} {sites : List ℕ} (x : ℕ) → Adding g budget count u s sites → count < budget → count < 64
-    → (x ≡ 0 → ⊥) → ChosenIs (at g u) x → v ≡ add u x → Least (at g (add u x)) t → Adding g budget (count + 1) v t (set sites count x)
+    → (x ≡ 0 → ⊥) → ChosenIs (withUnits g u) x → v ≡ add u x → Least (withUnits g (add u x)) t → Adding g budget (count + 1) v t (set sites count x)
 adding-more zero a l r ne b e lt = absurd (ne refl)
 adding-more {g} {budget} {count} {u} {s} {v} {t} {sites} (suc i) a l r ne b e lt = record {
   room = simp length-set (a .room);
   most = omega arith;
-  least = subst⁻¹ (λ (w : ℕ). Least (at g w) t) e lt;
-  rest = λ ys h. subst (Greedy g budget) (moved ys) (a .rest (suc i ∷ ys) (subst⁻¹ (λ (k : ℕ). Greedy (at g u) k (suc i ∷ ys)) left (b, subst (λ (w : ℕ). Greedy (at g w) (budget - (count + 1)) ys) e h)));
+  least = subst⁻¹ (λ (w : ℕ). Least (withUnits g w) t) e lt;
+  rest = λ ys h. subst (Greedy g budget) (moved ys) (a .rest (suc i ∷ ys) (subst⁻¹ (λ (k : ℕ). Greedy (withUnits g u) k (suc i ∷ ys)) left (b, subst (λ (w : ℕ). Greedy (withUnits g w) (budget - (count + 1)) ys) e h)));
 }
   where
     left : budget - count ≡ suc (budget - (count + 1))
@@ -137,11 +137,11 @@ adding-more {g} {budget} {count} {u} {s} {v} {t} {sites} (suc i) a l r ne b e lt
         ∙ ap (λ (k : ℕ). take k (set sites count (suc i)) ++ ys) (sym (add-one count))
 
 -- it stops where no site adds a bus
-pub adding-stop : {g : Grid} {budget count u s : ℕ} {sites : List ℕ} (x : ℕ) → Adding g budget count u s sites → count < budget → x ≡ 0 → ChosenIs (at g u) x → Listed g budget count sites
+pub adding-stop : {g : Grid} {budget count u s : ℕ} {sites : List ℕ} (x : ℕ) → Adding g budget count u s sites → count < budget → x ≡ 0 → ChosenIs (withUnits g u) x → Listed g budget count sites
 adding-stop {g} {budget} {count} {u} {s} {sites} zero a l e none = record {
   room = a .room;
   most = a .most;
-  greedy = subst (Greedy g budget) (append-nil (take count sites)) (a .rest [] (subst⁻¹ (λ (k : ℕ). Greedy (at g u) k []) left none));
+  greedy = subst (Greedy g budget) (append-nil (take count sites)) (a .rest [] (subst⁻¹ (λ (k : ℕ). Greedy (withUnits g u) k []) left none));
 }
   where
     left : budget - count ≡ suc (budget - (count + 1))
@@ -153,7 +153,7 @@ pub adding-all : {g : Grid} {budget count u s : ℕ} {sites : List ℕ} → Addi
 adding-all {g} {budget} {count} {u} {s} {sites} a l = record {
   room = a .room;
   most = a .most;
-  greedy = subst (Greedy g budget) (append-nil (take count sites)) (a .rest [] (subst⁻¹ (λ (k : ℕ). Greedy (at g u) k []) spent tt));
+  greedy = subst (Greedy g budget) (append-nil (take count sites)) (a .rest [] (subst⁻¹ (λ (k : ℕ). Greedy (withUnits g u) k []) spent tt));
 }
   where
     spent : budget - count ≡ 0

@@ -10,7 +10,7 @@ use Rattle.busset.proofs.Tests.{decides-by}
 use Rattle.busset.proofs.Members.{sub-of, add-of, add-sub, add-here, add-grows, with-add}
 use Rattle.rules.specs.Grids.{Grid}
 use Rattle.rules.specs.Observation.{Closed, Least}
-use Rattle.rules.specs.Placing.{at, Full}
+use Rattle.rules.specs.Placing.{withUnits, Full}
 use Rattle.rules.specs.Blocking.{Idle}
 use Rattle.rules.proofs.Covering.{closed-fewer}
 use Rattle.observe.specs.Passes.{Started, AllFired, Swept}
@@ -57,7 +57,7 @@ lit-by {nbr} {zeros} {s} {x} {m} {here} {t} {r} e w j sp = record {
         subst⁻¹ (λ (y : ℕ). Sub y v) (with-add w) (add-sub m v x (λ b. omega (arith, near b, ap (λ (y : ℕ). bit y b) e)) own)
 
 -- where s is observed, what is lit is observed with the new unit
-pub lit-least : {g : Grid} {s x r : ℕ} → Least g s → Lit (g .neighbours) (g .zeros) s x r → Least (at g (add (g .units) x)) r
+pub lit-least : {g : Grid} {s x r : ℕ} → Least g s → Lit (g .neighbours) (g .zeros) s x r → Least (withUnits g (add (g .units) x)) r
 lit-least {g} {s} {x} {r} l li = record {
   closed = record { o1 = record { own = λ b h. both b h .own; near = λ b h. both b h .near }; o2 = li .fired };
   least = λ t cl. li .least t (l .least t (closed-fewer g (add-grows (g .units) x) cl))

@@ -12,7 +12,7 @@ use Rattle.busset.proofs.Members.{in-or, out-of, sub-of, lack-at, less-there, m
 use Rattle.busset.proofs.Sizes.{size-empty, size-le, size-same, size-add, size-less}
 use Rattle.rules.specs.Grids.{Grid, Proper}
 use Rattle.rules.specs.Observation.{Closed, Least}
-use Rattle.rules.specs.Placing.{at, Full, placed}
+use Rattle.rules.specs.Placing.{withUnits, Full, placed}
 use Rattle.rules.specs.Ways.{Way, NoWay, Cover, NoCover, Spared}
 use Rattle.rules.specs.Blocking.{Misses, Blocking, Idle, Group}
 use Rattle.rules.proofs.Covering.{closed-fewer, placed-of, placed-max}
@@ -150,7 +150,7 @@ grouped-lacks gr lacks v w = cover-not-idle w (gr .closed) lacks (λ x h. gr .id
 -- ---- one site, in a cover or not
 
 -- a cover that has x is, without it, a cover of what is left to place once x has a unit
-pub cover-less : {g : Grid} {sites rest k v : ℕ} (x : ℕ) → Cover g sites k v → In v x → Sub (less v x) rest → 0 < k → Cover (at g (add (g .units) x)) rest (k - 1) (less v x)
+pub cover-less : {g : Grid} {sites rest k v : ℕ} (x : ℕ) → Cover g sites k v → In v x → Sub (less v x) rest → 0 < k → Cover (withUnits g (add (g .units) x)) rest (k - 1) (less v x)
 cover-less {g} {sites} {rest} {k} {v} x w h sub p = record {
   of = sub;
   few = omega (arith, size-less v x h, w .few);

@@ -4,12 +4,12 @@ use Prim.Native.Nat.{ℕ, zero, suc, _≤_, _<_}
 use Rattle.busset.specs.Sets.{size, add}
 use Rattle.rules.specs.Grids.{Grid}
 use Rattle.rules.specs.Observation.{Least}
-use Rattle.rules.specs.Placing.{at, Free}
+use Rattle.rules.specs.Placing.{withUnits, Free}
 
 -- a new unit may go on x, and t is observed with it
 pub record With (g : Grid) (x t : ℕ) : Type 0 where
   pub free : Free g x
-  pub observed : Least (at g (add (g .units) x)) t
+  pub observed : Least (withUnits g (add (g .units) x)) t
 
 -- a new unit on x makes the observed set largest, and x has the lowest number on a tie; it adds a bus
 pub record Best (g : Grid) (x : ℕ) : Type 0 where
@@ -30,4 +30,4 @@ abbrev pub Greedy : Grid → ℕ → List ℕ → Type 0
 Greedy g zero [] = Unit {0}
 Greedy g zero (x ∷ xs) = ⊥
 Greedy g (suc budget) [] = NoneAdds g
-Greedy g (suc budget) (x ∷ xs) = Best g x × Greedy (at g (add (g .units) x)) budget xs
+Greedy g (suc budget) (x ∷ xs) = Best g x × Greedy (withUnits g (add (g .units) x)) budget xs

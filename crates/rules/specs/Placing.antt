@@ -11,8 +11,8 @@ use Rattle.rules.specs.Observation.{Closed}
 -- ---- other units
 
 -- g with the units u
-abbrev pub at : Grid → ℕ → Grid
-at g u = record { n = g .n; neighbours = g .neighbours; zeros = g .zeros; sites = g .sites; units = u }
+abbrev pub withUnits : Grid → ℕ → Grid
+withUnits g u = record { n = g .n; neighbours = g .neighbours; zeros = g .zeros; sites = g .sites; units = u }
 
 -- s has all n buses
 abbrev pub Full : ℕ → ℕ → Type 0
@@ -20,7 +20,7 @@ Full n s = (b : ℕ) → Bus n b → In s b
 
 -- the units u make all n buses observed: every set that satisfies both rules has them
 abbrev pub Covers : Grid → ℕ → Type 0
-Covers g u = (s : ℕ) → Closed (at g u) s → Full (g .n) s
+Covers g u = (s : ℕ) → Closed (withUnits g u) s → Full (g .n) s
 
 -- ---- additions
 
