@@ -4,7 +4,7 @@ use mathlib.Core.List.{List, [], _∷_}
 use Prim.Native.Nat.{ℕ}
 use Rattle.busset.specs.Sets.{Bus, In, Out, upTo, setOf}
 use Rattle.step.specs.declared.Step.{Step}
-use Rattle.rules.specs.Observation.{Least}
+use Rattle.rules.specs.Observation.{ObservedSet}
 use Rattle.rules.specs.Steps.{Holds, Names}
 use Rattle.rules.specs.Figures.{figure}
 use Rattle.grid.specs.declared.Case.{Case}
@@ -29,7 +29,7 @@ observedChecks c = check (Valid c) 5 0 ∷ []
 
 -- the least set that satisfies both rules
 abbrev pub ObservedReply : Case → Observed → Type 0
-ObservedReply c (observed.Set s) = Passed (observedChecks c) × Least (gridOf c) (setOf s)
+ObservedReply c (observed.Set s) = Passed (observedChecks c) × ObservedSet (gridOf c) (setOf s)
 ObservedReply c (observed.Refused r) = Failed (observedChecks c) r
 
 -- ---- the firing figure of bus i towards j

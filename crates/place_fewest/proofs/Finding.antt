@@ -4,7 +4,7 @@ use Prim.Native.Nat.{ℕ, _-_, _<_}
 use Rattle.busset.specs.Sets.{Lowest, With, Without, add, setOf}
 use Rattle.busset.proofs.Members.{with-add}
 use Rattle.rules.specs.Grids.{Grid}
-use Rattle.rules.specs.Observation.{Least}
+use Rattle.rules.specs.Observation.{ObservedSet}
 use Rattle.rules.specs.Placing.{withUnits}
 use Rattle.rules.specs.Ways.{FirstWay}
 use Rattle.rules.proofs.Searching.{Passed, first-take, passed-lowest}
@@ -15,8 +15,8 @@ use Rattle.place_fewest.specs.Answers.{FoundIs}
 use Rattle.place_light.proofs.Lighting.{lit-least}
 
 module _ (g : Grid) {n sites x rest k s t : ℕ} (some : 0 < k) (low : Lowest n sites x) (w : Without sites x rest)
-    (l : Least g s) (lit : Lit (g .neighbours) (g .zeros) s x t)
-    (r : Found) (f : Least (withUnits g (add (g .units) x)) t → FoundIs (withUnits g (add (g .units) x)) rest (k - 1) r) where
+    (l : ObservedSet g s) (lit : Lit (g .neighbours) (g .zeros) s x t)
+    (r : Found) (f : ObservedSet (withUnits g (add (g .units) x)) t → FoundIs (withUnits g (add (g .units) x)) rest (k - 1) r) where
   found : (r′ : Found) → r ≡ r′ → FoundIs (withUnits g (add (g .units) x)) rest (k - 1) r′
   found r′ q = subst (FoundIs (withUnits g (add (g .units) x)) rest (k - 1)) q (f (lit-least l lit))
 

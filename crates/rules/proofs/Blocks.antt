@@ -11,7 +11,7 @@ use Rattle.busset.proofs.Digits.{bit-zero}
 use Rattle.busset.proofs.Members.{in-or, out-of, sub-of, lack-at, less-there, meet-at, add-here, add-grows, add-again}
 use Rattle.busset.proofs.Sizes.{size-empty, size-le, size-same, size-add, size-less}
 use Rattle.rules.specs.Grids.{Grid, Proper}
-use Rattle.rules.specs.Observation.{Closed, Least}
+use Rattle.rules.specs.Observation.{Closed, ObservedSet}
 use Rattle.rules.specs.Placing.{withUnits, Full, placed}
 use Rattle.rules.specs.Ways.{Way, NoWay, Cover, NoCover, Spared}
 use Rattle.rules.specs.Blocking.{Misses, Blocking, Idle, Group}
@@ -44,7 +44,7 @@ module _ {g : Grid} {a : ℕ} (all : All (g .n) a) where
   }
 
   -- so a bus of a blocking set is not observed, and the unobserved buses are a blocking set
-  pub blocked-unobserved : (v : Proper g) {s d : ℕ} → Least g s → Blocking g d → (b : ℕ) → In d b → Out s b
+  pub blocked-unobserved : (v : Proper g) {s d : ℕ} → ObservedSet g s → Blocking g d → (b : ℕ) → In d b → Out s b
   blocked-unobserved v {s} {d} l bl b h =
       out-of s b (λ p. omega (arith, l .least (lack a d) (blocks-closed v bl) b, lack-at a d b))
 

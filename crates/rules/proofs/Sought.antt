@@ -13,7 +13,7 @@ use Rattle.step.specs.declared.Reason.{Reason}
 use Rattle.step.specs.declared.Reason.the-variants.{OwnUnit, NeighbourOf, ZeroInjection}
 use Rattle.step.specs.declared.Step.{Step}
 use Rattle.rules.specs.Grids.{Grid, Proper, total}
-use Rattle.rules.specs.Observation.{Least}
+use Rattle.rules.specs.Observation.{ObservedSet}
 use Rattle.rules.specs.Steps.{reached}
 use Rattle.rules.specs.Confirming.{Confirm, joined, share, Unconfirmed, UnconfirmedSet}
 use Rattle.rules.specs.Placing.{withUnits, Full, Free, SomePlan, Fewest}
@@ -88,7 +88,7 @@ seen g = reached (derived g)
 abbrev pub seenTest : Grid → ℕ
 seenTest g = leastTest g (derived g) (seen g)
 
-seen-least : (g : Grid) → Proper g → seenTest g ≡ 0 → Least g (seen g)
+seen-least : (g : Grid) → Proper g → seenTest g ≡ 0 → ObservedSet g (seen g)
 seen-least g v e = least-passes g (derived g) (seen g) v e
 
 proper-with : {g : Grid} (x : ℕ) → Proper g → In (g .sites) x → Proper (withUnits g (add (g .units) x))

@@ -11,7 +11,7 @@ use Rattle.step.specs.declared.Reason.{Reason}
 use Rattle.step.specs.declared.Reason.the-variants.{OwnUnit, NeighbourOf, ZeroInjection}
 use Rattle.step.specs.declared.Step.{Step}
 use Rattle.rules.specs.Grids.{Grid, Proper, total}
-use Rattle.rules.specs.Observation.{Closed, Least}
+use Rattle.rules.specs.Observation.{Closed, ObservedSet}
 use Rattle.rules.specs.Steps.{Holds, AcceptedFrom, reached}
 use Rattle.rules.proofs.Firing.{fired-by}
 use Rattle.rules.proofs.Lists.{accepted-inside}
@@ -153,7 +153,7 @@ closed-passes g s v e = record {
 unfoldable pub leastTest : Grid → List Step → ℕ → ℕ
 leastTest g xs s = acceptedTest g empty xs + gap (reached xs) s + closedTest g s
 
-pub least-passes : (g : Grid) (xs : List Step) (s : ℕ) → Proper g → leastTest g xs s ≡ 0 → Least g s
+pub least-passes : (g : Grid) (xs : List Step) (s : ℕ) → Proper g → leastTest g xs s ≡ 0 → ObservedSet g s
 unfolding leastTest
 least-passes g xs s v e = record {
   closed = closed-passes g s v (omega arith);

@@ -27,6 +27,6 @@ pub record Closed (g : Grid) (s : ℕ) : Type 0 where
   pub o2 : O2 g s
 
 -- s is the observed set: it satisfies both rules and is contained in every set that does
-pub record Least (g : Grid) (s : ℕ) : Type 0 where
+pub record ObservedSet (g : Grid) (s : ℕ) : Type 0 where
   pub closed : Closed g s
   pub least : (t : ℕ) → Closed g t → Sub s t
