@@ -33,7 +33,7 @@ pub fn search(
     }
     let mut left = sites;
     while !busset::is_none(left) {
-        if cuts::is_hopeless(n, nbr, zero, s, left, k) {
+        if place_bound::hopeless::is_hopeless(n, nbr, zero, s, left, k) {
             return Found::Nothing;
         }
         let x = busset::lowest(left);

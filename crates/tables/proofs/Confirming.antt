@@ -11,11 +11,11 @@ use Rattle.busset.proofs.Words.{set-bus}
 use Rattle.rules.specs.Grids.{total}
 use Rattle.rules.specs.Confirming.{Confirm, joined, share, UnconfirmedSet}
 use Rattle.rules.proofs.Choices.{unconfirmed-unique}
-use Rattle.rules.proofs.Tests.{gap, given}
-use Rattle.rules.proofs.Sought.{confirmTest, aloneTest, unconfirmedTest, unconfirmed-passes}
+use Rattle.tables.proofs.Tests.{gap, given}
+use Rattle.tables.proofs.Sought.{confirmTest, aloneTest, unconfirmedTest, unconfirmed-passes}
 use Rattle.grid.specs.Cases.{neighbours}
-use Rattle.grid.proofs.Drawn.{withinTest, rowTest, validTest, valid-passes}
-use Rattle.starred.specs.Table.{Drawing, wordOf, caseOf, seven}
+use Rattle.tables.proofs.Drawn.{withinTest, rowTest, validTest, valid-passes}
+use Rattle.tables.specs.Starred.{Drawing, wordOf, caseOf, seven}
 use Rattle.tables.proofs.Rows.{_&_}
 use Rattle.tables.specs.Tables.{AllRight}
 use Rattle.tables.specs.Drawings.{set, grid, sevenGrid, apart}

@@ -14,7 +14,7 @@ use Rattle.rules.specs.Steps.{Holds, Allowed, ReasonNames, Finished}
 use Rattle.rules.specs.Derivation.{TakenFirst, NextIs, DerivedFrom, finished, next}
 use Rattle.rules.proofs.Firing.{others-in}
 use Rattle.rules.proofs.Reasons.{holds-names, allowed-bus}
-use Rattle.rules.proofs.Tests.{total-none, gap, gap-none, given, holdsTest, holds-tests}
+use Rattle.tables.proofs.Tests.{total-none, gap, gap-none, given, holdsTest, holds-tests}
 
 -- ---- a step that is allowed
 

@@ -11,7 +11,7 @@ use Rattle.rules.specs.Observation.{AllBut, O2, Closed, ObservedSet}
 use Rattle.rules.proofs.Firing.{fired-by, others-in}
 use Rattle.rules.proofs.Leasts.{least-unique, all-closed}
 use Rattle.grid.specs.Cases.{neighbours}
-use Rattle.starred.specs.Table.{path}
+use Rattle.tables.specs.Starred.{path}
 use Rattle.tables.proofs.Rows.{_&_}
 use Rattle.tables.proofs.Computed.{known}
 use Rattle.tables.specs.Tables.{AllRight}

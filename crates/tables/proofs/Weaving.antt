@@ -16,13 +16,13 @@ use Rattle.rules.specs.Grids.{total}
 use Rattle.rules.specs.Steps.{Names, reached, Accepted}
 use Rattle.rules.specs.Weaving.{Each, Taken, here, there, Shuffle, none, next}
 use Rattle.rules.specs.Figures.{figure}
-use Rattle.rules.proofs.Tests.{gap}
+use Rattle.tables.proofs.Tests.{gap}
 use Rattle.rules.proofs.Shuffles.{weaving-shuffles}
 use Rattle.grid.specs.Cases.{neighbours, gridOf}
-use Rattle.grid.proofs.Drawn.{withinTest, rowTest, validTest, valid-passes}
+use Rattle.tables.proofs.Drawn.{withinTest, rowTest, validTest, valid-passes}
 use Rattle.ending.specs.declared.Wove.the-variants as wove
 use Rattle.demands.proofs.Demand3.{demand-3}
-use Rattle.starred.specs.Table.{wordOf, caseOf, seven}
+use Rattle.tables.specs.Starred.{wordOf, caseOf, seven}
 use Rattle.tables.proofs.Crowded.{ones-in}
 use Rattle.tables.proofs.Computed.{known}
 use Rattle.tables.proofs.Rows.{_&_}

@@ -8,7 +8,7 @@ use Rattle.busset.specs.Sets.{setOf}
 use Rattle.rules.specs.Figures.{figure, Runs}
 use Rattle.grid.specs.declared.Case.{Case}
 use Rattle.grid.specs.Cases.{gridOf, Valid}
-use Rattle.starred.specs.Table.{wordOf, caseOf, seven}
+use Rattle.tables.specs.Starred.{wordOf, caseOf, seven}
 use Rattle.observe_calls.specs.Replies.{stated}
 use Rattle.tables.specs.Tables.{Right, Row, holds, fails}
 use Rattle.tables.specs.Drawings.{set, sevenGrid}

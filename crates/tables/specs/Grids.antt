@@ -9,7 +9,7 @@ use Rattle.rules.specs.Grids.{Line, Proper, total, lineCount}
 use Rattle.grid.specs.declared.Case.{Case}
 use Rattle.grid.specs.Cases.{mostBuses, mostLines, mostSteps, neighbours, gridOf, LinesAt, Lines, Valid, mostBytes, mostStepBytes}
 use Rattle.plan_input.specs.Asking.{mostBudget}
-use Rattle.starred.specs.Table.{caseOf, seven, path}
+use Rattle.tables.specs.Starred.{caseOf, seven, path}
 use Rattle.tables.specs.Tables.{Right, Row, holds, fails}
 use Rattle.tables.specs.Drawings.{set, value, sevenGrid, grid}
 

@@ -1,7 +1,7 @@
 -- Observation: the two rules, and the observed set, at the mistakes that document 01 names.
 use mathlib.Core.List.{List, [], _∷_}
 use Rattle.rules.specs.Observation.{O1, AllBut, Fired, O2, Closed, ObservedSet}
-use Rattle.starred.specs.Table.{path}
+use Rattle.tables.specs.Starred.{path}
 use Rattle.tables.specs.Tables.{Row, holds, fails}
 use Rattle.tables.specs.Drawings.{set, grid, sevenGrid, pathWith, sweep, leaf, lone}
 

@@ -24,7 +24,7 @@ use Rattle.busset.proofs.lowest.Reads as lowest-reads
 use Rattle.busset.proofs.none.Reads as none-reads
 use Rattle.busset.proofs.with.Reads as with-reads
 use Rattle.busset.proofs.without.Reads as without-reads
-use Rattle.cuts.proofs.is_hopeless.Reads as is-hopeless-reads
+use Rattle.place_bound.proofs.hopeless.is_hopeless.Reads as is-hopeless-reads
 use Rattle.place_light.proofs.is_full.Reads as is-full-reads
 use Rattle.place_light.proofs.lit.Reads as lit-reads
 use Rattle.place_fewest.proofs.+search.{statement}
