@@ -10,7 +10,7 @@ use Rattle.busset.proofs.Members.{in-or}
 use Rattle.busset.proofs.Sizes.{size-some}
 use Rattle.rules.specs.Grids.{Grid}
 use Rattle.rules.specs.Observation.{Closed}
-use Rattle.rules.specs.Placing.{at, Full}
+use Rattle.rules.specs.Placing.{withUnits, Full}
 use Rattle.rules.specs.Ways.{NoCover, Spared}
 use Rattle.rules.specs.Blocking.{Idle}
 use Rattle.rules.proofs.Blocks.{cover-less, cover-not-idle}
@@ -18,7 +18,7 @@ use Rattle.place_light.proofs.Sparing.{without-less, without-out}
 
 -- x is tried, and left out where it does not help
 module _ {sites x rest : ℕ} (w : Without sites x rest) where
-  pub spared-tried : {g : Grid} {k : ℕ} → 0 < k → NoCover (at g (add (g .units) x)) rest (k - 1) → Spared g sites k rest
+  pub spared-tried : {g : Grid} {k : ℕ} → 0 < k → NoCover (withUnits g (add (g .units) x)) rest (k - 1) → Spared g sites k rest
   spared-tried p with-it without v c =
       ⊎-elim
       (λ (h : In v x). with-it (less v x) (cover-less x c h (without-less w v (c .of)) p))
@@ -37,7 +37,7 @@ idle-tried {nbr} {c} {left} {tries} {x} {left′} {tries′} idle w o y h =
     (same-or y x)
 
 -- none is left to try: no cover
-pub idle-no-cover : {g : Grid} {c left tries : ℕ} (k : ℕ) → Closed g c → (Full (g .n) c → ⊥) → IdleBut (g .nbr) c left tries → tries ≡ empty → NoCover g left k
+pub idle-no-cover : {g : Grid} {c left tries : ℕ} (k : ℕ) → Closed g c → (Full (g .n) c → ⊥) → IdleBut (g .neighbours) c left tries → tries ≡ empty → NoCover g left k
 idle-no-cover {left = left} k cl lacks idle e v w =
     cover-not-idle w cl lacks (λ x h. idle x (let sub = w .of x in omega arith) (ap (λ (s : ℕ). bit s x) e ∙ bit-zero x))
 

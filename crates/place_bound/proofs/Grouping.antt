@@ -30,7 +30,7 @@ shrunk-more p q = record { grows = λ b. omega (arith, p .grows b, q .grows b); 
 pub shrunk-spread : {n : ℕ} {nbr : ℕ → ℕ} {zeros c h t d : ℕ} → Union c h t → Spread nbr zeros t d → (Full n d → ⊥) → Shrunk n nbr zeros c d
 shrunk-spread u sp lacks = record { grows = λ b. omega (arith, u .at b, sp .grows b); fired = λ f. sp .fired; lacks = λ l. lacks }
 
-pub shrunk-closed : {g : Grid} {c r : ℕ} → Closed g c → Shrunk (g .n) (g .nbr) (g .zero) c r → Closed g r
+pub shrunk-closed : {g : Grid} {c r : ℕ} → Closed g c → Shrunk (g .n) (g .neighbours) (g .zeros) c r → Closed g r
 shrunk-closed cl sh = record {
   o1 = record {
     own = λ b h. omega (arith, cl .o1 .own b h, sh .grows b);
@@ -56,7 +56,7 @@ group-by {n} {nbr} {a} {sites} {c} {dark} {near} {r} lines al m st h bus = recor
 
 -- ---- group after group
 
-module _ {g : Grid} {sites q t m c next : ℕ} (gr : Grouped g sites q t m) (lacks : Full (g .n) t → ⊥) (sh : Shrunk (g .n) (g .nbr) (g .zero) t c) (d : Group (g .nbr) sites c next) where
+module _ {g : Grid} {sites q t m c next : ℕ} (gr : Grouped g sites q t m) (lacks : Full (g .n) t → ⊥) (sh : Shrunk (g .n) (g .neighbours) (g .zeros) t c) (d : Group (g .neighbours) sites c next) where
   -- an empty group: no cover
   pub no-group : (k : ℕ) → next ≡ empty → NoCover g sites k
   no-group k e =
@@ -64,7 +64,7 @@ module _ {g : Grid} {sites q t m c next : ℕ} (gr : Grouped g sites q t m) (lac
       (record { at = λ b. omega (arith, ap (λ (s : ℕ). bit s b) e, bit-zero b) }) k e
 
   -- the next group
-  pub next-group : {r t′ : ℕ} → Union q next r → LitAll (g .nbr) (g .zero) t next t′ → Grouped g sites r t′ (m + 1)
+  pub next-group : {r t′ : ℕ} → Union q next r → LitAll (g .neighbours) (g .zeros) t next t′ → Grouped g sites r t′ (m + 1)
   next-group u l =
       grouped-more gr (shrunk-closed (gr .closed) sh) (sh .grows) (sh .lacks lacks) d u
       (lit-all-closed (gr .closed) l) (l .grows) (λ x h. record { own = omega (arith, l .own x); near = l .near x h })

@@ -1,7 +1,7 @@
 // The cut of the search for the fewest: where no more of the sites can help.
 ghost use Prim.Native.Nat.{_≤_};
 ghost use Rattle.busset.specs.Sets.{Within, width, setOf};
-ghost use Rattle.rules.specs.Observation.{Least};
+ghost use Rattle.rules.specs.Observation.{ObservedSet};
 ghost use Rattle.rules.specs.Ways.{Whatever, Cut};
 ghost use Rattle.grid.specs.Cases.{neighbours, Lines};
 use busset::BusSet;
@@ -17,7 +17,7 @@ pub fn is_hopeless(
     k: usize,
 ) -> bool
     requires { ⌜ (n ≤ width) × Lines n (neighbours (now nbr)) × Within n (setOf sites) ⌝ }
-    ensures { λ r. ⌜ Whatever n (neighbours (now (nbr .entry))) (setOf zero) (λ g. Least g (setOf s) → Cut g (setOf sites) k r) ⌝ }
+    ensures { λ r. ⌜ Whatever n (neighbours (now (nbr .entry))) (setOf zero) (λ g. ObservedSet g (setOf s) → Cut g (setOf sites) k r) ⌝ }
 {
     if place_light::is_full(n, s) {
         return false;

@@ -127,9 +127,9 @@ earlier-right =
 -- ---- the fewest and greedy, computed
 
 -- what the search finds on a valid case
-found : (c : Case) (budget : ℕ) (a : Sought) → validTest c ≡ 0 → smallest (gridOf c) (lack (gridOf c .site) (gridOf c .units)) (budget + 1) 0 ≡ a → PlanIs (gridOf c) budget a
+found : (c : Case) (budget : ℕ) (a : Sought) → validTest c ≡ 0 → smallest (gridOf c) (lack (gridOf c .sites) (gridOf c .units)) (budget + 1) 0 ≡ a → PlanIs (gridOf c) budget a
 found c budget a v e =
-    fewest-passes (gridOf c) (valid-passes c v .proper) (lack (gridOf c .site) (gridOf c .units)) (record { at = lack-at (gridOf c .site) (gridOf c .units) }) budget a e
+    fewest-passes (gridOf c) (valid-passes c v .proper) (lack (gridOf c .sites) (gridOf c .units)) (record { at = lack-at (gridOf c .sites) (gridOf c .units) }) budget a e
 
 -- what greedy adds on a valid case
 adds : (c : Case) (budget : ℕ) (xs : List ℕ) → validTest c ≡ 0 → greedyTest (gridOf c) budget xs ≡ 0 → Greedy (gridOf c) budget xs

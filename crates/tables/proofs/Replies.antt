@@ -142,7 +142,7 @@ weaves-right =
     v : Valid (tables.case (3 ∷ []))
     v = known .at3 .valid
 
-    by3 : ByUnit (sevenGrid [] .nbr) (set (3 ∷ [])) 2 3
+    by3 : ByUnit (sevenGrid [] .neighbours) (set (3 ∷ [])) 2 3
     by3 = record { unit = refl; joined = refl }
 
 -- ---- whole cases

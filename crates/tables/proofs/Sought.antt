@@ -13,10 +13,10 @@ use Rattle.step.specs.declared.Reason.{Reason}
 use Rattle.step.specs.declared.Reason.the-variants.{OwnUnit, NeighbourOf, ZeroInjection}
 use Rattle.step.specs.declared.Step.{Step}
 use Rattle.rules.specs.Grids.{Grid, Proper, total}
-use Rattle.rules.specs.Observation.{Least}
+use Rattle.rules.specs.Observation.{ObservedSet}
 use Rattle.rules.specs.Steps.{reached}
 use Rattle.rules.specs.Confirming.{Confirm, joined, share, Unconfirmed, UnconfirmedSet}
-use Rattle.rules.specs.Placing.{at, Full, Free, SomePlan, Fewest}
+use Rattle.rules.specs.Placing.{withUnits, Full, Free, SomePlan, Fewest}
 use Rattle.rules.specs.Ways.{NoWay, FirstWay}
 use Rattle.rules.specs.Choosing as choosing
 use Rattle.rules.specs.Choosing.{Greedy}
@@ -88,10 +88,10 @@ seen g = reached (derived g)
 abbrev pub seenTest : Grid → ℕ
 seenTest g = leastTest g (derived g) (seen g)
 
-seen-least : (g : Grid) → Proper g → seenTest g ≡ 0 → Least g (seen g)
+seen-least : (g : Grid) → Proper g → seenTest g ≡ 0 → ObservedSet g (seen g)
 seen-least g v e = least-passes g (derived g) (seen g) v e
 
-proper-with : {g : Grid} (x : ℕ) → Proper g → In (g .site) x → Proper (at g (add (g .units) x))
+proper-with : {g : Grid} (x : ℕ) → Proper g → In (g .sites) x → Proper (withUnits g (add (g .units) x))
 proper-with {g} x v h = record {
   lines = v .lines;
   zeros = v .zeros;
@@ -103,7 +103,7 @@ proper-with {g} x v h = record {
 
 -- whether a unit at a, which is not b, confirms one at b
 unfoldable pub confirmTest : Grid → ℕ → ℕ → ℕ
-confirmTest g b a = given (bit (g .units) a) (given (gap a b) (bit (g .nbr a) b + size (meet (g .nbr a) (g .nbr b))))
+confirmTest g b a = given (bit (g .units) a) (given (gap a b) (bit (g .neighbours a) b + size (meet (g .neighbours a) (g .neighbours b))))
 
 -- 1 where no other unit confirms the one at b
 unfoldable pub aloneTest : Grid → ℕ → ℕ
@@ -117,49 +117,49 @@ module _ (g : Grid) (v : Proper g) where
   unfolding gap
   apart a b ne = ⊎-elim (λ (l : a < b). omega arith) (λ (l : b ≤ a). ⊎-elim (λ (m : b < a). omega arith) (λ (m : a ≤ b). absurd (ne (omega arith))) (below-or b a)) (below-or a b)
 
-  alone-none : (b : ℕ) → total (g .n) (confirmTest g b) ≡ 0 → (a : ℕ) → In (g .units) a → (a ≡ b → ⊥) → Confirm (g .nbr) a b → ⊥
+  alone-none : (b : ℕ) → total (g .n) (confirmTest g b) ≡ 0 → (a : ℕ) → In (g .units) a → (a ≡ b → ⊥) → Confirm (g .neighbours) a b → ⊥
   unfolding confirmTest
   alone-none b e a u ne c =
       go c
-      (given-some (gap a b) (bit (g .nbr a) b + size (meet (g .nbr a) (g .nbr b))) (apart a b ne)
-      (given-passes (bit (g .units) a) (given (gap a b) (bit (g .nbr a) b + size (meet (g .nbr a) (g .nbr b)))) u (total-none (g .n) (confirmTest g b) e a (v .units a u))))
+      (given-some (gap a b) (bit (g .neighbours a) b + size (meet (g .neighbours a) (g .neighbours b))) (apart a b ne)
+      (given-passes (bit (g .units) a) (given (gap a b) (bit (g .neighbours a) b + size (meet (g .neighbours a) (g .neighbours b)))) u (total-none (g .n) (confirmTest g b) e a (v .units a u))))
     where
-      go : Confirm (g .nbr) a b → bit (g .nbr a) b + size (meet (g .nbr a) (g .nbr b)) ≡ 0 → ⊥
+      go : Confirm (g .neighbours) a b → bit (g .neighbours a) b + size (meet (g .neighbours a) (g .neighbours b)) ≡ 0 → ⊥
       go (joined j) z = omega arith
-      go (share x j k) z = omega (arith, size-some (meet (g .nbr a) (g .nbr b)) x (let m = meet-at (g .nbr a) (g .nbr b) x in omega arith))
+      go (share x j k) z = omega (arith, size-some (meet (g .neighbours a) (g .neighbours b)) x (let m = meet-at (g .neighbours a) (g .neighbours b) x in omega arith))
 
-  alone-all : (b : ℕ) → Unconfirmed (g .nbr) (g .units) b → total (g .n) (confirmTest g b) ≡ 0
+  alone-all : (b : ℕ) → Unconfirmed (g .neighbours) (g .units) b → total (g .n) (confirmTest g b) ≡ 0
   unfolding confirmTest gap
   alone-all b u = total-pass (g .n) (confirmTest g b)
-      (λ a. given-none (bit (g .units) a) (given (gap a b) (bit (g .nbr a) b + size (meet (g .nbr a) (g .nbr b))))
-      (λ h. given-none (gap a b) (bit (g .nbr a) b + size (meet (g .nbr a) (g .nbr b))) (λ d. none a (omega arith) (λ e. omega arith))))
+      (λ a. given-none (bit (g .units) a) (given (gap a b) (bit (g .neighbours a) b + size (meet (g .neighbours a) (g .neighbours b))))
+      (λ h. given-none (gap a b) (bit (g .neighbours a) b + size (meet (g .neighbours a) (g .neighbours b))) (λ d. none a (omega arith) (λ e. omega arith))))
     where
-      none : (a : ℕ) → In (g .units) a → (a ≡ b → ⊥) → bit (g .nbr a) b + size (meet (g .nbr a) (g .nbr b)) ≡ 0
+      none : (a : ℕ) → In (g .units) a → (a ≡ b → ⊥) → bit (g .neighbours a) b + size (meet (g .neighbours a) (g .neighbours b)) ≡ 0
       none a h ne =
-          let far = out-of (g .nbr a) b (λ j. u .none a h ne (joined j)) in
-          let nothing = empty-of (meet (g .nbr a) (g .nbr b))
-          (λ x. out-of (meet (g .nbr a) (g .nbr b)) x
-          (λ m. u .none a h ne (share x (let e = meet-at (g .nbr a) (g .nbr b) x in omega arith) (let e = meet-at (g .nbr a) (g .nbr b) x in omega arith)))) in
+          let far = out-of (g .neighbours a) b (λ j. u .none a h ne (joined j)) in
+          let nothing = empty-of (meet (g .neighbours a) (g .neighbours b))
+          (λ x. out-of (meet (g .neighbours a) (g .neighbours b)) x
+          (λ m. u .none a h ne (share x (let e = meet-at (g .neighbours a) (g .neighbours b) x in omega arith) (let e = meet-at (g .neighbours a) (g .neighbours b) x in omega arith)))) in
           omega (arith, ap size nothing, size-empty)
 
-  pub unconfirmed-passes : (s : ℕ) → Within (g .n) s → unconfirmedTest g s ≡ 0 → UnconfirmedSet (g .nbr) (g .units) s
+  pub unconfirmed-passes : (s : ℕ) → Within (g .n) s → unconfirmedTest g s ≡ 0 → UnconfirmedSet (g .neighbours) (g .units) s
   unfolding unconfirmedTest aloneTest given
   unconfirmed-passes s w e = record { all = all; only = only }
     where
       at-bus : (b : ℕ) → Bus (g .n) b → bit s b ≡ aloneTest g b
       at-bus b h = gap-none (bit s b) (aloneTest g b) (total-none (g .n) (λ b. gap (bit s b) (aloneTest g b)) e b h)
 
-      all : (b : ℕ) → Unconfirmed (g .nbr) (g .units) b → In s b
+      all : (b : ℕ) → Unconfirmed (g .neighbours) (g .units) b → In s b
       all b u = at-bus b (v .units b (u .unit)) ∙ go (bit (g .units) b) refl
         where
           go : (d : ℕ) → bit (g .units) b ≡ d → given d (1 - total (g .n) (confirmTest g b)) ≡ 1
           go zero q = absurd (omega (arith, u .unit))
           go (suc d) q = omega (arith, alone-all b u)
 
-      only : (b : ℕ) → In s b → Unconfirmed (g .nbr) (g .units) b
+      only : (b : ℕ) → In s b → Unconfirmed (g .neighbours) (g .units) b
       only b h = go (bit (g .units) b) refl (sym (at-bus b (w b h)) ∙ h)
         where
-          go : (d : ℕ) → bit (g .units) b ≡ d → given d (1 - total (g .n) (confirmTest g b)) ≡ 1 → Unconfirmed (g .nbr) (g .units) b
+          go : (d : ℕ) → bit (g .units) b ≡ d → given d (1 - total (g .n) (confirmTest g b)) ≡ 1 → Unconfirmed (g .neighbours) (g .units) b
           go zero q r = absurd (omega arith)
           go (suc d) q r = record { unit = omega arith; none = alone-none b (omega arith) }
 
@@ -167,13 +167,13 @@ module _ (g : Grid) (v : Proper g) where
 
 -- how far from allowed, observed and no better than `most` a unit at y is: 0 where y is not free, or with it at most `most` buses are observed
 unfoldable pub noBetter : Grid → ℕ → ℕ → ℕ
-noBetter g most y = given (bit (g .site) y - bit (g .units) y) (seenTest (at g (add (g .units) y)) + (size (seen (at g (add (g .units) y))) - most))
+noBetter g most y = given (bit (g .sites) y - bit (g .units) y) (seenTest (withUnits g (add (g .units) y)) + (size (seen (withUnits g (add (g .units) y))) - most))
 
 -- x is the best site
 unfoldable pub bestTest : Grid → ℕ → ℕ
 bestTest g x =
-    let most = size (seen (at g (add (g .units) x))) in
-    seenTest g + (1 - (bit (g .site) x - bit (g .units) x)) + seenTest (at g (add (g .units) x)) + (suc (size (seen g)) - most)
+    let most = size (seen (withUnits g (add (g .units) x))) in
+    seenTest g + (1 - (bit (g .sites) x - bit (g .units) x)) + seenTest (withUnits g (add (g .units) x)) + (suc (size (seen g)) - most)
     + total (g .n) (noBetter g most) + total (x - 1) (noBetter g (most - 1))
 
 -- no site adds a bus
@@ -184,15 +184,15 @@ unfoldable pub greedyTest : Grid → ℕ → List ℕ → ℕ
 greedyTest g zero [] = 0
 greedyTest g zero (x ∷ xs) = 1
 greedyTest g (suc k) [] = noneTest g
-greedyTest g (suc k) (x ∷ xs) = bestTest g x + greedyTest (at g (add (g .units) x)) k xs
+greedyTest g (suc k) (x ∷ xs) = bestTest g x + greedyTest (withUnits g (add (g .units) x)) k xs
 
 -- a site that is no better than most makes at most so many buses observed
 no-better : (g : Grid) (most y t : ℕ) → Proper g → noBetter g most y ≡ 0 → choosing.With g y t → size t ≤ most
 unfolding noBetter
 no-better g most y t v e w =
-    let f = given-some (bit (g .site) y - bit (g .units) y) (seenTest (at g (add (g .units) y)) + (size (seen (at g (add (g .units) y))) - most)) (let a = w .free .site in let b = w .free .bare in omega arith) e in
-    let l = seen-least (at g (add (g .units) y)) (proper-with y v (w .free .site)) (omega arith) in
-    omega (arith, ap size (least-unique (at g (add (g .units) y)) t (seen (at g (add (g .units) y))) (w .observed) l))
+    let f = given-some (bit (g .sites) y - bit (g .units) y) (seenTest (withUnits g (add (g .units) y)) + (size (seen (withUnits g (add (g .units) y))) - most)) (let a = w .free .site in let b = w .free .bare in omega arith) e in
+    let l = seen-least (withUnits g (add (g .units) y)) (proper-with y v (w .free .site)) (omega arith) in
+    omega (arith, ap size (least-unique (withUnits g (add (g .units) y)) t (seen (withUnits g (add (g .units) y))) (w .observed) l))
 
 pub greedy-passes : (g : Grid) (k : ℕ) (xs : List ℕ) → Proper g → greedyTest g k xs ≡ 0 → Greedy g k xs
 unfolding greedyTest bestTest noneTest
@@ -202,18 +202,18 @@ greedy-passes g (suc k) [] v e = λ y s t l w.
     let base = seen-least g v (omega arith) in
     omega (arith, no-better g (size (seen g)) y t v (total-none (g .n) (noBetter g (size (seen g))) (omega arith) y (v .sites y (w .free .site))) w, ap size (least-unique g s (seen g) l base))
 greedy-passes g (suc k) (x ∷ xs) v e =
-    let most = size (seen (at g (add (g .units) x))) in
+    let most = size (seen (withUnits g (add (g .units) x))) in
     let free : Free g x = record { site = omega arith; bare = omega arith } in (
       record {
         before = seen g;
-        after = seen (at g (add (g .units) x));
+        after = seen (withUnits g (add (g .units) x));
         observed = seen-least g v (omega arith);
-        with = record { free = free; observed = seen-least (at g (add (g .units) x)) (proper-with x v (free .site)) (omega arith) };
+        with = record { free = free; observed = seen-least (withUnits g (add (g .units) x)) (proper-with x v (free .site)) (omega arith) };
         adds = omega arith;
         largest = λ y t w. no-better g most y t v (total-none (g .n) (noBetter g most) (omega arith) y (v .sites y (w .free .site))) w;
         lowest = λ y t w b. omega (arith, no-better g (most - 1) y t v (total-none (x - 1) (noBetter g (most - 1)) (omega arith) y (record { some = v .sites y (w .free .site) .some; most = omega arith })) w);
       },
-      greedy-passes (at g (add (g .units) x)) k xs (proper-with x v (free .site)) (omega arith),
+      greedy-passes (withUnits g (add (g .units) x)) k xs (proper-with x v (free .site)) (omega arith),
     )
 
 -- ---- the fewest
@@ -289,7 +289,7 @@ choose x (suc d) a b = orElse x a b
 unfoldable pub seek : Grid → ℕ → ℕ → ℕ → ℕ → Sought
 seek g free f x zero = judge g
 seek g free zero x (suc k) = none
-seek g free (suc f) x (suc k) = choose (suc x) (bit free (suc x)) (seek (at g (add (g .units) (suc x))) free f (suc x) k) (seek g free f (suc x) (suc k))
+seek g free (suc f) x (suc k) = choose (suc x) (bit free (suc x)) (seek (withUnits g (add (g .units) (suc x))) free f (suc x) k) (seek g free f (suc x) (suc k))
 
 lacks-none : (n s : ℕ) → Full n s → total n (λ b. 1 - bit s b) ≡ 0
 unfolding total
@@ -310,20 +310,20 @@ less-one : (k : ℕ) → suc k - 1 ≡ k
 less-one k = omega arith
 
 -- one site: the answers with it and without it
-seek-turn : (g : Grid) (free x k d : ℕ) (a b : Sought) → bit free (suc x) ≡ d → (In free (suc x) → SoughtIs (at g (add (g .units) (suc x))) (after (suc x) free) k a)
+seek-turn : (g : Grid) (free x k d : ℕ) (a b : Sought) → bit free (suc x) ≡ d → (In free (suc x) → SoughtIs (withUnits g (add (g .units) (suc x))) (after (suc x) free) k a)
     → SoughtIs g (after (suc x) free) (suc k) b → SoughtIs g (after x free) (suc k) (choose (suc x) d a b)
 unfolding choose orElse
 seek-turn g free x k zero a b e ha hb = subst⁻¹ (λ (s : ℕ). SoughtIs g s (suc k) b) (after-skip x free e) hb
 seek-turn g free x k (suc d) none none e ha hb =
-    passed-no (passed-lowest (after-lowest x free (omega arith)) (after-without x free (omega arith)) (omega arith) (subst⁻¹ (NoWay (at g (add (g .units) (suc x))) (after (suc x) free)) (less-one k) (ha (omega arith)))) hb
+    passed-no (passed-lowest (after-lowest x free (omega arith)) (after-without x free (omega arith)) (omega arith) (subst⁻¹ (NoWay (withUnits g (add (g .units) (suc x))) (after (suc x) free)) (less-one k) (ha (omega arith)))) hb
 seek-turn g free x k (suc d) none (some m) e ha hb =
-    passed-first (passed-lowest (after-lowest x free (omega arith)) (after-without x free (omega arith)) (omega arith) (subst⁻¹ (NoWay (at g (add (g .units) (suc x))) (after (suc x) free)) (less-one k) (ha (omega arith)))) hb
+    passed-first (passed-lowest (after-lowest x free (omega arith)) (after-without x free (omega arith)) (omega arith) (subst⁻¹ (NoWay (withUnits g (add (g .units) (suc x))) (after (suc x) free)) (less-one k) (ha (omega arith)))) hb
 seek-turn g free x k (suc d) none unsure e ha hb = tt
 seek-turn g free x k (suc d) (some m) b e ha hb =
-    first-take (after-lowest x free (omega arith)) (after-without x free (omega arith)) (omega arith) (subst⁻¹ (λ (j : ℕ). FirstWay (at g (add (g .units) (suc x))) (after (suc x) free) j m) (less-one k) (ha (omega arith)))
+    first-take (after-lowest x free (omega arith)) (after-without x free (omega arith)) (omega arith) (subst⁻¹ (λ (j : ℕ). FirstWay (withUnits g (add (g .units) (suc x))) (after (suc x) free) j m) (less-one k) (ha (omega arith)))
 seek-turn g free x k (suc d) unsure b e ha hb = tt
 
-seek-right : (g : Grid) (free f x k : ℕ) → Proper g → Within (g .n) free → Sub free (g .site) → g .n ≤ x + f → SoughtIs g (after x free) k (seek g free f x k)
+seek-right : (g : Grid) (free f x k : ℕ) → Proper g → Within (g .n) free → Sub free (g .sites) → g .n ≤ x + f → SoughtIs g (after x free) k (seek g free f x k)
 unfolding seek
 seek-right g free f x zero v w s l = judge-right g (after x free) v
 seek-right g free zero x (suc k) v w s l = no-way-left (empty-of (after x free) gone) (omega arith)
@@ -331,8 +331,8 @@ seek-right g free zero x (suc k) v w s l = no-way-left (empty-of (after x free) 
     gone : (b : ℕ) → Out (after x free) b
     gone b = ⊎-elim (λ (m : x < b). out-of (after x free) b (λ h. let bus = w b (sym (after-in x free b m) ∙ h) .most in omega arith)) (λ (m : b ≤ x). after-out x free b m) (below-or x b)
 seek-right g free (suc f) x (suc k) v w s l =
-    seek-turn g free x k (bit free (suc x)) (seek (at g (add (g .units) (suc x))) free f (suc x) k) (seek g free f (suc x) (suc k)) refl
-    (λ h. seek-right (at g (add (g .units) (suc x))) free f (suc x) k (proper-with (suc x) v (omega (arith, s (suc x)))) w s (omega arith))
+    seek-turn g free x k (bit free (suc x)) (seek (withUnits g (add (g .units) (suc x))) free f (suc x) k) (seek g free f (suc x) (suc k)) refl
+    (λ h. seek-right (withUnits g (add (g .units) (suc x))) free f (suc x) k (proper-with (suc x) v (omega (arith, s (suc x)))) w s (omega arith))
     (seek-right g free f (suc x) (suc k) v w s (omega arith))
 
 -- ---- size after size
@@ -352,7 +352,7 @@ unfoldable pub smallest : Grid → ℕ → ℕ → ℕ → Sought
 smallest g free zero k = none
 smallest g free (suc j) k = firstOf (seek g free (g .n) 0 k) (smallest g free j (k + 1))
 
-module _ (g : Grid) (v : Proper g) (free : ℕ) (m : Minus (g .site) (g .units) free) where
+module _ (g : Grid) (v : Proper g) (free : ℕ) (m : Minus (g .sites) (g .units) free) where
   whole : after 0 free ≡ free
   whole = ext (after 0 free) free (λ b. ⊎-elim (λ (l : 0 < b). after-in 0 free b l) (λ (l : b ≤ 0). let e : b ≡ 0 = omega arith in after-out 0 free b l ∙ sym (out-of free b (λ h. let bus = v .sites b (omega (arith, m .at b)) .some in omega arith))) (below-or 0 b))
 

@@ -29,7 +29,7 @@ grid d = gridOf (caseOf d)
 
 -- the sites where a new unit may go
 abbrev pub free : Drawing → ℕ
-free d = lack (grid d .site) (grid d .units)
+free d = lack (grid d .sites) (grid d .units)
 
 fits : (n w : ℕ) → withinTest n w ≡ 0 → w < 2 ^ n
 unfolding withinTest
@@ -54,10 +54,10 @@ pub fewest-right : (d : Drawing) (budget : ℕ) (bs : List ℕ) → validTest (c
     → FewestReply (caseOf d) budget (fewest.Sites (wordOf bs))
 fewest-right d budget bs e found =
     let v : Valid (caseOf d) = valid-passes (caseOf d) (omega arith) in
-    let f = fewest-passes (grid d) (v .proper) (free d) (record { at = lack-at (grid d .site) (grid d .units) }) budget (some (setOf (wordOf bs))) found in
+    let f = fewest-passes (grid d) (v .proper) (free d) (record { at = lack-at (grid d .sites) (grid d .units) }) budget (some (setOf (wordOf bs))) found in
     ((v, (omega arith, (fewest-some f, tt))), f)
 
 pub uncovered-right : (d : Drawing) (budget : ℕ) → validTest (caseOf d) + (budget - 8) ≡ 0 → smallest (grid d) (free d) (budget + 1) 0 ≡ none → FewestReply (caseOf d) budget (fewest.Refused NoCover)
 uncovered-right d budget e found =
     let v : Valid (caseOf d) = valid-passes (caseOf d) (omega arith) in
-    inr (v, inr (omega arith, inl (fewest-passes (grid d) (v .proper) (free d) (record { at = lack-at (grid d .site) (grid d .units) }) budget none found, itself _)))
+    inr (v, inr (omega arith, inl (fewest-passes (grid d) (v .proper) (free d) (record { at = lack-at (grid d .sites) (grid d .units) }) budget none found, itself _)))

@@ -11,7 +11,7 @@ use Rattle.step.specs.declared.Reason.{Reason}
 use Rattle.step.specs.declared.Reason.the-variants.{OwnUnit, NeighbourOf, ZeroInjection}
 use Rattle.step.specs.declared.Step.{Step}
 use Rattle.rules.specs.Grids.{Grid, Proper, total}
-use Rattle.rules.specs.Observation.{Closed, Least}
+use Rattle.rules.specs.Observation.{Closed, ObservedSet}
 use Rattle.rules.specs.Steps.{Holds, AcceptedFrom, reached}
 use Rattle.rules.proofs.Firing.{fired-by}
 use Rattle.rules.proofs.Lists.{accepted-inside}
@@ -68,8 +68,8 @@ given-passes (suc d) x e h = h
 -- the reason holds for bus b where s is observed
 unfoldable pub holdsTest : Grid → ℕ → ℕ → Reason → ℕ
 holdsTest g s b OwnUnit = 1 - bit (g .units) b
-holdsTest g s b (NeighbourOf p) = (1 - bit (g .units) p) + (1 - bit (g .nbr p) b)
-holdsTest g s b (ZeroInjection w) = (1 - bit (g .zero) w) + (1 - bit s w) + (1 - bit (g .nbr w) b) + subTest (g .n) (less (g .nbr w) b) s
+holdsTest g s b (NeighbourOf p) = (1 - bit (g .units) p) + (1 - bit (g .neighbours p) b)
+holdsTest g s b (ZeroInjection w) = (1 - bit (g .zeros) w) + (1 - bit s w) + (1 - bit (g .neighbours w) b) + subTest (g .n) (less (g .neighbours w) b) s
 
 holds-passes : (g : Grid) (s b : ℕ) → Proper g → (r : Reason) → holdsTest g s b r ≡ 0 → Holds g s b r
 unfolding holdsTest
@@ -80,12 +80,12 @@ holds-passes g s b v (ZeroInjection w) e = record {
   observed = omega arith;
   joined = omega arith;
   others = λ a h ne.
-      let m : In (less (g .nbr w) b) a = omega (arith, less-there (g .nbr w) b a ne) in
-      omega (arith, sub-passes (g .n) (less (g .nbr w) b) s within (omega arith) a);
+      let m : In (less (g .neighbours w) b) a = omega (arith, less-there (g .neighbours w) b a ne) in
+      omega (arith, sub-passes (g .n) (less (g .neighbours w) b) s within (omega arith) a);
 }
   where
-    within : Within (g .n) (less (g .nbr w) b)
-    within a h = v .lines w a (omega (arith, less-sub (g .nbr w) b a)) .to
+    within : Within (g .n) (less (g .neighbours w) b)
+    within a h = v .lines w a (omega (arith, less-sub (g .neighbours w) b a)) .to
 
 -- and the test passes wherever the reason holds
 pub total-pass : (n : ℕ) (f : ℕ → ℕ) → ((b : ℕ) → f b ≡ 0) → total n f ≡ 0
@@ -98,16 +98,16 @@ unfolding holdsTest subTest
 holds-tests g s b v OwnUnit h = omega arith
 holds-tests g s b v (NeighbourOf p) h = omega (arith, h .unit, h .joined)
 holds-tests g s b v (ZeroInjection w) h =
-    omega (arith, h .class, h .observed, h .joined, total-pass (g .n) (λ a. bit (less (g .nbr w) b) a - bit s a) known)
+    omega (arith, h .class, h .observed, h .joined, total-pass (g .n) (λ a. bit (less (g .neighbours w) b) a - bit s a) known)
   where
-    known : (a : ℕ) → bit (less (g .nbr w) b) a - bit s a ≡ 0
+    known : (a : ℕ) → bit (less (g .neighbours w) b) a - bit s a ≡ 0
     known a =
         ⊎-elim
-        (λ (e : a ≡ b). subst⁻¹ (λ (x : ℕ). bit (less (g .nbr w) b) x - bit s x ≡ 0) e (omega (arith, less-here (g .nbr w) b)))
+        (λ (e : a ≡ b). subst⁻¹ (λ (x : ℕ). bit (less (g .neighbours w) b) x - bit s x ≡ 0) e (omega (arith, less-here (g .neighbours w) b)))
         (λ (ne : a ≡ b → ⊥). ⊎-elim
-        (λ (p : In (g .nbr w) a). omega (arith, h .others a p ne))
-        (λ (p : Out (g .nbr w) a). omega (arith, less-there (g .nbr w) b a ne))
-        (in-or (g .nbr w) a))
+        (λ (p : In (g .neighbours w) a). omega (arith, h .others a p ne))
+        (λ (p : Out (g .neighbours w) a). omega (arith, less-there (g .neighbours w) b a ne))
+        (in-or (g .neighbours w) a))
         (same-or a b)
 
 -- each step is allowed where it stands
@@ -128,8 +128,8 @@ accepted-passes g s (x ∷ xs) v e = (
 -- s satisfies O1 and O2
 unfoldable pub closedTest : Grid → ℕ → ℕ
 closedTest g s =
-    subTest (g .n) (g .units) s + total (g .n) (λ b. given (bit (g .units) b) (subTest (g .n) (g .nbr b) s))
-    + total (g .n) (λ w. given (bit (g .zero) w) (given (bit s w) (isOne (size (lack (g .nbr w) s)))))
+    subTest (g .n) (g .units) s + total (g .n) (λ b. given (bit (g .units) b) (subTest (g .n) (g .neighbours b) s))
+    + total (g .n) (λ w. given (bit (g .zeros) w) (given (bit s w) (isOne (size (lack (g .neighbours w) s)))))
 
 closed-passes : (g : Grid) (s : ℕ) → Proper g → closedTest g s ≡ 0 → Closed g s
 unfolding closedTest
@@ -137,23 +137,23 @@ closed-passes g s v e = record {
   o1 = record {
     own = λ b h. omega (arith, sub-passes (g .n) (g .units) s (v .units) (omega arith) b);
     near = λ b h.
-        sub-passes (g .n) (g .nbr b) s (λ a j. v .lines b a j .to)
-        (given-passes (bit (g .units) b) (subTest (g .n) (g .nbr b) s) h
-        (total-none (g .n) (λ b. given (bit (g .units) b) (subTest (g .n) (g .nbr b) s)) (omega arith) b (v .units b h)));
+        sub-passes (g .n) (g .neighbours b) s (λ a j. v .lines b a j .to)
+        (given-passes (bit (g .units) b) (subTest (g .n) (g .neighbours b) s) h
+        (total-none (g .n) (λ b. given (bit (g .units) b) (subTest (g .n) (g .neighbours b) s)) (omega arith) b (v .units b h)));
   };
   o2 = λ w z o.
-      let f : ℕ → ℕ = λ w. given (bit (g .zero) w) (given (bit s w) (isOne (size (lack (g .nbr w) s)))) in
-      fired-by (g .nbr w) s
-      (isOne-not (size (lack (g .nbr w) s))
-      (given-passes (bit s w) (isOne (size (lack (g .nbr w) s))) o
-      (given-passes (bit (g .zero) w) (given (bit s w) (isOne (size (lack (g .nbr w) s)))) z (total-none (g .n) f (omega arith) w (v .zeros w z)))));
+      let f : ℕ → ℕ = λ w. given (bit (g .zeros) w) (given (bit s w) (isOne (size (lack (g .neighbours w) s)))) in
+      fired-by (g .neighbours w) s
+      (isOne-not (size (lack (g .neighbours w) s))
+      (given-passes (bit s w) (isOne (size (lack (g .neighbours w) s))) o
+      (given-passes (bit (g .zeros) w) (given (bit s w) (isOne (size (lack (g .neighbours w) s)))) z (total-none (g .n) f (omega arith) w (v .zeros w z)))));
 }
 
 -- s is the observed set, as the list xs derives it
 unfoldable pub leastTest : Grid → List Step → ℕ → ℕ
 leastTest g xs s = acceptedTest g empty xs + gap (reached xs) s + closedTest g s
 
-pub least-passes : (g : Grid) (xs : List Step) (s : ℕ) → Proper g → leastTest g xs s ≡ 0 → Least g s
+pub least-passes : (g : Grid) (xs : List Step) (s : ℕ) → Proper g → leastTest g xs s ≡ 0 → ObservedSet g s
 unfolding leastTest
 least-passes g xs s v e = record {
   closed = closed-passes g s v (omega arith);

@@ -64,12 +64,12 @@ unfolding figure
 figure-from nbr s i j a b p q = ap₂ (λ (x y : ℕ). pos 1 -ℤ pos x +ℤ pos (bit s i) +ℤ pos y) p q
 
 -- the star's figure of 1 towards 2, with the digits counted
-star-figure : (s : ℕ) → less (meet (gridOf figures.star .nbr 1) s) 2 < 2 ^ 65
-    → figure (gridOf figures.star .nbr) s 1 2 ≡ pos 1 -ℤ pos 63 +ℤ pos (bit s 1) +ℤ pos (onesIn 65 (less (meet (gridOf figures.star .nbr 1) s) 2))
+star-figure : (s : ℕ) → less (meet (gridOf figures.star .neighbours 1) s) 2 < 2 ^ 65
+    → figure (gridOf figures.star .neighbours) s 1 2 ≡ pos 1 -ℤ pos 63 +ℤ pos (bit s 1) +ℤ pos (onesIn 65 (less (meet (gridOf figures.star .neighbours 1) s) 2))
 unfolding neighbours setOf onesIn
-star-figure s l = figure-from (gridOf figures.star .nbr) s 1 2 63 (onesIn 65 (less (meet (gridOf figures.star .nbr 1) s) 2)) (ones-in 65 (gridOf figures.star .nbr 1) (lit≤ tt)) (ones-in 65 (less (meet (gridOf figures.star .nbr 1) s) 2) l)
+star-figure s l = figure-from (gridOf figures.star .neighbours) s 1 2 63 (onesIn 65 (less (meet (gridOf figures.star .neighbours 1) s) 2)) (ones-in 65 (gridOf figures.star .neighbours 1) (lit≤ tt)) (ones-in 65 (less (meet (gridOf figures.star .neighbours 1) s) 2) l)
 
-star-ends : (figure (gridOf figures.star .nbr) (set []) 1 2 ≡ negsuc 61) × (figure (gridOf figures.star .nbr) (setOf (2 ^ 64 - 1)) 1 2 ≡ pos 1)
+star-ends : (figure (gridOf figures.star .neighbours) (set []) 1 2 ≡ negsuc 61) × (figure (gridOf figures.star .neighbours) (setOf (2 ^ 64 - 1)) 1 2 ≡ pos 1)
 unfolding meet less lack neighbours setOf onesIn
 star-ends = (star-figure (set []) (lit≤ tt), star-figure (setOf (2 ^ 64 - 1)) (lit≤ tt))
 

@@ -4,7 +4,7 @@ use native.Mathlib.Omega.{arith}
 use Rattle.busset.specs.Sets.{bit, Sub, setOf}
 use Rattle.busset.proofs.Tests.{refutes}
 use Rattle.busset.proofs.Digits.{bit-zero}
-use Rattle.rules.specs.Observation.{Least}
+use Rattle.rules.specs.Observation.{ObservedSet}
 use Rattle.rules.specs.Ways.{Whatever}
 use Rattle.rules.proofs.Blocks.{Grouped, grouped-none, grouped-spared, grouped-lacks}
 use Rattle.grid.specs.Cases.{neighbours}
@@ -15,7 +15,7 @@ use Rattle.place_bound.proofs.groups.narrowed.Statement.{statement}
 use Rattle.place_bound.proofs.groups.narrowed.Tie as tie
 
 abbrev Inv-loop : tie.InvT-loop
-Inv-loop n nbr zero s sites k q₀ t₀ m₀ q t m = (m ≤ k) × Sub (setOf q) (setOf sites) × Whatever n (neighbours nbr) (setOf zero) (λ g. Least g (setOf s) → Grouped g (setOf sites) (setOf q) (setOf t) m)
+Inv-loop n nbr zero s sites k q₀ t₀ m₀ q t m = (m ≤ k) × Sub (setOf q) (setOf sites) × Whatever n (neighbours nbr) (setOf zero) (λ g. ObservedSet g (setOf s) → Grouped g (setOf sites) (setOf q) (setOf t) m)
 
 abbrev μ-loop : tie.MeasureT-loop
 μ-loop n nbr zero s sites k q₀ t₀ m₀ q t m = k - m

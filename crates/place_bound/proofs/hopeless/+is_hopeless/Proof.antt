@@ -7,7 +7,7 @@ use Rattle.busset.specs.Sets.{Sub, setOf, size}
 use Rattle.busset.proofs.Tests.{refutes}
 use Rattle.busset.proofs.Members.{without-sub}
 use Rattle.busset.proofs.Sizes.{size-le}
-use Rattle.rules.specs.Observation.{Least}
+use Rattle.rules.specs.Observation.{ObservedSet}
 use Rattle.rules.specs.Ways.{Whatever, Spared}
 use Rattle.grid.specs.Cases.{neighbours}
 use Rattle.place_light.proofs.Lighting.{lit-least}
@@ -42,7 +42,7 @@ is-hopeless-below t =
     and 1 is-hopeless-kinds.ps (falls 1 is-hopeless-kinds.ps _<_ μ-is-hopeless t) is-hopeless.Pre
 
 abbrev is-hopeless-Inv-loop : is-hopeless-lts.InvT-loop
-is-hopeless-Inv-loop n nbr zero s sites k left₀ c tries₀ left tries = Sub (setOf left) (setOf sites) × IdleBut (neighbours nbr) (setOf c) (setOf left) (setOf tries) × Whatever n (neighbours nbr) (setOf zero) (λ g. Least g (setOf s) → Spared g (setOf sites) k (setOf left))
+is-hopeless-Inv-loop n nbr zero s sites k left₀ c tries₀ left tries = Sub (setOf left) (setOf sites) × IdleBut (neighbours nbr) (setOf c) (setOf left) (setOf tries) × Whatever n (neighbours nbr) (setOf zero) (λ g. ObservedSet g (setOf s) → Spared g (setOf sites) k (setOf left))
 
 abbrev is-hopeless-μ-loop : is-hopeless-lts.MeasureT-loop
 is-hopeless-μ-loop n nbr zero s sites k left₀ c tries₀ left tries = size (setOf tries)
