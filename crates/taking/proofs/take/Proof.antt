@@ -1,3 +1,4 @@
+-- Past the text there is no step. Within it the two arms are what `step_at` says of the line.
 use Rattle.taking.proofs.Taking.{takes-past, takes-nothing, takes-step}
 use borrow.Author.Needs.{needs}
 use Rattle.taking.proofs.take.Statement.{statement}
