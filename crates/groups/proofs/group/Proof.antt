@@ -1,3 +1,4 @@
+-- A site that is neither dark nor next to a dark bus observes nothing outside c. This needs that each line is seen from both ends.
 use Rattle.groups.proofs.Grouping.{group-by}
 use borrow.Author.Needs.{needs}
 use Rattle.groups.proofs.group.Statement.{statement}
