@@ -9,7 +9,7 @@ use lib.Seq.{take-append-seam}
 use Rattle.busset.specs.Sets.{empty, add, setOf}
 use Rattle.step.specs.declared.Step.{Step}
 use Rattle.rules.specs.Grids.{Proper}
-use Rattle.rules.specs.Observation.{Least}
+use Rattle.rules.specs.Observation.{ObservedSet}
 use Rattle.rules.specs.Steps.{AcceptedFrom, Accepted}
 use Rattle.rules.specs.Placing as placing
 use Rattle.rules.proofs.Reasons.{allowed-names}
@@ -39,7 +39,7 @@ use Rattle.demands.proofs.TextUniqueness.{written-then-read, read-then-
 
 -- ---- the observed set
 
-observed-least : (c : Case) → Valid c → (r : Observed) → ObservedReply c r → (set : ℕ) × (r ≡ observed.Set set) × Least (gridOf c) (setOf set)
+observed-least : (c : Case) → Valid c → (r : Observed) → ObservedReply c r → (set : ℕ) × (r ≡ observed.Set set) × ObservedSet (gridOf c) (setOf set)
 observed-least c v (observed.Set s) p = (s, refl, p .1)
 observed-least c v (observed.Refused q) p = absurd (failed-or-passed (observedChecks c) q p (v, tt))
 

@@ -12,7 +12,7 @@ use Rattle.case_read.specs.Writing.{caseText}
 use Rattle.case_read.specs.declared.CaseRead.{CaseRead}
 use Rattle.case_inverse.proofs.Inverse as inverse
 use Rattle.step_text.specs.Steps.{stepsOf, AllNamed}
-use Rattle.taking.specs.Taking.{leaves, StepsReadReply}
+use Rattle.step_text.specs.Taking.{leaves, StepsReadReply}
 use Rattle.step_text.specs.declared.StepsRead.{StepsRead}
 use Rattle.step_text.specs.declared.StepsRead.the-variants.{Steps}
 use Rattle.step_text.proofs.Found as found

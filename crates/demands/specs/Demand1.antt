@@ -12,7 +12,7 @@ use Rattle.ending.specs.declared.Wove.{Wove}
 use Rattle.ending.specs.declared.Wove.the-variants as wove
 use Rattle.case_read.specs.Reading.{refused, readCase}
 use Rattle.case_read.specs.declared.CaseRead.{CaseRead}
-use Rattle.taking.specs.Taking.{StepsReadReply}
+use Rattle.step_text.specs.Taking.{StepsReadReply}
 use Rattle.step_text.specs.declared.StepsRead.{StepsRead}
 use Rattle.step_text.specs.declared.StepsRead.the-variants as steps
 use Rattle.step_replay.specs.Replying.{TextReplayReply}

@@ -8,7 +8,7 @@ use Rattle.ending.specs.Replies.{ReplayReply, WeaveReply}
 use Rattle.ending.specs.declared.Replayed.{Replayed}
 use Rattle.ending.specs.declared.Wove.{Wove}
 use Rattle.case_read.specs.declared.CaseRead.{CaseRead}
-use Rattle.taking.specs.Taking.{StepsReadReply}
+use Rattle.step_text.specs.Taking.{StepsReadReply}
 use Rattle.step_text.specs.declared.StepsRead.{StepsRead}
 use Rattle.step_replay.specs.Replying.{TextReplayReply}
 use Rattle.step_replay.specs.declared.TextReplayed.{TextReplayed}

@@ -7,7 +7,7 @@ use lib.ListN.{length}
 use Rattle.busset.specs.Sets.{bit, In, Out, empty, add, size}
 use Rattle.step.specs.declared.Step.{Step}
 use Rattle.rules.specs.Grids.{Grid}
-use Rattle.rules.specs.Observation.{Least}
+use Rattle.rules.specs.Observation.{ObservedSet}
 use Rattle.rules.specs.Steps.{Holds, reached, Accepted, Finished}
 
 -- ---- weaving
@@ -73,4 +73,4 @@ pub record Woven (g : Grid) (desks : List (List Step)) (received : List Step) : 
   -- with one step for each
   pub each-once : length (woven received) ≡ size (reached (woven received))
   -- if any desk had finished, that is the observed set
-  pub least : Some (λ xs. Finished g (reached xs)) desks → Least g (reached (woven received))
+  pub least : Some (λ xs. Finished g (reached xs)) desks → ObservedSet g (reached (woven received))

@@ -22,15 +22,15 @@ use Rattle.rules.proofs.Derivations.{derived-accepted}
 use Rattle.rules.proofs.Leasts.{least-unique}
 use Rattle.rules.proofs.Lists.{closed-finished}
 use Rattle.rules.proofs.Ordering.{fewest-some}
-use Rattle.rules.proofs.Tests.{gap}
+use Rattle.tables.proofs.Tests.{gap}
 use Rattle.refusals.specs.declared.Refusal.the-variants.{InvalidCase, NoSuchBus, ReasonFails, OverBudget, NoCover}
 use Rattle.grid.specs.Cases.{neighbours, Valid}
 use Rattle.refusals.specs.Refusals.{Failed, numberOf}
 use Rattle.refusals.proofs.Orders.{itself, failed-or-passed, failed-unique}
-use Rattle.grid.proofs.Drawn.{withinTest, rowTest, validTest, valid-passes}
+use Rattle.tables.proofs.Drawn.{withinTest, rowTest, validTest, valid-passes}
 use Rattle.case_line.specs.Fields.{none}
 use Rattle.step_line.specs.StepLine.{stepWordOf, stepLineOf}
-use Rattle.taking.specs.Taking.{countOf}
+use Rattle.step_text.specs.Taking.{countOf}
 use Rattle.step_text.specs.Steps.{stepLines, readSteps}
 use Rattle.case_read.specs.Reading.{readLines, readText, readCase}
 use Rattle.case_read.specs.Writing.{busRecords, members, lineRecords, linesText}
@@ -142,7 +142,7 @@ weaves-right =
     v : Valid (tables.case (3 ∷ []))
     v = known .at3 .valid
 
-    by3 : ByUnit (sevenGrid [] .nbr) (set (3 ∷ [])) 2 3
+    by3 : ByUnit (sevenGrid [] .neighbours) (set (3 ∷ [])) 2 3
     by3 = record { unit = refl; joined = refl }
 
 -- ---- whole cases

@@ -19,7 +19,7 @@ use Rattle.case_read.specs.declared.ReadAnswer.{ReadAnswer}
 use Rattle.case_read.specs.declared.ReadAnswer.the-variants.{Read, Refused}
 use Rattle.case_judge.specs.declared.Verdict.{Verdict}
 use Rattle.case_judge.specs.declared.Verdict.the-variants.{Next, Last, Form, Range, Order}
-use Rattle.starred.specs.Table.{caseOf, seven, path}
+use Rattle.tables.specs.Starred.{caseOf, seven, path}
 use Rattle.tables.specs.Tables.{Right, Reads, Row, holds, fails, block}
 use Rattle.tables.specs.Drawings.{value}
 

@@ -8,8 +8,8 @@ use Rattle.text_field.specs.Split.{bytes, split, lineFeed}
 use Rattle.step.specs.declared.Step.{Step}
 use Rattle.refusals.specs.declared.Refusal.the-variants.{TextTooLong, WrongForm, OutOfRange, NoRoom, TooManySteps}
 use Rattle.step_text.specs.Steps.{stepInRange, stepLines, readSteps, stepsOf, AllNamed}
-use Rattle.taking.specs.Taking.{StepAt, withRoom, leaves, Takes}
-use Rattle.taking.specs.declared.NextStep.the-variants.{At, Nothing}
+use Rattle.step_text.specs.Taking.{StepAt, withRoom, leaves, Takes}
+use Rattle.step_text.specs.declared.taking.NextStep.the-variants.{At, Nothing}
 use Rattle.step_text.specs.declared.StepsRead.{StepsRead}
 use Rattle.step_text.specs.declared.StepsRead.the-variants.{Steps, Refused}
 use Rattle.tables.specs.Tables.{Right, Reads, Row, holds, fails, block}

@@ -6,7 +6,7 @@ use Rattle.rules.specs.Weaving.{woven, wovenFrom, WeavableFrom, Weavable, Each,
 use Rattle.refusals.specs.declared.Refusal.the-variants.{NoRoom}
 use Rattle.ending.specs.declared.Wove.the-variants as wove
 use Rattle.demands.specs.Demand3.{Demand3}
-use Rattle.starred.specs.Table.{wordOf, caseOf, seven}
+use Rattle.tables.specs.Starred.{wordOf, caseOf, seven}
 use Rattle.tables.specs.Tables.{Right, Row, holds, fails}
 use Rattle.tables.specs.Drawings.{set, own, near, zeroAt, sevenGrid}
 use Rattle.tables.specs.Steps.{derivation}

@@ -1,4 +1,4 @@
--- What each call on texts promises; for `read_steps` it is `StepsReadReply` (crate taking).
+-- What each call on texts promises; for `read_steps` it is `StepsReadReply` (crate step_text).
 use mathlib.Core.Path.{_≡_}
 use mathlib.Core.List.{List, [], _∷_, _++_}
 use Prim.Native.Nat.{ℕ, _≤_}
