@@ -116,11 +116,6 @@ pub upTo-sub : (n s : ℕ) → Sub (upTo n s) s
 upTo-sub n s b =
     ⊎-elim (λ (l : n < b). omega (arith, upTo-out n s b l)) (λ (l : b ≤ n). omega (arith, upTo-in n s b l)) (below-or n b)
 
--- a set with no bus above n is its own part up to n
-pub upTo-whole : (n s : ℕ) → ((b : ℕ) → In s b → b ≤ n) → upTo n s ≡ s
-upTo-whole n s h =
-    sub-antisym (upTo n s) s (upTo-sub n s) (sub-of s (upTo n s) (λ b p. omega (arith, upTo-in n s b (h b p))))
-
 pub both-upTo : {n s a r : ℕ} → All n a → Out s 0 → Both s a r → r ≡ upTo n s
 both-upTo {n} {s} {a} {r} al z h = ext r (upTo n s) (λ b. ⊎-elim (in-it b) (past-it b) (below-or n b))
   where

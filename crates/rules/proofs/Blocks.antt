@@ -1,52 +1,21 @@
--- Blocking sets: a bus is unobserved exactly when one holds it; each takes a site of its own from every cover, so that groups of sites bound the covers from below.
+-- Covers: units that are idle in a set, groups of sites that bound every cover from below, and one site in a cover or out of it.
 use mathlib.Core.Path.{_≡_, ap, _∙_, subst⁻¹}
 use mathlib.Core.Logic.{⊎-elim}
 use mathlib.Core.List.{List, [], _∷_}
 use Prim.Native.Nat.{ℕ, suc, _+_, _-_, _≤_, _<_, zero-le}
 use native.Mathlib.Omega.{arith}
 use lib.ListN.{length}
-use Rattle.busset.specs.Sets.{Bus, bit, In, Out, Sub, Within, All, empty, add, lack, less, meet, size, Union}
+use Rattle.busset.specs.Sets.{bit, In, Out, Sub, empty, add, less, meet, size, Union}
 use Rattle.busset.proofs.Tests.{below-or, same-or}
 use Rattle.busset.proofs.Digits.{bit-zero}
-use Rattle.busset.proofs.Members.{in-or, out-of, sub-of, lack-at, less-there, meet-at, add-here, add-grows, add-again}
+use Rattle.busset.proofs.Members.{in-or, sub-of, less-there, meet-at, add-here, add-grows, add-again}
 use Rattle.busset.proofs.Sizes.{size-empty, size-le, size-same, size-add, size-less}
-use Rattle.rules.specs.Grids.{Grid, Proper}
-use Rattle.rules.specs.Observation.{Closed, ObservedSet}
+use Rattle.rules.specs.Grids.{Grid}
+use Rattle.rules.specs.Observation.{Closed}
 use Rattle.rules.specs.Placing.{withUnits, Full, placed}
 use Rattle.rules.specs.Ways.{Way, NoWay, Cover, NoCover, Spared}
-use Rattle.rules.specs.Blocking.{Misses, Blocking, Idle, Group}
+use Rattle.rules.specs.Blocking.{Idle, Group}
 use Rattle.rules.proofs.Covering.{closed-fewer, placed-of, placed-max}
-
--- ---- a bus is unobserved exactly when a blocking set holds it
-
-module _ {g : Grid} {a : ℕ} (all : All (g .n) a) where
-  -- what a set that satisfies the rules lacks is a blocking set
-  pub closed-blocks : (v : Proper g) {s : ℕ} → Closed g s → Blocking g (lack a s)
-  closed-blocks v {s} cl = record {
-    units = λ x u. record { own = omega (arith, lack-at a s x, cl .o1 .own x u); near = λ b j. omega (arith, lack-at a s b, cl .o1 .near x u b) };
-    edge = λ w b z o j d others. let seen = cl .o2 w z (has w (v .zeros w z) o) b j (λ c k ne. has c (v .lines w c k .to) (others c k ne)) in omega (arith, lack-at a s b);
-  }
-    where
-      has : (b : ℕ) → Bus (g .n) b → Out (lack a s) b → In s b
-      has b bus o = ⊎-elim (λ (p : In s b). p) (λ (p : Out s b). absurd (omega (arith, lack-at a s b, all .has b bus))) (in-or s b)
-
-  -- and what a blocking set leaves satisfies the rules
-  pub blocks-closed : (v : Proper g) {d : ℕ} → Blocking g d → Closed g (lack a d)
-  blocks-closed v {d} bl = record {
-    o1 = record {
-      own = λ b u. omega (arith, lack-at a d b, all .has b (v .units b u), bl .units b u .own);
-      near = λ x u. sub-of (g .neighbours x) (lack a d) (λ b j. omega (arith, lack-at a d b, all .has b (v .lines x b j .to), bl .units x u .near b j));
-    };
-    o2 = λ w z o b j rest. ⊎-elim
-        (λ (p : In d b). absurd (bl .edge w b z (omega (arith, lack-at a d w)) j p (λ c k ne. let h = rest c k ne in omega (arith, lack-at a d c))))
-        (λ (p : Out d b). omega (arith, lack-at a d b, all .has b (v .lines w b j .to)))
-        (in-or d b);
-  }
-
-  -- so a bus of a blocking set is not observed, and the unobserved buses are a blocking set
-  pub blocked-unobserved : (v : Proper g) {s d : ℕ} → ObservedSet g s → Blocking g d → (b : ℕ) → In d b → Out s b
-  blocked-unobserved v {s} {d} l bl b h =
-      out-of s b (λ p. omega (arith, l .least (lack a d) (blocks-closed v bl) b, lack-at a d b))
 
 -- ---- idle units
 
@@ -173,16 +142,3 @@ cover-other {g} {sites} {rest} {k} {v} x y w h sub gives = record {
       (λ (ne : z ≡ x → ⊥). idle z (omega (arith, add-grows (less v x) y z, less-there v x z ne)))
       (same-or z x));
 }
-
--- ---- every cover has a unit that observes directly some bus of a blocking set
-
-pub cover-meets : {g : Grid} {a d sites k v b : ℕ} → Proper g → All (g .n) a → Blocking g d → Bus (g .n) b → In d b → Cover g sites k v → Within (g .n) sites
-    → ((x : ℕ) → In v x → Misses (g .neighbours) d x) → ⊥
-cover-meets {g} {a} {d} {sites} {k} {v} {b} p all bl bus h c within misses =
-    cover-not-idle c (blocks-closed all p bl) (λ full. omega (arith, full b bus, lack-at a d b)) idle
-  where
-    idle : (x : ℕ) → In v x → Idle (g .neighbours) (lack a d) x
-    idle x i = record {
-      own = omega (arith, lack-at a d x, all .has x (within x (let sub = c .of x in omega arith)), misses x i .own);
-      near = sub-of (g .neighbours x) (lack a d) (λ y j. omega (arith, lack-at a d y, all .has y (p .lines x y j .to), misses x i .near y j));
-    }

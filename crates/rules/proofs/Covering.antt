@@ -19,10 +19,6 @@ closed-fewer g {u} {v} {s} sub cl = record {
   o2 = cl .o2;
 }
 
--- more units never observe less
-pub covers-more : (g : Grid) {u v : ℕ} → Sub u v → Covers g u → Covers g v
-covers-more g sub c s cl = c s (closed-fewer g sub cl)
-
 -- units cover exactly when the observed set has all buses
 pub covers-full : (g : Grid) {u s : ℕ} → ObservedSet (withUnits g u) s → Covers g u → Full (g .n) s
 covers-full g {u} {s} l c = c s (l .closed)

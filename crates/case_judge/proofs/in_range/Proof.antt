@@ -1,3 +1,4 @@
+-- By the record's kind. A `line` makes all its three tests, which are the three that `inRange` joins.
 use mathlib.Core.Path.{refl}
 use borrow.Author.Needs.{needs}
 use Rattle.case_judge.proofs.in_range.Statement.{statement}

@@ -1,3 +1,4 @@
+-- If 1 ≤ k fails the conjunction is false. Otherwise only k ≤ n is left.
 use borrow.Author.Tests.{le-leb, lt-leb}
 use Rattle.case_judge.specs.Judging.{isBus}
 use Rattle.case_judge.proofs.is_bus.Statement.{statement}

@@ -1,3 +1,4 @@
+-- No day report is longer than 860 bytes and 1024 are lent, so it is never refused for its room.
 use native.Mathlib.Omega.{arith}
 use Rattle.report_lines.proofs.Printed.{in-bytes, no-refusal}
 use Rattle.report_day.proofs.Days.{day-fits}

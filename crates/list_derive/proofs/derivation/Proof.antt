@@ -1,3 +1,4 @@
+-- `is_valid` decides between refusal 5 with an empty list and what `derive` promises of a valid case.
 use mathlib.Core.Logic.{inl}
 use borrow.Author.Tests.{not-true, not-false}
 use Rattle.busset.proofs.Tests.{refutes}

@@ -1,3 +1,4 @@
+-- The checks 5, 7, 13 in this order; 7 fails if i or j is no bus. The stated set is s up to n, which is what `up_to` gives.
 use Prim.Native.Nat.{ℕ}
 use mathlib.Core.Path.{ap, _∙_}
 use mathlib.Core.Logic.{inl, inr}

@@ -1,3 +1,4 @@
+-- `is_valid` decides refusal 5. `observed` promises the observed set whatever the sites are, so also for this case.
 use mathlib.Core.Logic.{inl}
 use borrow.Author.Tests.{not-true, not-false}
 use Rattle.busset.proofs.Tests.{refutes}

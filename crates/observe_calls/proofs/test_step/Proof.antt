@@ -1,3 +1,4 @@
+-- The checks 5, 7, 8, 9 in this order, each decided by its call. The stated set is s up to n, which is what `up_to` gives.
 use Prim.Native.Nat.{ℕ}
 use mathlib.Core.Path.{subst}
 use mathlib.Core.Logic.{inl, inr}

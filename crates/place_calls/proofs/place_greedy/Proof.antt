@@ -1,3 +1,4 @@
+-- The checks 5, 10, 6 in this order. The count is the length of greedy's list, so refusal 6 is asked of the list itself.
 use mathlib.Core.Path.{refl, sym}
 use mathlib.Core.Logic.{inl, inr}
 use native.Mathlib.Omega.{arith}

@@ -1,3 +1,4 @@
+-- Invariant: of the units that are not left, `alone` has exactly those that no other unit confirms. The size of `left` falls.
 use mathlib.Core.Path.{ap}
 use mathlib.Core.Logic.{⊎-elim}
 use native.Mathlib.Omega.{arith}

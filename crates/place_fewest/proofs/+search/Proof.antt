@@ -1,3 +1,5 @@
+-- A recursion in which k plus the number of sites falls. Invariant: the sites left have every way of k of the sites.
+-- A way with the lowest site x is x and a way of k - 1 of the sites above; it comes before every way without x, so x is tried first.
 use Prim.Native.Nat.{ℕ, _<_, _+_, _-_}
 use native.Mathlib.Omega.{arith}
 use borrow.Author.Needs.{needs}

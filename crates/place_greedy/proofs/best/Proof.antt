@@ -1,3 +1,5 @@
+-- Invariant: no site passed lights more than `most` buses, and `site` is the lowest that lights `most`, or 0. The size of `left` falls.
+-- Sites are tried from the lowest, so a larger count alone replaces the site held: the lowest number wins a tie.
 use Prim.Native.Nat.{ℕ}
 use mathlib.Core.Logic.{⊎-elim}
 use native.Mathlib.Omega.{arith}

@@ -1,3 +1,5 @@
+-- Invariant: s is observed with the units placed, and what greedy still adds to them completes what it adds in all. budget - count falls.
+-- The site that `best` chose is a bus, and lighting it where s is observed gives the next observed set.
 use Prim.Native.Nat.{ℕ, _-_}
 use mathlib.Core.Path.{refl}
 use native.Mathlib.Omega.{arith}

@@ -1,3 +1,4 @@
+-- What `report` printed ends within the bytes lent, so the slice that is written out is there.
 use mathlib.Core.Path.{sym}
 use lib.Seq.{length-take-le}
 use Rattle.report_lines.proofs.Printed.{printed-within}

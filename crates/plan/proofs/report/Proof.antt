@@ -1,3 +1,4 @@
+-- No plan report is longer than the 69 bytes lent, so it is never refused for its room.
 use native.Mathlib.Omega.{arith}
 use Rattle.report_lines.proofs.Printed.{in-bytes, no-refusal}
 use Rattle.report_plan.proofs.Lengths.{plan-fits}

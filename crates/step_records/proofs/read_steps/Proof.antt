@@ -1,5 +1,5 @@
--- `read_steps` meets its contract: a walk of its MIR, by hand. The borrow of `out` is opened once, before the loop, and closed after it at the list that is written.
--- Of `check_room`, `count_of` and `take` only the contracts are known. `text` is never read here: a copy of what it owns is passed on with its token, which comes back.
+-- A walk of the MIR by hand. Invariant: the first i records have the first i steps, and those from `at` on are the others. m - i falls.
+-- The borrow of `out` is opened before the loop and closed after it at the list that is written. `text` is passed on with its token.
 use mathlib.Core.Path.{_≡_, refl, sym, _∙_, ap, subst}
 use mathlib.Core.Bool.{Bool, true, false}
 use Prim.Native.Nat.{ℕ, _+_, _≤_, _<_, _^_}

@@ -1,3 +1,4 @@
+-- By the reason: O names no bus, and `is_bus` decides the bus that N or Z names.
 use borrow.Author.Needs.{needs}
 use Rattle.step_text.proofs.reason_in_range.Statement.{statement}
 use Rattle.step_text.proofs.reason_in_range.Tie as tie

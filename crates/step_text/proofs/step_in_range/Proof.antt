@@ -1,3 +1,4 @@
+-- If the bus is out of range the conjunction is false. Otherwise only the reason is left.
 use Rattle.text_field.proofs.Tested.{held, failed}
 use Rattle.step_text.specs.Steps.{stepInRange}
 use borrow.Author.Needs.{needs}

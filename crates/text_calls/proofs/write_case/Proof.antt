@@ -1,3 +1,4 @@
+-- The count of bytes is the length of the text, so refusal 6 is decided before a byte is written. Then the whole text fits.
 use mathlib.Core.Path.{_≡_, refl, subst}
 use mathlib.Core.List.{List}
 use mathlib.Core.Logic.{inl, inr}

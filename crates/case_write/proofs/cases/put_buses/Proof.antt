@@ -1,3 +1,4 @@
+-- Invariant: the records of the buses from b on are left to put, and each bus passed took at most 15 bytes. b-end - b falls.
 use mathlib.Core.Path.{refl}
 use Prim.Native.Nat.{_-_}
 use native.Mathlib.Omega.{arith}

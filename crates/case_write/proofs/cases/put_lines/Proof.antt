@@ -1,3 +1,4 @@
+-- Invariant: the rows from bus a on are left to put, and each row passed took at most 960 bytes, 64 lines of 15. a-end - a falls.
 use mathlib.Core.Path.{refl}
 use Prim.Native.Nat.{_-_}
 use native.Mathlib.Omega.{arith}

@@ -1,3 +1,4 @@
+-- Invariant: the lines from a to the buses from b on are left to put, and each took at most 15 bytes. b-end - b falls.
 use mathlib.Core.Path.{refl}
 use Prim.Native.Nat.{_+_, _-_}
 use native.Mathlib.Omega.{arith}

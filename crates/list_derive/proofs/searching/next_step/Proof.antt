@@ -1,3 +1,5 @@
+-- Three invariants: no step is allowed for a bus below b; no unit below p, and no Z bus below w, is a reason for b.
+-- So the first step found has the lowest bus and the reason that is taken first. In each loop what is left of 1 to n falls.
 use Prim.Native.Nat.{_+_, _-_, _≤_}
 use mathlib.Core.Path.{_≡_, refl, _∙_, subst⁻¹}
 use mathlib.Core.Logic.{⊎-elim}

@@ -1,3 +1,4 @@
+-- Invariant: what is left is some of the others, so the y that answers yes is one of them. The size of `left` falls.
 use Prim.Native.Nat.{ℕ}
 use mathlib.Core.Path.{_≡_, ap}
 use native.Mathlib.Omega.{arith}

@@ -1,3 +1,4 @@
+-- Invariant: the row of each site that is not left is what a unit there lights. A turn takes a site from `left`, so its size falls.
 use mathlib.Core.Path.{refl}
 use native.Mathlib.Omega.{arith}
 use borrow.Author.Tests.{not-true, not-false}

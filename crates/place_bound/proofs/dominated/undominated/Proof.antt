@@ -1,3 +1,4 @@
+-- Invariant: a cover needs only the sites kept. A site goes only if a site that stays lights as much. The size of `left` falls.
 use Prim.Native.Nat.{ℕ}
 use mathlib.Core.Path.{ap}
 use mathlib.Core.Logic.{⊎-elim}

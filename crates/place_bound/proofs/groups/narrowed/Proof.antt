@@ -1,3 +1,5 @@
+-- Invariant: every cover has at least m sites in q, the sites of m groups, and all of q is idle in t, which is closed. k - m falls.
+-- After k groups a cover of k sites lies in q. If t then misses a bus, or a group is empty, there is no cover.
 use Prim.Native.Nat.{ℕ, _-_, _≤_}
 use mathlib.Core.Path.{_≡_, ap, subst}
 use native.Mathlib.Omega.{arith}

@@ -1,3 +1,4 @@
+-- Invariant: r is `Shrunk` from c, and each trial unit keeps that. A turn takes a bus from `left`, so its size falls.
 use native.Mathlib.Omega.{arith}
 use borrow.Author.Tests.{not-true}
 use Rattle.busset.specs.Sets.{setOf, size}

@@ -1,3 +1,5 @@
+-- A recursion in which k plus the number of sites falls. Invariant: a cover needs only the sites left, and those not to try are idle in c.
+-- A hopeless try removes its site from those left. If none is to try, all are idle in c, which is closed and misses a bus: no cover.
 use Prim.Native.Nat.{ℕ, _<_, _+_, _-_}
 use mathlib.Core.Path.{_≡_}
 use native.Mathlib.Omega.{arith}

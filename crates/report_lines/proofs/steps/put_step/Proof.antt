@@ -1,3 +1,4 @@
+-- By the reason: the letter and the bus that it names are put as the fields of `stepText`. `Names` bounds both numbers.
 use mathlib.Core.Path.{subst}
 use mathlib.Core.List.{append-assoc}
 use native.Mathlib.Omega.{arith}

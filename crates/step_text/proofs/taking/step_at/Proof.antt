@@ -1,3 +1,4 @@
+-- A line without a line feed, `end` and a wrong line have no step. Otherwise the next line starts after the line feed.
 use Rattle.step_text.proofs.Stepping.{steps-none, steps-said, step-here}
 use borrow.Author.Needs.{needs}
 use Rattle.step_text.proofs.taking.step_at.Statement.{statement}

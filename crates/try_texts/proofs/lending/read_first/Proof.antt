@@ -1,4 +1,5 @@
--- `read_first` meets its contract: a walk of its MIR, by hand. The array is copied to a place in memory, its first records are lent there as a slice for a lifetime that the walk makes, passed to `read_steps`, and taken back as it left them. `text` is passed on with its token, which comes back.
+-- A walk of the MIR by hand. The array is copied to memory, and its first records are lent to `read_steps` for a lifetime made here.
+-- They are taken back as it left them, and those past `room` as they were. `text` is passed on with its token, which comes back.
 use mathlib.Core.Path.{_≡_, refl, sym, _∙_, subst}
 use Prim.Native.Nat.{ℕ, _≤_}
 use mathlib.Core.List.{List, [], _∷_, _++_}
