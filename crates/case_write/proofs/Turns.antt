@@ -13,7 +13,7 @@ use Rattle.case_line.specs.Record.{recordText}
 use Rattle.case_line.specs.declared.Record.{Record}
 use Rattle.case_line.specs.declared.Record.the-variants.{Line}
 use Rattle.case_line.proofs.Lengths.{record-length}
-use Rattle.case_read.specs.Writing.{has, busRecord, busRecords, members, lineRecords, linesText}
+use Rattle.case_line.specs.CaseText.{has, busRecord, busRecords, members, lineRecords, linesText}
 use Rattle.case_read.proofs.Lengths.{lines-length, members-length}
 use Rattle.text_put.specs.Put.{Put}
 use Rattle.case_write.specs.Lines.{lineText}

@@ -24,8 +24,8 @@ use Rattle.list_follow.specs.declared.Task.the-variants.{Replay}
 use Rattle.ending.specs.declared.Replayed.{Replayed}
 use Rattle.ending.specs.declared.Replayed.the-variants as replayed
 use Rattle.case_read.specs.Reading.{got}
-use Rattle.case_read.specs.Writing.{caseText}
-use Rattle.text_put.specs.declared.Written.the-variants as written
+use Rattle.case_line.specs.CaseText.{caseText}
+use Rattle.refusals.specs.declared.Written.the-variants as written
 use Rattle.observe_calls.specs.declared.Observed.{Observed}
 use Rattle.observe_calls.specs.declared.Observed.the-variants as observed
 use Rattle.place_calls.specs.declared.Fewest.{Fewest}

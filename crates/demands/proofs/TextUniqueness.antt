@@ -8,7 +8,7 @@ use Rattle.grid.specs.declared.Case.{Case}
 use Rattle.grid.specs.Cases.{mostSteps, Valid, mostBytes}
 use Rattle.refusals.proofs.Orders.{failed-unique, failed-or-passed}
 use Rattle.case_read.specs.Reading.{got}
-use Rattle.case_read.specs.Writing.{caseText}
+use Rattle.case_line.specs.CaseText.{caseText}
 use Rattle.case_read.specs.declared.CaseRead.{CaseRead}
 use Rattle.case_inverse.proofs.Inverse as inverse
 use Rattle.step_text.specs.Steps.{stepsOf, AllNamed}
@@ -16,8 +16,8 @@ use Rattle.step_text.specs.Taking.{leaves, StepsReadReply}
 use Rattle.step_text.specs.declared.StepsRead.{StepsRead}
 use Rattle.step_text.specs.declared.StepsRead.the-variants.{Steps}
 use Rattle.step_text.proofs.Found as found
-use Rattle.text_put.specs.declared.Written.{Written}
-use Rattle.text_put.specs.declared.Written.the-variants as written
+use Rattle.refusals.specs.declared.Written.{Written}
+use Rattle.refusals.specs.declared.Written.the-variants as written
 use Rattle.text_calls.specs.Replies.{CaseReadReply, writeChecks, CaseWrittenReply, StepsCheckedReply}
 
 -- ---- uniqueness

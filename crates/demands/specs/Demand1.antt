@@ -18,8 +18,8 @@ use Rattle.step_text.specs.declared.StepsRead.the-variants as steps
 use Rattle.step_replay.specs.Replying.{TextReplayReply}
 use Rattle.step_replay.specs.declared.TextReplayed.{TextReplayed}
 use Rattle.report_lines.specs.Printing.{PrintedReply}
-use Rattle.text_put.specs.declared.Written.{Written}
-use Rattle.text_put.specs.declared.Written.the-variants as written
+use Rattle.refusals.specs.declared.Written.{Written}
+use Rattle.refusals.specs.declared.Written.the-variants as written
 use Rattle.report_day.specs.Day.{DayReport, Day}
 use Rattle.plan_input.specs.Asking.{readPlan}
 use Rattle.report_plan.specs.Plan.{planChecks, Plan}

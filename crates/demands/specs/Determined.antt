@@ -13,7 +13,7 @@ use Rattle.step_text.specs.declared.StepsRead.{StepsRead}
 use Rattle.step_replay.specs.Replying.{TextReplayReply}
 use Rattle.step_replay.specs.declared.TextReplayed.{TextReplayed}
 use Rattle.report_lines.specs.Printing.{PrintedReply}
-use Rattle.text_put.specs.declared.Written.{Written}
+use Rattle.refusals.specs.declared.Written.{Written}
 use Rattle.report_day.specs.Day.{Day}
 use Rattle.report_plan.specs.Plan.{Plan}
 use Rattle.observe_calls.specs.declared.Observed.{Observed}

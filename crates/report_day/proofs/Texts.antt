@@ -20,7 +20,7 @@ use Rattle.list_value.specs.declared.StepList.{StepList}
 use Rattle.list_value.proofs.Listing.{nth-in}
 use Rattle.text_put.specs.Put.{Put}
 use Rattle.report_lines.specs.Printing.{printed}
-use Rattle.report_lines.proofs.StepLines.{step-length}
+use Rattle.step_line.proofs.StepLines.{step-length}
 use Rattle.report_day.specs.Day.{stepsText, verdictFields}
 use Rattle.report_day.specs.Listing.{Named}
 

@@ -33,7 +33,7 @@ use Rattle.step_line.specs.StepLine.{stepWordOf, stepLineOf}
 use Rattle.step_text.specs.Taking.{countOf}
 use Rattle.step_text.specs.Steps.{stepLines, readSteps}
 use Rattle.case_read.specs.Reading.{readLines, readText, readCase}
-use Rattle.case_read.specs.Writing.{busRecords, members, lineRecords, linesText}
+use Rattle.case_line.specs.CaseText.{busRecords, members, lineRecords, linesText}
 use Rattle.ending.specs.Replies.{replayChecks}
 use Rattle.observe_calls.specs.Replies.{observedChecks}
 use Rattle.place_calls.specs.Replies.{fewestChecks}

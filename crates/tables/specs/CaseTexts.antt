@@ -12,7 +12,7 @@ use Rattle.case_build.specs.Building.{withLine}
 use Rattle.case_judge.specs.Judging.{verdict}
 use Rattle.case_read.specs.Reading.{start, readCase, got}
 use Rattle.case_inverse.specs.Grammar as grammar
-use Rattle.case_read.specs.Writing.{caseText}
+use Rattle.case_line.specs.CaseText.{caseText}
 use Rattle.case_read.specs.declared.CaseRead.{CaseRead}
 use Rattle.case_judge.specs.declared.Place.{Place}
 use Rattle.case_read.specs.declared.ReadAnswer.{ReadAnswer}

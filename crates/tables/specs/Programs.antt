@@ -7,7 +7,7 @@ use Rattle.text_field.specs.Split.{bytes}
 use Rattle.refusals.specs.declared.Refusal.the-variants.{WrongForm, OutOfRange, InvalidCase, NoRoom, NoSuchBus}
 use Rattle.text_put.specs.Put.{Put}
 use Rattle.report_lines.specs.Printing.{RefusedText, PrintedReply}
-use Rattle.text_put.specs.declared.Written.the-variants as written
+use Rattle.refusals.specs.declared.Written.the-variants as written
 use Rattle.step_text.specs.Taking.{StepsReadReply}
 use Rattle.step_text.specs.declared.StepsRead.the-variants as steps
 use Rattle.report_day.specs.Day.{Day}

@@ -13,7 +13,7 @@ use Rattle.ending.specs.declared.Replayed.the-variants as replayed
 use Rattle.ending.specs.declared.Wove.the-variants as wove
 use Rattle.case_read.specs.Reading.{refused}
 use Rattle.step_text.specs.declared.StepsRead.the-variants as steps
-use Rattle.text_put.specs.declared.Written.the-variants as written
+use Rattle.refusals.specs.declared.Written.the-variants as written
 use Rattle.observe_calls.specs.Replies.{ObservedReply, FigureReply, StepReply}
 use Rattle.list_derive.specs.Replies.{DerivationReply}
 use Rattle.place_calls.specs.Replies.{VerdictReply, GreedyReply, FewestReply}

@@ -5,12 +5,12 @@ use native.Mathlib.Omega.{arith}
 use Rattle.busset.specs.Sets.{width}
 use Rattle.rules.specs.Steps.{ReasonNames}
 use Rattle.text_field.specs.Split.{join}
 use Rattle.step_line.specs.StepLine.{stepText}
 use Rattle.text_field.proofs.Digits.{text-length}
 use Rattle.text_put.proofs.Putting.{put-then}
 use borrow.Author.Needs.{needs}
-use Rattle.report_lines.proofs.steps.put_step.Statement.{statement}
-use Rattle.report_lines.proofs.steps.put_step.Tie as tie
+use Rattle.step_line.proofs.put.put_step.Statement.{statement}
+use Rattle.step_line.proofs.put.put_step.Tie as tie
 
 enum-told : tie.Need-enum-told
 enum-told c = search needs
