@@ -7,7 +7,7 @@ use Prim.Native.Nat.{ℕ, suc, zero, _+_, _-_, _*_, _≤_, _<_}
 use native.Mathlib.Omega.{arith}
 use borrow.Author.Tests.{eqb-true}
 use lib.ListN.{length}
-use Rattle.busset.proofs.Tests.{below-or, same-or}
+use Rattle.basics.proofs.Tests.{below-or, same-or}
 use Rattle.grid.specs.Cases.{neighbours}
 use Rattle.case_line.specs.declared.Record.{Record}
 use Rattle.case_line.specs.declared.Record.the-variants.{Grid, Bus, Line, Pmu, End, Wrong}

@@ -9,7 +9,7 @@ use borrow.Author.Tests.{lt-ltb, le-ltb, le-leb, eq-eqb, eqb-true, eqb-false}
 use lib.ListN.{length}
 use Rattle.busset.specs.Sets.{bit, setOf, width, Bus as IsBus}
 use Rattle.busset.specs.Held.{hold, holdIf}
-use Rattle.busset.proofs.Tests.{below-or, same-or}
+use Rattle.basics.proofs.Tests.{below-or, same-or}
 use Rattle.busset.proofs.Holding.{hold-here, if-here}
 use Rattle.grid.specs.Cases.{neighbours}
 use Rattle.case_judge.specs.declared.Place.{Place}

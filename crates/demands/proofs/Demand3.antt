@@ -8,7 +8,8 @@ use Rattle.step.specs.declared.Step.{Step}
 use Rattle.rules.specs.Grids.{Proper}
 use Rattle.rules.specs.Observation.{ObservedSet}
 use Rattle.rules.specs.Steps.{Names, reached, Accepted}
-use Rattle.rules.specs.Weaving.{WeavableFrom, woven, Each, Shuffle, Woven}
+use Rattle.basics.specs.Lists.{Each}
+use Rattle.rules.specs.Weaving.{WeavableFrom, woven, Shuffle, Woven}
 use Rattle.rules.proofs.Lists.{accepted-names}
 use Rattle.rules.proofs.Shuffles.{shuffle-each, weaving-shuffles}
 use Rattle.grid.specs.declared.Case.{Case}

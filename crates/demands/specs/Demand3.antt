@@ -7,7 +7,8 @@ use Rattle.step.specs.Records.{written}
 use Rattle.step.specs.declared.Step.{Step}
 use Rattle.rules.specs.Observation.{ObservedSet}
 use Rattle.rules.specs.Steps.{reached, Accepted, Finished}
-use Rattle.rules.specs.Weaving.{woven, Some}
+use Rattle.basics.specs.Lists.{Some}
+use Rattle.rules.specs.Weaving.{woven}
 use Rattle.grid.specs.declared.Case.{Case}
 use Rattle.grid.specs.Cases.{gridOf}
 use Rattle.ending.specs.declared.Wove.{Wove}

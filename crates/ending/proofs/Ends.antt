@@ -4,9 +4,9 @@ use mathlib.Core.Bool.{Bool, false}
 use mathlib.Core.Logic.{inl}
 use Prim.Native.Nat.{ℕ, _≤_, _<_}
 use native.Mathlib.Omega.{arith}
-use Rattle.busset.specs.Deciding.{Decides}
+use Rattle.basics.specs.Deciding.{Decides}
 use Rattle.busset.specs.Sets.{Sub, setOf}
-use Rattle.busset.proofs.Tests.{decides-by, decides-no}
+use Rattle.basics.proofs.Tests.{decides-by, decides-no}
 use Rattle.busset.proofs.Members.{sub-of, sub-antisym}
 use Rattle.rules.specs.Grids.{Grid}
 use Rattle.rules.specs.Observation.{Closed}

@@ -4,7 +4,7 @@ use mathlib.Core.Logic.{⊎-elim}
 use Prim.Native.Nat.{ℕ, _-_, _<_}
 use native.Mathlib.Omega.{arith}
 use Rattle.busset.specs.Sets.{bit, In, Out, empty, add, less, Without}
-use Rattle.busset.proofs.Tests.{same-or}
+use Rattle.basics.proofs.Tests.{same-or}
 use Rattle.busset.proofs.Digits.{bit-zero}
 use Rattle.busset.proofs.Members.{in-or}
 use Rattle.busset.proofs.Sizes.{size-some}

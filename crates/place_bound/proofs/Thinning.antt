@@ -7,7 +7,7 @@ use native.Mathlib.Omega.{arith}
 use native.Mathlib.Nat.{le-refl}
 use lib.ListN.{length, length-set, set}
 use Rattle.busset.specs.Sets.{Bus, bit, In, Out, Sub, empty, add, less, setOf, Without}
-use Rattle.busset.proofs.Tests.{same-or}
+use Rattle.basics.proofs.Tests.{same-or}
 use Rattle.busset.proofs.Digits.{bit-zero}
 use Rattle.busset.proofs.Members.{in-or, add-sub, without-sub}
 use Rattle.rules.proofs.Blocks.{cover-other}

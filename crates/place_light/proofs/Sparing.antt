@@ -5,7 +5,7 @@ use Prim.Native.Nat.{ℕ, _≤_}
 use native.Mathlib.Omega.{arith}
 use native.Mathlib.Nat.{le-refl}
 use Rattle.busset.specs.Sets.{bit, Out, Sub, empty, less, Without}
-use Rattle.busset.proofs.Tests.{same-or}
+use Rattle.basics.proofs.Tests.{same-or}
 use Rattle.busset.proofs.Digits.{bit-zero}
 use Rattle.busset.proofs.Members.{less-here, less-there}
 use Rattle.rules.specs.Observation.{ObservedSet}

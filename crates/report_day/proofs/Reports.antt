@@ -12,7 +12,7 @@ use Rattle.step.specs.declared.Step.{Step}
 use Rattle.rules.specs.Grids.{Grid, Proper}
 use Rattle.rules.specs.Observation.{ObservedSet}
 use Rattle.rules.specs.Steps.{Names, reached}
-use Rattle.rules.specs.Weaving.{Each}
+use Rattle.basics.specs.Lists.{Each}
 use Rattle.rules.specs.Derivation.{Derivation}
 use Rattle.rules.specs.Confirming.{UnconfirmedSet}
 use Rattle.rules.proofs.Reasons.{names-more}

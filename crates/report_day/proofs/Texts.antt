@@ -9,7 +9,7 @@ use lib.Seq.{drop-cons, getD-take, length-take-le, append-snoc}
 use Rattle.busset.specs.Sets.{width}
 use Rattle.step.specs.declared.Step.{Step}
 use Rattle.rules.specs.Steps.{Names}
-use Rattle.rules.specs.Weaving.{Each}
+use Rattle.basics.specs.Lists.{Each}
 use Rattle.text_field.specs.Split.{join, bytes, lineFeed}
 use Rattle.text_field.specs.Number.{numberText}
 use Rattle.text_field.proofs.Digits.{text-length, text-two}

@@ -6,7 +6,7 @@ use Prim.Native.Nat.{ℕ, suc, _+_, _-_, _≤_, _<_, zero-le}
 use native.Mathlib.Omega.{arith}
 use lib.ListN.{length}
 use Rattle.busset.specs.Sets.{bit, In, Out, Sub, empty, add, less, meet, size, Union}
-use Rattle.busset.proofs.Tests.{below-or, same-or}
+use Rattle.basics.proofs.Tests.{below-or, same-or}
 use Rattle.busset.proofs.Digits.{bit-zero}
 use Rattle.busset.proofs.Members.{in-or, sub-of, less-there, meet-at, add-here, add-grows, add-again}
 use Rattle.busset.proofs.Sizes.{size-empty, size-le, size-same, size-add, size-less}

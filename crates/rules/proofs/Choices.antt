@@ -5,7 +5,7 @@ use mathlib.Core.List.{List, [], _∷_}
 use Prim.Native.Nat.{ℕ, zero, suc, _≤_, _<_}
 use native.Mathlib.Omega.{arith}
 use Rattle.busset.specs.Sets.{add}
-use Rattle.busset.proofs.Tests.{below-or}
+use Rattle.basics.proofs.Tests.{below-or}
 use Rattle.busset.proofs.Members.{sub-of, sub-antisym}
 use Rattle.rules.specs.Grids.{Grid}
 use Rattle.rules.specs.Placing.{withUnits}

@@ -9,7 +9,7 @@ use lib.Dec.{le→leb}
 use lib.IntN.{ℤ, pos, negℤ, _+ℤ_, _-ℤ_, +ℤ-assoc, +ℤ-comm, +ℤ-idl, +ℤ-invr, negℤ-+ℤ, pos-+ℤ-pos}
 use lib.Signed.{_≤ℤ_}
 use Rattle.busset.specs.Sets.{Bus, bit, In, Out, Within, add, size, less, meet, lack}
-use Rattle.busset.proofs.Tests.{same-or}
+use Rattle.basics.proofs.Tests.{same-or}
 use Rattle.busset.proofs.Members.{in-or, out-of, add-of, add-there, less-here, less-there, lack-at, meet-at, empty-of}
 use Rattle.busset.proofs.Sizes.{size-empty, size-less, size-parts, size-most, size-some, size-add}
 use Rattle.rules.specs.Grids.{Grid, Line, Proper}

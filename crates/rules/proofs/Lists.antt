@@ -12,7 +12,7 @@ use Rattle.step.specs.declared.Step.{Step}
 use Rattle.rules.specs.Grids.{Grid, Proper}
 use Rattle.rules.specs.Observation.{Closed, ObservedSet}
 use Rattle.rules.specs.Steps.{Names, reachedFrom, AcceptedFrom, reached, Accepted, Finished}
-use Rattle.rules.specs.Weaving.{Each}
+use Rattle.basics.specs.Lists.{Each}
 use Rattle.rules.proofs.Reasons.{holds-more, closed-reasoned, reasoned-closed, allowed-names}
 use Rattle.rules.proofs.Leasts.{least-unique}
 

@@ -7,7 +7,7 @@ use native.Mathlib.Omega.{arith}
 use native.Mathlib.Nat.{le-refl}
 use lib.ListN.{length}
 use Rattle.busset.specs.Sets.{bit, In, Sub, empty, add, Lowest, Without, Minus}
-use Rattle.busset.proofs.Tests.{same-or, below-or}
+use Rattle.basics.proofs.Tests.{same-or, below-or}
 use Rattle.busset.proofs.Digits.{bit-zero}
 use Rattle.busset.proofs.Members.{without-sub}
 use Rattle.rules.specs.Grids.{Grid}

@@ -11,7 +11,8 @@ use Rattle.step.specs.declared.Step.{Step}
 use Rattle.rules.specs.Grids.{Grid}
 use Rattle.rules.specs.Observation.{ObservedSet}
 use Rattle.rules.specs.Steps.{Holds, reachedFrom, AcceptedFrom, reached, Accepted, Finished}
-use Rattle.rules.specs.Weaving.{unlessSeen, wovenFrom, WeavableFrom, woven, Weavable, Each, Some, Taken, here, there, Shuffle, none, next, Woven}
+use Rattle.basics.specs.Lists.{Each, Some}
+use Rattle.rules.specs.Weaving.{unlessSeen, wovenFrom, WeavableFrom, woven, Weavable, Taken, here, there, Shuffle, none, next, Woven}
 use Rattle.rules.proofs.Reasons.{holds-more}
 use Rattle.rules.proofs.Lists.{reached-grows, accepted-inside, accepted-length, finished-least}
 

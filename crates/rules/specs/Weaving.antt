@@ -1,9 +1,9 @@
 -- Weaving a received list, shuffles of the desks' lists, and what demand 3 says of weaving one.
 use mathlib.Core.Path.{_≡_}
 use mathlib.Core.List.{List, [], _∷_}
-use mathlib.Core.Logic.{_⊎_}
 use Prim.Native.Nat.{ℕ, zero, suc}
 use lib.ListN.{length}
+use Rattle.basics.specs.Lists.{Each, Some}
 use Rattle.busset.specs.Sets.{bit, In, Out, empty, add, size}
 use Rattle.step.specs.declared.Step.{Step}
 use Rattle.rules.specs.Grids.{Grid}
@@ -36,16 +36,6 @@ abbrev pub Weavable : Grid → List Step → Type 0
 Weavable g xs = WeavableFrom g empty xs
 
 -- ---- shuffles
-
--- P holds of each of a list
-abbrev pub Each {ℓ} : {A : Type ℓ} → (A → Type 0) → List A → Type 0
-Each P [] = Unit {0}
-Each P (x ∷ xs) = P x × Each P xs
-
--- P holds of at least one of a list
-abbrev pub Some {ℓ} : {A : Type ℓ} → (A → Type 0) → List A → Type 0
-Some P [] = ⊥
-Some P (x ∷ xs) = P x ⊎ Some P xs
 
 -- x is the first step of one of the lists, and the lists after it are those without it
 pub data Taken : Step → List (List Step) → List (List Step) → Type 0 where

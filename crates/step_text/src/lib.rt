@@ -7,7 +7,7 @@ ghost use Rattle.step_text.specs.Steps.{reasonInRange, stepInRange, ende
 
 pub mod taking;
 
-use case_judge::is_bus;
+use busset::is_bus;
 use refusals::Refusal;
 use step::Reason;
 use step::Step;

@@ -5,7 +5,7 @@ use Prim.Native.Nat.{ℕ, zero, suc, _+_, _-_, _^_, _≤_, _<_}
 use native.Mathlib.Omega.{arith}
 use lib.ListN.{length}
 use Rattle.busset.specs.Sets.{Bus, bit, In, Within, setOf}
-use Rattle.busset.proofs.Tests.{below-or}
+use Rattle.basics.proofs.Tests.{below-or}
 use Rattle.busset.proofs.Digits.{bit-in, bit-zero}
 use Rattle.busset.proofs.Words.{set-bus}
 use Rattle.rules.specs.Grids.{total, lineCount}

@@ -7,7 +7,7 @@ use lib.Count.{ones, onesIn}
 use lib.Signed.{mag}
 use lib.ListN.{length, getD}
 use Rattle.busset.specs.Sets.{Bus, add, meet, lack, less, upTo, setOf, empty}
-use Rattle.busset.proofs.Tests.{decides-yes, decides-no, refutes}
+use Rattle.basics.proofs.Tests.{decides-yes, decides-no, refutes}
 use Rattle.text_field.specs.Split.{split, join, same}
 use Rattle.text_field.specs.Number.{digits}
 use Rattle.step.specs.Records.{noStep}

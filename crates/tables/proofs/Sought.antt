@@ -5,7 +5,7 @@ use mathlib.Core.Logic.{⊎-elim}
 use Prim.Native.Nat.{ℕ, zero, suc, _+_, _-_, _≤_, _<_}
 use native.Mathlib.Omega.{arith}
 use Rattle.busset.specs.Sets.{Bus, bit, In, Out, Sub, Within, empty, add, lack, meet, upTo, size, Lowest, Without, Minus}
-use Rattle.busset.proofs.Tests.{below-or}
+use Rattle.basics.proofs.Tests.{below-or}
 use Rattle.busset.proofs.Digits.{ext}
 use Rattle.busset.proofs.Members.{out-of, empty-of, add-of, lack-at, meet-at, upTo-in, upTo-out}
 use Rattle.busset.proofs.Sizes.{size-empty, size-some, one-more}

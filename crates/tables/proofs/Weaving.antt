@@ -14,7 +14,8 @@ use Rattle.step.specs.Records.{noStep}
 use Rattle.step.specs.declared.Step.{Step}
 use Rattle.rules.specs.Grids.{total}
 use Rattle.rules.specs.Steps.{Names, reached, Accepted}
-use Rattle.rules.specs.Weaving.{Each, Taken, here, there, Shuffle, none, next}
+use Rattle.basics.specs.Lists.{Each}
+use Rattle.rules.specs.Weaving.{Taken, here, there, Shuffle, none, next}
 use Rattle.rules.specs.Figures.{figure}
 use Rattle.tables.proofs.Tests.{gap}
 use Rattle.rules.proofs.Shuffles.{weaving-shuffles}

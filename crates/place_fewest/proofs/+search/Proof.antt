@@ -5,7 +5,7 @@ use native.Mathlib.Omega.{arith}
 use borrow.Author.Needs.{needs}
 use borrow.Author.Tests.{not-true, not-false}
 use Rattle.busset.specs.Sets.{Sub, setOf, size}
-use Rattle.busset.proofs.Tests.{refutes}
+use Rattle.basics.proofs.Tests.{refutes}
 use Rattle.busset.proofs.Members.{without-sub}
 use Rattle.busset.proofs.Sizes.{size-le}
 use Rattle.rules.specs.Grids.{Grid}

@@ -6,7 +6,7 @@ use native.Mathlib.Omega.{arith}
 use borrow.Author.Needs.{needs}
 use borrow.Author.Tests.{not-true, not-false}
 use Rattle.busset.specs.Sets.{setOf, size, Minus}
-use Rattle.busset.proofs.Tests.{refutes}
+use Rattle.basics.proofs.Tests.{refutes}
 use Rattle.rules.specs.Observation.{ObservedSet}
 use Rattle.rules.specs.Ways.{Whatever}
 use Rattle.grid.specs.Cases.{neighbours}

@@ -4,7 +4,7 @@ use mathlib.Core.Path.{_≡_, ap}
 use native.Mathlib.Omega.{arith}
 use borrow.Author.Tests.{not-true}
 use Rattle.busset.specs.Sets.{bit, Sub, setOf, size}
-use Rattle.busset.proofs.Tests.{refutes}
+use Rattle.basics.proofs.Tests.{refutes}
 use Rattle.busset.proofs.Members.{without-sub}
 use borrow.Author.Needs.{needs}
 use Rattle.place_bound.proofs.dominated.is_outlit.Statement.{statement}

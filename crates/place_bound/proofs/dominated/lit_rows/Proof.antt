@@ -3,7 +3,7 @@ use mathlib.Core.Path.{refl}
 use native.Mathlib.Omega.{arith}
 use borrow.Author.Tests.{not-true, not-false}
 use Rattle.busset.specs.Sets.{setOf, size}
-use Rattle.busset.proofs.Tests.{refutes}
+use Rattle.basics.proofs.Tests.{refutes}
 use Rattle.grid.specs.Cases.{neighbours}
 use Rattle.place_bound.proofs.Thinning.{Lighting, lighting-none, lighting-more, lighting-all}
 use borrow.Author.Needs.{needs}

@@ -5,7 +5,7 @@ use mathlib.Core.Logic.{⊎-elim}
 use native.Mathlib.Omega.{arith}
 use borrow.Author.Tests.{not-true}
 use Rattle.busset.specs.Sets.{setOf, size}
-use Rattle.busset.proofs.Tests.{refutes}
+use Rattle.basics.proofs.Tests.{refutes}
 use Rattle.grid.specs.Cases.{neighbours}
 use Rattle.place_light.proofs.Sparing.{spares-same}
 use Rattle.place_bound.proofs.Thinning.{Thinned, thinned-none, thinned-yes, thinned-no, thinned-to}

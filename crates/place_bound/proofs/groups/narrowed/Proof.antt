@@ -4,7 +4,7 @@ use Prim.Native.Nat.{ℕ, _-_, _≤_}
 use mathlib.Core.Path.{_≡_, ap, subst}
 use native.Mathlib.Omega.{arith}
 use Rattle.busset.specs.Sets.{bit, Sub, setOf}
-use Rattle.busset.proofs.Tests.{refutes}
+use Rattle.basics.proofs.Tests.{refutes}
 use Rattle.busset.proofs.Digits.{bit-zero}
 use Rattle.rules.specs.Observation.{ObservedSet}
 use Rattle.rules.specs.Ways.{Whatever}

@@ -2,7 +2,7 @@
 use native.Mathlib.Omega.{arith}
 use borrow.Author.Tests.{not-true}
 use Rattle.busset.specs.Sets.{setOf, size}
-use Rattle.busset.proofs.Tests.{refutes}
+use Rattle.basics.proofs.Tests.{refutes}
 use Rattle.grid.specs.Cases.{neighbours}
 use Rattle.place_bound.specs.Shrinking.{Shrunk}
 use Rattle.place_bound.proofs.Grouping.{shrunk-same, shrunk-more}

@@ -1,5 +1,5 @@
 -- c itself is `Shrunk`. So is the spread with the trial unit: every Z bus has fired in it, and `is_full` said no.
-use Rattle.busset.proofs.Tests.{refutes}
+use Rattle.basics.proofs.Tests.{refutes}
 use Rattle.place_bound.proofs.Grouping.{shrunk-same, shrunk-spread}
 use borrow.Author.Needs.{needs}
 use Rattle.place_bound.proofs.groups.tried.Statement.{statement}

@@ -7,7 +7,7 @@ use native.Mathlib.Nat.{eq-zero-or-pos}
 use native.Mathlib.Omega.{arith}
 use lib.Dec.{eqb, leb}
 use borrow.Author.Tests.{eqb-true, eq-eqb, leb-true, le-leb}
-use Rattle.busset.specs.Deciding.{Decides}
+use Rattle.basics.specs.Deciding.{Decides}
 
 -- ---- tests
 
