@@ -1,10 +1,10 @@
 -- No plan report is longer than the 69 bytes lent, so it is never refused for its room.
 use native.Mathlib.Omega.{arith}
 use Rattle.report_lines.proofs.Printed.{in-bytes, no-refusal}
 use Rattle.report_plan.proofs.Lengths.{plan-fits}
 use borrow.Author.Needs.{needs}
-use Rattle.plan.proofs.report.Statement.{statement}
-use Rattle.plan.proofs.report.Tie as tie
+use Rattle.report_plan.proofs.program_report.Statement.{statement}
+use Rattle.report_plan.proofs.program_report.Tie as tie
 
 plan-report-requires : tie.Need-plan-report-requires
 plan-report-requires c κs = search needs
@@ -21,5 +21,5 @@ returns c = search in-bytes
 returns-2 : tie.Need-returns-2
 returns-2 c = no-refusal _ _ (c .enum-told .given .1) (c .before .before .plan-report .ensures) (λ t p. omega (arith, plan-fits _ t p))
 
-pub report-spec : {M : Type 1} → statement M
-report-spec = tie.close (tie.spec plan-report-requires enum-known-r enum-told returns returns-2)
+pub program-report-spec : {M : Type 1} → statement M
+program-report-spec = tie.close (tie.spec plan-report-requires enum-known-r enum-told returns returns-2)
