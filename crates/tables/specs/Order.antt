@@ -57,6 +57,9 @@ lists =
     ∷ holds (InOrder (refusal 5 0 ∷ []))
     ∷ holds (InOrder (refusal 5 0 ∷ refusal 10 0 ∷ refusal 11 0 ∷ []))
     ∷ fails (InOrder (refusal 5 0 ∷ refusal 11 0 ∷ refusal 10 0 ∷ []))
+    -- a number that the table does not have
+    ∷ fails (InOrder (refusal 14 0 ∷ []))
+    ∷ fails (InOrder (refusal 5 0 ∷ refusal 14 0 ∷ []))
     ∷ holds (FirstFails (check (Unit {0}) 5 0 ∷ refusal 10 0 ∷ refusal 11 0 ∷ []) 10 0)
     ∷ fails (FirstFails (check (Unit {0}) 5 0 ∷ refusal 10 0 ∷ refusal 11 0 ∷ []) 11 0)
     ∷ fails (FirstFails (check (Unit {0}) 5 0 ∷ []) 5 0)
