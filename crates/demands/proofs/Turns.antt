@@ -1,5 +1,5 @@
 -- One list of checks after another in document 01's order; the checks of a list of steps are in it.
-use mathlib.Core.Path.{_≡_, refl, sym, _∙_, subst⁻¹}
+use mathlib.Core.Path.{_≡_, refl, sym, _∙_, subst, subst⁻¹}
 use mathlib.Core.Bool.{Bool, true, false, cond, _||_}
 use mathlib.Core.List.{List, [], _∷_, _++_}
 use mathlib.Core.Logic.{_⊎_, inl, inr}
@@ -16,7 +16,7 @@ use Rattle.list_follow.specs.Following.{checksFrom}
 use Rattle.ending.specs.Replies.{replayChecks, weaveChecks}
 use Rattle.list_follow.specs.declared.Task.{Task}
 use Rattle.list_follow.specs.declared.Task.the-variants.{Replay, Weave}
-use Rattle.demands.specs.Order.{order, isOf, isIn, groupOf, turnOf12, turn, InTable, Precedes, InOrder}
+use Rattle.demands.specs.Order.{order, isOf, isIn, groupOf, turnOf12, turn, InTable, Precedes, InOrder, FirstFails}
 
 -- ---- numbers in the table
 
@@ -85,6 +85,29 @@ then-ordered t (p ∷ q ∷ ps) qs o b f = (o .0, o .1, then-ordered t (q ∷ ps
 pub then-follows : (t u : ℕ) (ps qs : List Check) → Follows u ps → TurnsBy t ps → u ≤ t → Follows t qs → Follows u (ps ++ qs)
 then-follows t u ps qs o b l f =
     (then-ordered t ps qs (o .0) b f, λ q h. then-ordered t (q ∷ ps) qs (o .1 q h) (omega (arith, h, l), b) f)
+
+-- ---- the first that fails
+
+-- its turn is at most that of each
+pub first-turn : (t : ℕ) (qs : List Check) (n k : ℕ) → TurnsBy t qs → FirstFails qs n k → turn (check ⊥ n k) ≤ t
+first-turn t (q ∷ qs) n k b (inl f) =
+    subst (λ (place : ℕ). turn (check ⊥ n place) ≤ t) (f .2) (subst (λ (number : ℕ). turn (check ⊥ number (q .place)) ≤ t) (f .1) (b .0))
+first-turn t (q ∷ qs) n k b (inr f) = first-turn t qs n k (b .1) (f .1)
+
+precedes-trans : (p q r : Check) → Precedes p q → Precedes q r → Precedes p r
+precedes-trans p q r (inl a) (inl b) = inl (omega (arith, a, b))
+precedes-trans p q r (inl a) (inr b) = inl (omega (arith, a, b .0))
+precedes-trans p q r (inr a) (inl b) = inl (omega (arith, a .0, b))
+precedes-trans p q r (inr (e, inl a)) (inr (f, inl b)) = inr (e ∙ f, inl (omega (arith, a, b)))
+precedes-trans p q r (inr (e, inl a)) (inr (f, inr b)) = inr (e ∙ f, inl (omega (arith, a, b .0)))
+precedes-trans p q r (inr (e, inr a)) (inr (f, inl b)) = inr (e ∙ f, inl (omega (arith, a .0, b)))
+precedes-trans p q r (inr (e, inr a)) (inr (f, inr b)) = inr (e ∙ f, inr (a .0 ∙ b .0, omega (arith, a .1, b .1)))
+
+-- it comes after what the list comes after
+pub first-after : (p : Check) (qs : List Check) (n k : ℕ) → InOrder (p ∷ qs) → FirstFails qs n k → Precedes p (check ⊥ n k)
+first-after p (q ∷ qs) n k o (inl f) =
+    subst (λ (place : ℕ). Precedes p (check ⊥ n place)) (f .2) (subst (λ (number : ℕ). Precedes p (check ⊥ number (q .place))) (f .1) (o .1))
+first-after p (q ∷ qs) n k o (inr f) = precedes-trans p q (check ⊥ n k) (o .1) (first-after q qs n k (o .2) (f .1))
 
 -- ---- the steps of a list
 

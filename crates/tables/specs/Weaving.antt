@@ -2,12 +2,11 @@
 use mathlib.Core.List.{List, [], _∷_}
 use Prim.Native.Nat.{ℕ, _≤_}
 use Rattle.step.specs.declared.Step.{Step}
-use Rattle.basics.specs.Lists.{Each, Some}
-use Rattle.rules.specs.Weaving.{woven, wovenFrom, WeavableFrom, Weavable, Taken, Shuffle, Woven}
+use Rattle.rules.specs.Weaving.{woven, wovenFrom, WeavableFrom, Weavable, Each, Some, Taken, Shuffle, Woven}
 use Rattle.refusals.specs.declared.Refusal.the-variants.{NoRoom}
 use Rattle.ending.specs.declared.Wove.the-variants as wove
-use Rattle.demands.specs.Demand3.{Demand3}
-use Rattle.tables.specs.Starred.{wordOf, caseOf, seven}
+use Rattle.demands.specs.Demand3.{Weaves}
+use Rattle.starred.specs.Table.{wordOf, caseOf, seven}
 use Rattle.tables.specs.Tables.{Right, Row, holds, fails}
 use Rattle.tables.specs.Drawings.{set, own, near, zeroAt, sevenGrid}
 use Rattle.tables.specs.Steps.{derivation}
@@ -93,9 +92,12 @@ demand =
 -- the same of the call, with the records before and after and the answer
 abbrev pub calls : List Row
 calls =
-    holds (Demand3 (caseOf (seven (3 ∷ []))) desks (own 3 ∷ near 2 3 ∷ own 3 ∷ []) (own 7 ∷ own 8 ∷ own 9 ∷ []) (own 3 ∷ near 2 3 ∷ own 9 ∷ []) (wove.Written 2 (wordOf (2 ∷ 3 ∷ []))))
+    holds (Weaves (caseOf (seven (3 ∷ []))) desks (own 3 ∷ near 2 3 ∷ own 3 ∷ []) (own 7 ∷ own 8 ∷ own 9 ∷ []) (own 3 ∷ near 2 3 ∷ own 9 ∷ []) (wove.Written 2 (wordOf (2 ∷ 3 ∷ []))))
     -- it never refuses
-    ∷ fails (Demand3 (caseOf (seven (3 ∷ []))) desks (own 3 ∷ near 2 3 ∷ own 3 ∷ []) [] [] (wove.Refused NoRoom))
+    ∷ fails (Weaves (caseOf (seven (3 ∷ []))) desks (own 3 ∷ near 2 3 ∷ own 3 ∷ []) [] [] (wove.Refused NoRoom))
     -- nothing is woven
-    ∷ fails (Demand3 (caseOf (seven (3 ∷ []))) desks (own 3 ∷ near 2 3 ∷ own 3 ∷ []) (own 7 ∷ own 8 ∷ []) (own 7 ∷ own 8 ∷ []) (wove.Written 0 0))
+    ∷ fails (Weaves (caseOf (seven (3 ∷ []))) desks (own 3 ∷ near 2 3 ∷ own 3 ∷ []) (own 7 ∷ own 8 ∷ []) (own 7 ∷ own 8 ∷ []) (wove.Written 0 0))
+    -- the count is made up, or the set
+    ∷ fails (Weaves (caseOf (seven (3 ∷ []))) desks (own 3 ∷ near 2 3 ∷ own 3 ∷ []) (own 7 ∷ own 8 ∷ own 9 ∷ []) (own 3 ∷ near 2 3 ∷ own 9 ∷ []) (wove.Written 3 (wordOf (2 ∷ 3 ∷ []))))
+    ∷ fails (Weaves (caseOf (seven (3 ∷ []))) desks (own 3 ∷ near 2 3 ∷ own 3 ∷ []) (own 7 ∷ own 8 ∷ own 9 ∷ []) (own 3 ∷ near 2 3 ∷ own 9 ∷ []) (wove.Written 2 (wordOf (3 ∷ []))))
     ∷ []
