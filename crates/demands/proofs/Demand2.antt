@@ -51,13 +51,16 @@ observed-least c (observed.Refused q) v p = absurd (failed-or-passed (observedCh
 -- ---- a list is accepted exactly when each step is allowed where it stands
 
 -- steps that are allowed where they stand pass replay's checks, and those that pass are allowed
-pub accepted-checks : (c : Case) → Proper (gridOf c) → (k s : ℕ) (xs : List Step) → AcceptedFrom (gridOf c) s xs → Passed (checksFrom Replay c k s xs [])
+pub accepted-checks : (c : Case) → Proper (gridOf c) → (k s : ℕ) (xs : List Step) → AcceptedFrom (gridOf c) s xs
+    → Passed (checksFrom Replay c k s xs [])
 accepted-checks c v k s [] a = tt
-accepted-checks c v k s (x ∷ xs) a = (allowed-names v (a .0), (a .0 .new, (a .0 .holds, accepted-checks c v (suc k) (add s (x .bus)) xs (a .1))))
+accepted-checks c v k s (x ∷ xs) a =
+    (allowed-names v (a .0), (a .0 .new, (a .0 .holds, accepted-checks c v (suc k) (add s (x .bus)) xs (a .1))))
 
 checks-accepted : (c : Case) (k s : ℕ) (xs : List Step) → Passed (checksFrom Replay c k s xs []) → AcceptedFrom (gridOf c) s xs
 checks-accepted c k s [] p = tt
-checks-accepted c k s (x ∷ xs) p = (record { new = p .1 .0; holds = p .1 .1 .0 }, checks-accepted c (suc k) (add s (x .bus)) xs (p .1 .1 .1))
+checks-accepted c k s (x ∷ xs) p =
+    (record { new = p .1 .0; holds = p .1 .1 .0 }, checks-accepted c (suc k) (add s (x .bus)) xs (p .1 .1 .1))
 
 -- it has at most n steps
 accepted-few : (c : Case) (xs : List Step) → Valid c → Accepted (gridOf c) xs → length xs ≤ mostSteps
@@ -85,13 +88,15 @@ replay-exact c xs r v p = record {
 
 -- ---- the fewest
 
-refused-none : (c : Case) (budget : ℕ) (q : Refusal) → Valid c → budget ≤ 8 → Failed (fewestChecks c budget) q → Is 11 0 q × (placing.SomePlan (gridOf c) budget → ⊥)
+refused-none : (c : Case) (budget : ℕ) (q : Refusal) → Valid c → budget ≤ 8 → Failed (fewestChecks c budget) q
+    → Is 11 0 q × (placing.SomePlan (gridOf c) budget → ⊥)
 refused-none c budget q v l (inl a) = absurd (a .0 v)
 refused-none c budget q v l (inr (_, inl a)) = absurd (a .0 l)
 refused-none c budget q v l (inr (_, inr (_, inl a))) = (a .1, a .0)
 refused-none c budget q v l (inr (_, inr (_, inr (_, a)))) = absurd a
 
-none-refused : (c : Case) (budget : ℕ) (r : Fewest) → Valid c → budget ≤ 8 → FewestReply c budget r → (placing.SomePlan (gridOf c) budget → ⊥) → Refuses fewest.Refused r 11 0
+none-refused : (c : Case) (budget : ℕ) (r : Fewest) → Valid c → budget ≤ 8 → FewestReply c budget r
+    → (placing.SomePlan (gridOf c) budget → ⊥) → Refuses fewest.Refused r 11 0
 none-refused c budget (fewest.Sites m) v l p n = absurd (n (p .0 .1 .1 .0))
 none-refused c budget (fewest.Refused q) v l p n = (q, refl, refused-none c budget q v l p .0)
 
@@ -102,9 +107,11 @@ too-small c budget r v l p =
 -- ---- case texts
 
 -- the bytes written are the case's text
-written-text : (c : Case) (lent left : List ℕ) (count : ℕ) → CaseWrittenReply c lent (written.Bytes count) left → take count left ≡ caseText c
+written-text : (c : Case) (lent left : List ℕ) (count : ℕ) → CaseWrittenReply c lent (written.Bytes count) left
+    → take count left ≡ caseText c
 written-text c lent left count p =
-    ap (λ (k : ℕ). take k left) (p .1) ∙ ap (take (length (caseText c))) (p .2) ∙ take-append-seam (caseText c) (drop (length (caseText c)) lent)
+    let t = caseText c in
+    ap (λ (k : ℕ). take k left) (p .1) ∙ ap (take (length t)) (p .2) ∙ take-append-seam t (drop (length t) lent)
 
 -- ---- the demand
 
@@ -116,6 +123,7 @@ demand-2 = record {
   fewest = λ c budget sites p. p .1;
   too-small = too-small;
   read-back = λ c lent left count z p.
-      subst⁻¹ (λ (t : List ℕ). CaseReadReply t (got c)) (written-text c lent left count p) (sym (inverse.read-written c (z .rows) (p .0 .0)));
+      let e = sym (inverse.read-written c (z .rows) (p .0 .0)) in
+      subst⁻¹ (λ (t : List ℕ). CaseReadReply t (got c)) (written-text c lent left count p) e;
   written-back = λ c text lent left count r p. written-text c lent left count p ∙ sym (inverse.written-text text c (sym r));
 }

@@ -22,18 +22,20 @@ use Rattle.ending.specs.declared.Wove.{Wove}
 use Rattle.ending.specs.declared.Wove.the-variants as wove
 use Rattle.demands.specs.Demand3.{Received, Weaves, Demand3}
 
-weavable-checks : (c : Case) (k s : ℕ) (xs : List Step) (rest : List Check) → Each (Names (c .n)) xs → WeavableFrom (gridOf c) s xs → Passed rest → Passed (checksFrom Weave c k s xs rest)
+weavable-checks : (c : Case) (k s : ℕ) (xs : List Step) (rest : List Check) → Each (Names (c .n)) xs → WeavableFrom (gridOf c) s xs
+    → Passed rest → Passed (checksFrom Weave c k s xs rest)
 weavable-checks c k s [] rest n w p = p
 weavable-checks c k s (x ∷ xs) rest n w p = (n .0, (w .0, weavable-checks c (suc k) (add s (x .bus)) xs rest (n .1) (w .1) p))
 
-each-names : (c : Case) → Proper (gridOf c) → (desks : List (List Step)) → Each (Accepted (gridOf c)) desks → Each (Each (Names (c .n))) desks
+each-names : (c : Case) → Proper (gridOf c) → (desks : List (List Step)) → Each (Accepted (gridOf c)) desks
+    → Each (Each (Names (c .n))) desks
 each-names c v [] a = tt
 each-names c v (xs ∷ desks) a = (accepted-names v empty xs (a .0), each-names c v desks (a .1))
 
 weaves : (c : Case) (desks : List (List Step)) (received before after : List Step) (r : Wove) → Received c desks received before
     → WeaveReply c received before after r → Weaves c desks received before after r
 weaves c desks received before after (wove.Refused q) i p =
-    absurd (failed-or-passed (weaveChecks c received (length before)) q (p .0) (i .valid, (i .few, weavable-checks c 1 empty received last names (w .weavable) (i .room, tt))))
+    absurd (failed-or-passed (weaveChecks c received (length before)) q (p .0) (i .valid, (i .few, steps)))
   where
     w : Woven (gridOf c) desks received
     w = weaving-shuffles (gridOf c) desks received (i .alone) (i .shuffled)
@@ -43,6 +45,9 @@ weaves c desks received before after (wove.Refused q) i p =
 
     names : Each (Names (c .n)) received
     names = shuffle-each (Names (c .n)) (i .shuffled) (each-names c (i .valid .proper) desks (i .alone))
+
+    steps : Passed (checksFrom Weave c 1 empty received last)
+    steps = weavable-checks c 1 empty received last names (w .weavable) (i .room, tt)
 weaves c desks received before after (wove.Written count s) i p = record {
   count = count;
   set = s;

@@ -141,7 +141,8 @@ observed-ends c = said (ObservedReply c) ofObserved (observedChecks c) go
     go (observed.Refused q) h = refused-ends (observedChecks c) q h
 
 pub wz-observed : (text lent left : List ℕ) (r : ℕ) → Answered (OfText text ObservedFor) lent left r → ByTable (estimatorChecks text observedChecks lent) (Coded r) lent left
-wz-observed text = answered text ObservedFor observedChecks (λ c. (later-follows 1 (observedChecks c) (lit≤ tt) (lit< tt) refl, (lit≤ tt, tt))) observed-ends
+wz-observed text =
+    answered text ObservedFor observedChecks (λ c. (later-follows 1 (observedChecks c) (lit≤ tt) (lit< tt) refl, (lit≤ tt, tt))) observed-ends
 
 unconfirmed-ends : (c : Case) (a : Answer) → UnconfirmedFor c a → Ends (verdictChecks c) (AnswerRefuses a)
 unconfirmed-ends c = said (VerdictReply c) ofVerdict (verdictChecks c) go
@@ -151,7 +152,8 @@ unconfirmed-ends c = said (VerdictReply c) ofVerdict (verdictChecks c) go
     go (verdict.Refused q) h = refused-ends (verdictChecks c) q h
 
 pub wz-unconfirmed : (text lent left : List ℕ) (r : ℕ) → Answered (OfText text UnconfirmedFor) lent left r → ByTable (estimatorChecks text verdictChecks lent) (Coded r) lent left
-wz-unconfirmed text = answered text UnconfirmedFor verdictChecks (λ c. (later-follows 1 (verdictChecks c) (lit≤ tt) (lit< tt) refl, (lit≤ tt, tt))) unconfirmed-ends
+wz-unconfirmed text =
+    answered text UnconfirmedFor verdictChecks (λ c. (later-follows 1 (verdictChecks c) (lit≤ tt) (lit< tt) refl, (lit≤ tt, tt))) unconfirmed-ends
 
 -- what fewest checks, with a budget
 abbrev fewestAt : ℕ → Case → List Check

@@ -39,7 +39,8 @@ Never n k = (n ≡ 5) ⊎ ((n ≡ 12) × (k ≡ 0))
 
 never-turn : {n k : ℕ} → Never n k → 4 ≤ turn (check ⊥ n k)
 never-turn {k = k} (inl e) = subst⁻¹ (λ (n : ℕ). 4 ≤ turn (check ⊥ n k)) e (lit≤ tt)
-never-turn {k = k} (inr e) = subst⁻¹ (λ (n : ℕ). 4 ≤ turn (check ⊥ n k)) (e .0) (subst⁻¹ (λ (place : ℕ). 4 ≤ turn (check ⊥ 12 place)) (e .1) (lit≤ tt))
+never-turn {k = k} (inr e) =
+    subst⁻¹ (λ (n : ℕ). 4 ≤ turn (check ⊥ n k)) (e .0) (subst⁻¹ (λ (place : ℕ). 4 ≤ turn (check ⊥ 12 place)) (e .1) (lit≤ tt))
 
 -- another number is not it
 never-not : {n k : ℕ} (m : ℕ) → (m ≡ 5 → ⊥) → (m ≡ 12 → ⊥) → Never n k → m ≡ n → ⊥
@@ -58,7 +59,9 @@ never-after {k = k} (inl e) p = go (subst (λ (n : ℕ). Precedes (check ⊥ 12 
     go : Precedes (check ⊥ 12 0) (check ⊥ 5 k) → ⊥
     go (inl h) = omega (arith, h)
     go (inr h) = omega (arith, h .0)
-never-after {k = k} (inr e) p = go (subst (λ (place : ℕ). Precedes (check ⊥ 12 0) (check ⊥ 12 place)) (e .1) (subst (λ (n : ℕ). Precedes (check ⊥ 12 0) (check ⊥ n k)) (e .0) p))
+never-after {k = k} (inr e) p =
+    let twelve = subst (λ (n : ℕ). Precedes (check ⊥ 12 0) (check ⊥ n k)) (e .0) p in
+    go (subst (λ (place : ℕ). Precedes (check ⊥ 12 0) (check ⊥ 12 place)) (e .1) twelve)
   where
     go : Precedes (check ⊥ 12 0) (check ⊥ 12 0) → ⊥
     go (inl h) = omega (arith, h)
@@ -91,18 +94,26 @@ fifty-passes (q ∷ qs) p = (p .0, fifty-passes qs (p .1))
 abbrev OwnNever : (Case → List Check) → Type 0
 OwnNever checks = (c : Case) (lent : List ℕ) (n k : ℕ) → Valid c → Never n k → FirstFails (checks c ++ roomForSet lent) n k → ⊥
 
-never-given : (text : List ℕ) (checks : Case → List Check) → OwnNever checks → (lent : List ℕ) (n k : ℕ) → Never n k → FirstFails (estimatorChecks text checks lent) n k → ⊥
-never-given text checks own lent n k h f = go (first-in (caseChecks text) (checks (readCase text .case) ++ roomForSet lent) n k f)
+never-given : (text : List ℕ) (checks : Case → List Check) → OwnNever checks → (lent : List ℕ) (n k : ℕ) → Never n k
+    → FirstFails (estimatorChecks text checks lent) n k → ⊥
+never-given text checks own lent n k h f = go (first-in (caseChecks text) after n k f)
   where
-    go : FirstFails (caseChecks text) n k ⊎ (Passed (caseChecks text) × FirstFails (checks (readCase text .case) ++ roomForSet lent) n k) → ⊥
+    after : List Check
+    after = checks (readCase text .case) ++ roomForSet lent
+
+    go : FirstFails (caseChecks text) n k ⊎ (Passed (caseChecks text) × FirstFails after n k) → ⊥
     go (inl g) = omega (arith, first-turn 1 (caseChecks text) n k (case-turn text) g, never-turn h)
     go (inr g) = own (readCase text .case) lent n k (case-valid text (g .0)) h (g .1)
 
-no-five-or-twelve : (text : List ℕ) (checks : Case → List Check) → OwnNever checks → (lent left : List ℕ) (r : ℕ) → ByTable (estimatorChecks text checks lent) (Coded r) lent left → NoFiveOrTwelve r
+no-five-or-twelve : (text : List ℕ) (checks : Case → List Check) → OwnNever checks → (lent left : List ℕ) (r : ℕ)
+    → ByTable (estimatorChecks text checks lent) (Coded r) lent left → NoFiveOrTwelve r
 no-five-or-twelve text checks own lent left r t = record {
-  five = λ place e. never-given text checks own lent 5 place (inl refl) (t .given 5 place (record { is = e; some = lit≤ tt; most = lit< tt }));
-  twelve = λ e. never-given text checks own lent 12 0 (inr (refl, refl)) (t .given 12 0 (record { is = e; some = lit≤ tt; most = lit< tt }));
+  five = λ place e. never 5 place (inl refl) (t .given 5 place (record { is = e; some = lit≤ tt; most = lit< tt }));
+  twelve = λ e. never 12 0 (inr (refl, refl)) (t .given 12 0 (record { is = e; some = lit≤ tt; most = lit< tt }));
 }
+  where
+    never : (n k : ℕ) → Never n k → FirstFails (estimatorChecks text checks lent) n k → ⊥
+    never = never-given text checks own lent
 
 -- ---- the four
 
@@ -115,7 +126,8 @@ pub wz-observed : (text lent left : List ℕ) (r : ℕ) → Answered (OfText tex
 wz-observed text lent left r p = no-five-or-twelve text observedChecks valid-never lent left r (by-table.wz-observed text lent left r p)
 
 pub wz-unconfirmed : (text lent left : List ℕ) (r : ℕ) → Answered (OfText text UnconfirmedFor) lent left r → NoFiveOrTwelve r
-wz-unconfirmed text lent left r p = no-five-or-twelve text verdictChecks valid-never lent left r (by-table.wz-unconfirmed text lent left r p)
+wz-unconfirmed text lent left r p =
+    no-five-or-twelve text verdictChecks valid-never lent left r (by-table.wz-unconfirmed text lent left r p)
 
 -- then 10, 11
 fewest-never : (budget : ℕ) → OwnNever (λ c. fewestChecks c budget)
@@ -124,7 +136,8 @@ fewest-never budget c lent n k v h (inr (_, inl f)) = never-not 10 (λ e. omega 
 fewest-never budget c lent n k v h (inr (_, inr (_, inl f))) = never-not 11 (λ e. omega (arith, e)) (λ e. omega (arith, e)) h (f .1)
 fewest-never budget c lent n k v h (inr (_, inr (_, inr f))) = never-room lent h (f .1)
 
-pub wz-fewest : (text : List ℕ) (budget : ℕ) (lent left : List ℕ) (r : ℕ) → Answered (OfText text (FewestFor budget)) lent left r → NoFiveOrTwelve r
+pub wz-fewest : (text : List ℕ) (budget : ℕ) (lent left : List ℕ) (r : ℕ) → Answered (OfText text (FewestFor budget)) lent left r
+    → NoFiveOrTwelve r
 wz-fewest text budget lent left r p =
     no-five-or-twelve text (λ c. fewestChecks c budget) (fewest-never budget) lent left r (by-table.wz-fewest text budget lent left r p)
 
@@ -141,7 +154,9 @@ replay-never steps c lent n k v h f = go (first-in (fifty ++ replay) (roomForSet
     in-steps : Passed fifty → FirstFails replay n k → ⊥
     in-steps a (inl g) = g .0 v
     in-steps a (inr (_, inl g)) = g .0 (steps-within steps (fifty-passes (stepTextChecks steps) a))
-    in-steps a (inr (_, inr g)) = never-after h (first-after (check (length (stepsOf steps) ≤ mostSteps) 12 0) (drop 2 replay) n k (replay-ordered c (stepsOf steps) .2) (g .1))
+    in-steps a (inr (_, inr g)) =
+        let twelve = check (length (stepsOf steps) ≤ mostSteps) 12 0 in
+        never-after h (first-after twelve (drop 2 replay) n k (replay-ordered c (stepsOf steps) .2) (g .1))
 
     in-text : FirstFails fifty n k ⊎ (Passed fifty × FirstFails replay n k) → ⊥
     in-text (inl g) = omega (arith, first-turn 3 fifty n k (fifty-text-turn steps) g, never-turn h)

@@ -14,7 +14,8 @@ use Rattle.report_plan.proofs.program_report.Met as met-plan
 use Rattle.demands.specs.Programs.{Prints, Programs}
 
 -- where every text that P asks for has at most `most` bytes, and no fewer are lent
-has-room : (P : List ℕ → Type 0) (most : ℕ) → ((t : List ℕ) → P t → length t ≤ most) → (lent left : List ℕ) (r : Written) → most ≤ length lent → PrintedReply P lent left r → Prints r
+has-room : (P : List ℕ → Type 0) (most : ℕ) → ((t : List ℕ) → P t → length t ≤ most) → (lent left : List ℕ) (r : Written)
+    → most ≤ length lent → PrintedReply P lent left r → Prints r
 has-room P most fits lent left (Bytes k) l p = (k, refl)
 has-room P most fits lent left (Refused q) l p = absurd (omega (arith, p .more, fits (p .text) (p .asked), l))
 

@@ -38,7 +38,9 @@ use Rattle.demands.proofs.CaseTexts.{ReadBy, lines-judged, case-judged}
 -- ---- the reply: 6 where what is asked for has no room
 
 print-meets : (P : List ℕ → Type 0) → ((s t : List ℕ) → P s → P t → s ≡ t) → (lent left : List ℕ) (r : Written) → PrintedReply P lent left r → ByTable (printChecks P lent) (Refuses written.Refused r) lent left
-print-meets P one lent left = reply-meets (PrintedReply P lent left) (printChecks P lent) written.Refused refl (λ q p. (inl (λ h. omega (arith, h (p .text) (p .asked), p .more), p .refusal), p .kept)) cases
+print-meets P one lent left =
+    reply-meets (PrintedReply P lent left) (printChecks P lent) written.Refused refl
+    (λ q p. (inl (λ h. omega (arith, h (p .text) (p .asked), p .more), p .refusal), p .kept)) cases
   where
     cases : (r : Written) → PrintedReply P lent left r → Passed (printChecks P lent) ⊎ ((q : Refusal) × (r ≡ written.Refused q))
     cases (written.Bytes k) p = inl (λ t a. omega (arith, p .room, ap length (one t (p .text) a (p .asked))), tt)

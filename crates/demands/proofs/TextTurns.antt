@@ -43,8 +43,11 @@ lines-ordered s k l [] p before = (in-table p (omega (arith, ahead-most p before
 lines-ordered s k l (m ∷ ms) p before =
     let fourth = check (inOrder (s .place) (recordOf l) ≡ true) 4 k in
     let on = lines-ordered (next s (recordOf l)) (k + 1) m ms fourth (inr (refl, omega arith)) in
-    let after = after-record (λ qs. InOrder (fourth ∷ qs)) (recordOf l) (check (NothingFollows m ms) 2 (k + 1) ∷ []) (lineChecks (next s (recordOf l)) (k + 1) m ms) (refl, inr (refl, inl (omega arith)), refl) on in
-    (in-table p (omega (arith, ahead-most p before)), ahead-first p 2 before refl, (refl, inr (refl, inr (refl, lit< tt)), (refl, inr (refl, inr (refl, lit< tt)), after)))
+    let after = after-record (λ qs. InOrder (fourth ∷ qs)) (recordOf l) (check (NothingFollows m ms) 2 (k + 1) ∷ []) (lineChecks (next s (recordOf l)) (k + 1) m ms) (refl, inr (refl, inl (omega arith)), refl) on in (
+      in-table p (omega (arith, ahead-most p before)),
+      ahead-first p 2 before refl,
+      (refl, inr (refl, inr (refl, lit< tt)), (refl, inr (refl, inr (refl, lit< tt)), after)),
+    )
 
 lines-turn : (s : Reader) (k : ℕ) (l : List ℕ) (ms : List (List ℕ)) → TurnsBy lineTurn (lineChecks s k l ms)
 lines-turn s k l [] = (lit≤ tt, tt)
@@ -94,8 +97,11 @@ step-lines-ordered k l (m ∷ ms) p some before =
     let e = twelve-at-a-line k some in
     let twelfth = check (HasTurn (stepLineOf l) k) 12 k in
     let on = step-lines-ordered (k + 1) m ms twelfth (omega arith) (inr (e, omega arith)) in
-    let after = after-step (λ qs. InOrder (twelfth ∷ qs)) (stepLineOf l) (check (NothingFollows m ms) 2 (k + 1) ∷ []) (stepLineChecks (k + 1) m ms) (refl, inr (e, inl (omega arith)), refl) on in
-    (in-table p (omega (arith, ahead-most p before)), ahead-first p 2 before refl, (refl, inr (refl, inr (refl, lit< tt)), (refl, inr (sym e, inr (refl, lit< tt)), after)))
+    let after = after-step (λ qs. InOrder (twelfth ∷ qs)) (stepLineOf l) (check (NothingFollows m ms) 2 (k + 1) ∷ []) (stepLineChecks (k + 1) m ms) (refl, inr (e, inl (omega arith)), refl) on in (
+      in-table p (omega (arith, ahead-most p before)),
+      ahead-first p 2 before refl,
+      (refl, inr (refl, inr (refl, lit< tt)), (refl, inr (sym e, inr (refl, lit< tt)), after)),
+    )
 
 -- a check of a text keeps its turn among the others where 50 is added
 abbrev Shifts : Check → Type 0
@@ -151,7 +157,9 @@ step-text-turn text = shift-turn (stepTextChecks text) (step-text-shift text)
 
 -- a step text read beside a case text comes after it
 pub fifty-follows : (text : List ℕ) → Follows lineTurn (withFifty (stepTextChecks text))
-fifty-follows text = later-follows lineTurn (withFifty (stepTextChecks text)) (lit≤ tt) (lit< tt) (fifty-ordered (stepTextChecks text) (step-text-shift text) (step-text-ordered text))
+fifty-follows text =
+    later-follows lineTurn (withFifty (stepTextChecks text)) (lit≤ tt) (lit< tt)
+    (fifty-ordered (stepTextChecks text) (step-text-shift text) (step-text-ordered text))
 
 pub fifty-text-turn : (text : List ℕ) → TurnsBy 3 (withFifty (stepTextChecks text))
 fifty-text-turn text = fifty-turn (stepTextChecks text) (step-text-shift text)

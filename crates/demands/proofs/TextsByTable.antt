@@ -106,7 +106,8 @@ pub read-steps : (text : List ℕ) (before after : List Step) (r : StepsRead) �
     → ByTable (stepsReadChecks text (length before)) (Refuses Refused r) before after
 read-steps text before after r p =
     met (stepsReadChecks text (length before)) (Refuses Refused r)
-    (then-ordered 1 (stepTextChecks text) (hasRoom text (length before)) (step-text-ordered text) (step-text-turn text) (later-follows 1 (hasRoom text (length before)) (lit≤ tt) (lit< tt) refl))
+    (then-ordered 1 (stepTextChecks text) (hasRoom text (length before)) (step-text-ordered text) (step-text-turn text)
+    (later-follows 1 (hasRoom text (length before)) (lit≤ tt) (lit< tt) refl))
     (λ n k h. p .1 ∙ ap (λ (x : StepsRead). leaves x (stepsOf text) before) (h .1))
     (subst⁻¹ (λ (x : StepsRead). Ends (stepsReadChecks text (length before)) (Refuses Refused x)) (p .0) (room-judged text (length before) (readSteps text) refl (steps-judged text)))
 

@@ -24,7 +24,8 @@ group-in : (gs : List (List ℕ)) (k : ℕ) → groupOf gs k < length gs → isI
 group-in [] k h = absurd (omega (arith, h))
 group-in (g ∷ gs) k h = go (isOf g k) (λ l. group-in gs k l) h
   where
-    go : (b : Bool) → (groupOf gs k < length gs → isIn gs k ≡ true) → cond b 0 (suc (groupOf gs k)) < suc (length gs) → (b || isIn gs k) ≡ true
+    go : (b : Bool) → (groupOf gs k < length gs → isIn gs k ≡ true) → cond b 0 (suc (groupOf gs k)) < suc (length gs)
+        → (b || isIn gs k) ≡ true
     go true rest h = refl
     go false rest h = rest (omega (arith, h))
 
@@ -106,7 +107,8 @@ precedes-trans p q r (inr (e, inr a)) (inr (f, inr b)) = inr (e ∙ f, inr (a .0
 -- it comes after what the list comes after
 pub first-after : (p : Check) (qs : List Check) (n k : ℕ) → InOrder (p ∷ qs) → FirstFails qs n k → Precedes p (check ⊥ n k)
 first-after p (q ∷ qs) n k o (inl f) =
-    subst (λ (place : ℕ). Precedes p (check ⊥ n place)) (f .2) (subst (λ (number : ℕ). Precedes p (check ⊥ number (q .place))) (f .1) (o .1))
+    subst (λ (place : ℕ). Precedes p (check ⊥ n place)) (f .2)
+    (subst (λ (number : ℕ). Precedes p (check ⊥ number (q .place))) (f .1) (o .1))
 first-after p (q ∷ qs) n k o (inr f) = precedes-trans p q (check ⊥ n k) (o .1) (first-after q qs n k (o .2) (f .1))
 
 -- ---- the steps of a list
@@ -122,7 +124,11 @@ steps-ordered task c rest later k s [] p before = later p (ahead-most p before)
 steps-ordered Replay c rest later k s (x ∷ xs) p before = (
   in-table p (omega (arith, ahead-most p before)),
   ahead-first p 7 before refl,
-  (refl, inr (refl, inr (refl, lit< tt)), (refl, inr (refl, inr (refl, lit< tt)), steps-ordered Replay c rest later (suc k) (add s (x .bus)) xs _ (inr (refl, omega arith)))),
+  (
+    refl,
+    inr (refl, inr (refl, lit< tt)),
+    (refl, inr (refl, inr (refl, lit< tt)), steps-ordered Replay c rest later (suc k) (add s (x .bus)) xs _ (inr (refl, omega arith))),
+  ),
 )
 steps-ordered Weave c rest later k s (x ∷ xs) p before = (
   in-table p (omega (arith, ahead-most p before)),

@@ -1,6 +1,6 @@
--- Demand 2: for a valid case the observed set is the least one closed under the two published rules, and a list of steps is accepted exactly when each step
--- is allowed where it stands. The fewest-unit answer is the first smallest placement that covers; for a valid case, a budget of at most 8 is refused as too
--- small exactly when none within it does. Case texts read and written are inverse.
+-- Demand 2: For a valid case the observed set is the least one closed under the two published rules, and a list of steps is accepted
+-- exactly when each step is allowed where it stands. The fewest-unit answer is the first smallest placement that covers; for a valid case,
+-- a budget of at most 8 is refused as too small exactly when none within it does. Case texts read and written are inverse.
 use mathlib.Core.Path.{_≡_}
 use mathlib.Core.Bool.{Bool}
 use mathlib.Core.List.{List}
@@ -59,5 +59,5 @@ pub record Demand2 : Type 0 where
   pub read-back : (c : Case) (lent left : List ℕ) (count : ℕ) → Sized c → CaseWrittenReply c lent (written.Bytes count) left
       → CaseReadReply (take count left) (got c)
   -- and what is read is written back
-  pub written-back : (c : Case) (text lent left : List ℕ) (count : ℕ) → CaseReadReply text (got c) → CaseWrittenReply c lent (written.Bytes count) left
-      → take count left ≡ text
+  pub written-back : (c : Case) (text lent left : List ℕ) (count : ℕ) → CaseReadReply text (got c)
+      → CaseWrittenReply c lent (written.Bytes count) left → take count left ≡ text

@@ -1,6 +1,7 @@
--- Demand 3: let several desks each hold a list accepted alone for one valid case. Shuffle the lists in any manner that preserves each desk's order, at most
--- 1,024 steps in all, with room for the result. Weaving, which passes over buses already observed, never refuses, writes a list that is itself accepted, and
--- ends with exactly the buses at least one desk observed. If any desk had finished, that is demand 2's set, reached with one step per observed bus.
+-- Demand 3: Let several desks each hold a list accepted alone for one valid case. Shuffle the lists in any manner that preserves each
+-- desk's order, at most 1,024 steps in all, with room for the result. Weaving, which passes over buses already observed, never refuses,
+-- writes a list that is itself accepted, and ends with exactly the buses at least one desk observed. If any desk had finished, that is
+-- demand 2's set, reached with one step per observed bus.
 use mathlib.Core.Path.{_≡_}
 use mathlib.Core.List.{List}
 use Prim.Native.Nat.{ℕ, _≤_}

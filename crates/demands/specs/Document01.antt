@@ -26,7 +26,7 @@ pub record OneExactly (g : Grid) (s i j : ℕ) (figure : ℤ) : Type 0 where
   pub observed : figure ≡ pos 1 → In s i × AllBut (g .nbr i) j s
   pub one : In s i → AllBut (g .nbr i) j s → figure ≡ pos 1
 
--- a C function's result is never refusal 5, since a case that is read is valid, and never 12 at place 0, since a step text is refused at its 1,025th step
+-- the result is not refusal 5, and not 12 at place 0: a case that is read is valid, and a step text is refused at its 1,025th step
 pub record NoFiveOrTwelve (result : ℕ) : Type 0 where
   pub five : (place : ℕ) → result ≡ 100 * place + 5 → ⊥
   pub twelve : result ≡ 12 → ⊥
@@ -55,5 +55,6 @@ pub record Document01 : Type 0 where
   -- no result of the state estimator's calls is 5, or 12 at place 0
   pub wz-observed : (text lent left : List ℕ) (r : ℕ) → Answered (OfText text ObservedFor) lent left r → NoFiveOrTwelve r
   pub wz-unconfirmed : (text lent left : List ℕ) (r : ℕ) → Answered (OfText text UnconfirmedFor) lent left r → NoFiveOrTwelve r
-  pub wz-fewest : (text : List ℕ) (budget : ℕ) (lent left : List ℕ) (r : ℕ) → Answered (OfText text (FewestFor budget)) lent left r → NoFiveOrTwelve r
+  pub wz-fewest : (text : List ℕ) (budget : ℕ) (lent left : List ℕ) (r : ℕ) → Answered (OfText text (FewestFor budget)) lent left r
+      → NoFiveOrTwelve r
   pub wz-replay : (text steps lent left : List ℕ) (r : ℕ) → Answered (OfText text (ReplayFor steps)) lent left r → NoFiveOrTwelve r

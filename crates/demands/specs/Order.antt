@@ -9,10 +9,12 @@ use Rattle.refusals.specs.Refusals.{Check}
 
 -- ---- turns
 
--- 1; a bad line; those of a step text beside a case text, which is read after it, with 50 added; 5; 10 or 12; 7, 8, 9 at a bad step; 13; 11; 6
+-- 1; a bad line; those of a step text read after a case text, with 50 added; 5; 10 or 12; 7, 8, 9 at a bad step; 13; 11; 6
 abbrev pub order : List (List ℕ)
 order =
-    (1 ∷ []) ∷ (2 ∷ 3 ∷ 4 ∷ []) ∷ (51 ∷ []) ∷ (52 ∷ 53 ∷ 62 ∷ []) ∷ (5 ∷ []) ∷ (10 ∷ 12 ∷ []) ∷ (7 ∷ 8 ∷ 9 ∷ []) ∷ (13 ∷ []) ∷ (11 ∷ []) ∷ (6 ∷ []) ∷ []
+    (1 ∷ []) ∷ (2 ∷ 3 ∷ 4 ∷ [])
+    ∷ (51 ∷ []) ∷ (52 ∷ 53 ∷ 62 ∷ [])
+    ∷ (5 ∷ []) ∷ (10 ∷ 12 ∷ []) ∷ (7 ∷ 8 ∷ 9 ∷ []) ∷ (13 ∷ []) ∷ (11 ∷ []) ∷ (6 ∷ []) ∷ []
 
 -- whether k is one of these
 abbrev pub isOf : List ℕ → ℕ → Bool

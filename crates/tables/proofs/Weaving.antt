@@ -162,13 +162,16 @@ demand-right =
 pub calls-right : AllRight weaving.calls
 unfolding neighbours add setOf
 calls-right =
-    demand-3 .weaves (caseOf (seven (3 ∷ []))) weaving.desks (own 3 ∷ near 2 3 ∷ own 3 ∷ []) (own 7 ∷ own 8 ∷ own 9 ∷ []) (own 3 ∷ near 2 3 ∷ own 9 ∷ [])
-    (wove.Written 2 (wordOf (2 ∷ 3 ∷ []))) (record { valid = known .at3 .valid; alone = accepted; shuffled = shuffled; few = omega arith; room = omega arith })
+    demand-3 .weaves (caseOf (seven (3 ∷ []))) weaving.desks weaving.sent
+    (own 7 ∷ own 8 ∷ own 9 ∷ []) (own 3 ∷ near 2 3 ∷ own 9 ∷ []) (wove.Written 2 (wordOf (2 ∷ 3 ∷ [])))
+    (record { valid = known .at3 .valid; alone = accepted; shuffled = shuffled; few = omega arith; room = omega arith })
     ((known .at3 .valid, (omega arith, (named3, ((λ o. refl), (named23, ((λ o. record { unit = refl; joined = refl }), (named3, ((λ o. refl), (omega arith, tt))))))))), refl, refl, refl)
     & (λ h. let e = h .answers in let z : _≡_ {A = ℕ} 0 1 = cc in omega arith)
     & (λ h. omega (arith, ap (λ (xs : List Step). getD xs 0 noStep .bus) (h .records)))
     & (λ h. let e = h .answers in let c : _≡_ {A = ℕ} 3 (h .count) = cc in omega (arith, c, h .counted))
-    & (λ h. let e = h .answers in let s : _≡_ {A = ℕ} (wordOf (3 ∷ [])) (h .set) = cc in omega (arith, ap (λ (w : ℕ). bit (setOf w) 2) s, ap (λ (t : ℕ). bit t 2) (h .reaches)))
+    & (λ h. let e = h .answers in
+    let s : _≡_ {A = ℕ} (wordOf (3 ∷ [])) (h .set) = cc in
+    omega (arith, ap (λ (w : ℕ). bit (setOf w) 2) s, ap (λ (t : ℕ). bit t 2) (h .reaches)))
     & tt
   where
     named3 : Names 7 (own 3)
