@@ -12,7 +12,7 @@ use Rattle.busset.proofs.Sizes.{size-most}
 use Rattle.busset.proofs.Words.{all-law}
 use Rattle.step.specs.declared.Step.{Step}
 use Rattle.rules.specs.Grids.{Proper}
-use Rattle.rules.specs.Observation.{Least}
+use Rattle.rules.specs.Observation.{ObservedSet}
 use Rattle.rules.specs.Steps.{AcceptedFrom, reached, Accepted}
 use Rattle.rules.specs.Placing as placing
 use Rattle.rules.proofs.Reasons.{allowed-names}
@@ -29,9 +29,9 @@ use Rattle.list_follow.specs.declared.Task.the-variants.{Replay}
 use Rattle.ending.specs.declared.Replayed.{Replayed}
 use Rattle.ending.specs.declared.Replayed.the-variants as replayed
 use Rattle.case_read.specs.Reading.{got}
-use Rattle.case_read.specs.Writing.{caseText}
+use Rattle.case_line.specs.CaseText.{caseText}
 use Rattle.case_inverse.proofs.Inverse as inverse
-use Rattle.text_put.specs.declared.Written.the-variants as written
+use Rattle.refusals.specs.declared.Written.the-variants as written
 use Rattle.observe_calls.specs.declared.Observed.{Observed}
 use Rattle.observe_calls.specs.declared.Observed.the-variants as observed
 use Rattle.place_calls.specs.declared.Fewest.{Fewest}
@@ -44,7 +44,7 @@ use Rattle.demands.specs.Demand2.{AcceptedExactly, TooSmallExactly, Dema
 
 -- ---- the observed set
 
-observed-least : (c : Case) (r : Observed) → Valid c → ObservedReply c r → (set : ℕ) × (r ≡ observed.Set set) × Least (gridOf c) (setOf set)
+observed-least : (c : Case) (r : Observed) → Valid c → ObservedReply c r → (set : ℕ) × (r ≡ observed.Set set) × ObservedSet (gridOf c) (setOf set)
 observed-least c (observed.Set s) v p = (s, refl, p .1)
 observed-least c (observed.Refused q) v p = absurd (failed-or-passed (observedChecks c) q p (v, tt))
 

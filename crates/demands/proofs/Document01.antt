@@ -16,8 +16,8 @@ document-01 = record {
   figure-range = λ c s i j z p.
       subst⁻¹ (Runs 62) (p .1) (figure-runs (gridOf c) 62 (stated c s) i j (p .0 .0 .proper) (p .0 .0 .buses .most) (p .0 .1 .1 .0));
   figure-usable = λ c s i j z p. record {
-    observed = λ e. one-figure (gridOf c .nbr) (stated c s) i j (p .0 .1 .1 .0) (sym (p .1) ∙ e);
-    one = λ h b. p .1 ∙ figure-one (gridOf c .nbr) (stated c s) i j (p .0 .1 .1 .0) h b;
+    observed = λ e. one-figure (gridOf c .neighbours) (stated c s) i j (p .0 .1 .1 .0) (sym (p .1) ∙ e);
+    one = λ h b. p .1 ∙ figure-one (gridOf c .neighbours) (stated c s) i j (p .0 .1 .1 .0) h b;
   };
   one-text = λ x y c p q. inverse.one-text x y c (sym p) (sym q);
   read-valid = λ text c e. inverse.read-valid text c (sym e) .valid;

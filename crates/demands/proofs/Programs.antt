@@ -4,8 +4,8 @@ use mathlib.Core.List.{List}
 use Prim.Native.Nat.{ℕ, _≤_}
 use native.Mathlib.Omega.{arith}
 use lib.ListN.{length}
-use Rattle.text_put.specs.declared.Written.{Written}
-use Rattle.text_put.specs.declared.Written.the-variants.{Bytes, Refused}
+use Rattle.refusals.specs.declared.Written.{Written}
+use Rattle.refusals.specs.declared.Written.the-variants.{Bytes, Refused}
 use Rattle.report_lines.specs.Printing.{PrintedReply}
 use Rattle.report_day.proofs.Days.{day-fits}
 use Rattle.report_plan.proofs.Lengths.{plan-fits}

@@ -7,10 +7,10 @@ use Rattle.grid.specs.declared.Case.{Case}
 use Rattle.refusals.proofs.Orders.{failed-unique, failed-or-passed}
 use Rattle.case_read.specs.declared.CaseRead.{CaseRead}
 use Rattle.step_text.specs.Steps.{stepsOf}
-use Rattle.taking.specs.Taking.{leaves, StepsReadReply}
+use Rattle.step_text.specs.Taking.{leaves, StepsReadReply}
 use Rattle.step_text.specs.declared.StepsRead.{StepsRead}
-use Rattle.text_put.specs.declared.Written.{Written}
-use Rattle.text_put.specs.declared.Written.the-variants as written
+use Rattle.refusals.specs.declared.Written.{Written}
+use Rattle.refusals.specs.declared.Written.the-variants as written
 use Rattle.text_calls.specs.Replies.{CaseReadReply, writeChecks, CaseWrittenReply, StepsCheckedReply}
 
 -- ---- uniqueness

@@ -9,7 +9,7 @@ use lib.ListN.{length, take}
 use Rattle.busset.specs.Sets.{size, setOf}
 use Rattle.step.specs.declared.Step.{Step}
 use Rattle.rules.specs.Grids.{Grid}
-use Rattle.rules.specs.Observation.{Least}
+use Rattle.rules.specs.Observation.{ObservedSet}
 use Rattle.rules.specs.Steps.{reached, Accepted, Finished}
 use Rattle.rules.specs.Placing as placing
 use Rattle.grid.specs.declared.Case.{Case}
@@ -20,7 +20,7 @@ use Rattle.ending.specs.Replies.{ReplayReply}
 use Rattle.ending.specs.declared.Replayed.{Replayed}
 use Rattle.ending.specs.declared.Replayed.the-variants as replayed
 use Rattle.case_read.specs.Reading.{got}
-use Rattle.text_put.specs.declared.Written.the-variants as written
+use Rattle.refusals.specs.declared.Written.the-variants as written
 use Rattle.observe_calls.specs.declared.Observed.{Observed}
 use Rattle.observe_calls.specs.declared.Observed.the-variants as observed
 use Rattle.place_calls.specs.declared.Fewest.{Fewest}
@@ -46,11 +46,11 @@ pub record Sized (c : Case) : Type 0 where
 
 pub record Demand2 : Type 0 where
   -- for a valid case the observed set is the least one closed under the two published rules
-  pub observed : (c : Case) (r : Observed) → Valid c → ObservedReply c r → (set : ℕ) × (r ≡ observed.Set set) × Least (gridOf c) (setOf set)
+  pub observed : (c : Case) (r : Observed) → Valid c → ObservedReply c r → (set : ℕ) × (r ≡ observed.Set set) × ObservedSet (gridOf c) (setOf set)
   -- and a list of steps is accepted exactly when each step is allowed where it stands
   pub accepted : (c : Case) (xs : List Step) (r : Replayed) → Valid c → ReplayReply c xs r → AcceptedExactly (gridOf c) xs r
   -- a finished list has as many steps as the observed set has buses
-  pub finished-length : (g : Grid) (xs : List Step) (set : ℕ) → Accepted g xs → Finished g (reached xs) → Least g set → length xs ≡ size set
+  pub finished-length : (g : Grid) (xs : List Step) (set : ℕ) → Accepted g xs → Finished g (reached xs) → ObservedSet g set → length xs ≡ size set
   -- the fewest-unit answer is the first smallest placement that covers
   pub fewest : (c : Case) (budget sites : ℕ) → FewestReply c budget (fewest.Sites sites) → placing.Fewest (gridOf c) budget (setOf sites)
   -- for a valid case, a budget of at most 8 is refused as too small exactly when none within it does

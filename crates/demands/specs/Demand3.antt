@@ -9,9 +9,10 @@ use lib.ListN.{length}
 use Rattle.busset.specs.Sets.{In, size, setOf}
 use Rattle.step.specs.Records.{written}
 use Rattle.step.specs.declared.Step.{Step}
-use Rattle.rules.specs.Observation.{Least}
+use Rattle.rules.specs.Observation.{ObservedSet}
 use Rattle.rules.specs.Steps.{reached, Accepted, Finished}
-use Rattle.rules.specs.Weaving.{woven, Each, Some, Shuffle}
+use Rattle.basics.specs.Lists.{Each, Some}
+use Rattle.rules.specs.Weaving.{woven, Shuffle}
 use Rattle.grid.specs.declared.Case.{Case}
 use Rattle.grid.specs.Cases.{mostSteps, gridOf, Valid}
 use Rattle.ending.specs.Replies.{WeaveReply}
@@ -47,7 +48,7 @@ pub record Weaves (c : Case) (desks : List (List Step)) (received before after :
   -- one step for each of them
   pub each-once : count ≡ size (setOf set)
   -- if any desk had finished, that is demand 2's set
-  pub least : Some (λ xs. Finished (gridOf c) (reached xs)) desks → Least (gridOf c) (setOf set)
+  pub least : Some (λ xs. Finished (gridOf c) (reached xs)) desks → ObservedSet (gridOf c) (setOf set)
 
 pub record Demand3 : Type 0 where
   pub weaves : (c : Case) (desks : List (List Step)) (received before after : List Step) (r : Wove)

@@ -4,15 +4,17 @@ use mathlib.Core.List.{List}
 use Prim.Native.Nat.{ℕ, _+_, _*_, _≤_}
 use lib.IntN.{ℤ, pos}
 use lib.ListN.{length}
+use Rattle.basics.specs.Lists.{Each}
 use Rattle.busset.specs.Sets.{In, empty}
 use Rattle.rules.specs.Grids.{Grid}
-use Rattle.rules.specs.Observation.{AllBut, Least}
+use Rattle.rules.specs.Observation.{AllBut, ObservedSet}
+use Rattle.rules.specs.Steps.{Names}
 use Rattle.rules.specs.Figures.{Runs}
 use Rattle.grid.specs.declared.Case.{Case}
-use Rattle.grid.specs.Cases.{mostSteps, mostBytes, gridOf, Valid}
+use Rattle.grid.specs.Cases.{mostBuses, mostSteps, mostBytes, gridOf, Valid}
 use Rattle.case_read.specs.Reading.{got}
-use Rattle.case_read.specs.Writing.{caseText}
-use Rattle.step_text.specs.Steps.{stepsOf, AllNamed}
+use Rattle.case_line.specs.CaseText.{caseText}
+use Rattle.step_text.specs.Steps.{stepsOf}
 use Rattle.step_text.specs.declared.StepsRead.the-variants.{Steps}
 use Rattle.observe_calls.specs.declared.Figured.the-variants as figured
 use Rattle.observe_calls.specs.Replies.{stated, FigureReply}
@@ -23,8 +25,8 @@ use Rattle.demands.specs.Demand2.{Sized}
 
 -- the figure of i towards j, where s is observed, is 1 exactly when i and all its other neighbours are observed
 pub record OneExactly (g : Grid) (s i j : ℕ) (figure : ℤ) : Type 0 where
-  pub observed : figure ≡ pos 1 → In s i × AllBut (g .nbr i) j s
-  pub one : In s i → AllBut (g .nbr i) j s → figure ≡ pos 1
+  pub observed : figure ≡ pos 1 → In s i × AllBut (g .neighbours i) j s
+  pub one : In s i → AllBut (g .neighbours i) j s → figure ≡ pos 1
 
 -- the result is not refusal 5, and not 12 at place 0: a case that is read is valid, and a step text is refused at its 1,025th step
 pub record NoFiveOrTwelve (result : ℕ) : Type 0 where
@@ -33,7 +35,7 @@ pub record NoFiveOrTwelve (result : ℕ) : Type 0 where
 
 pub record Document01 : Type 0 where
   -- with no units the observed set is empty
-  pub least-empty : (g : Grid) → g .units ≡ empty → Least g empty
+  pub least-empty : (g : Grid) → g .units ≡ empty → ObservedSet g empty
   -- the firing figure runs from -62 to 1
   pub figure-range : (c : Case) (s i j : ℕ) (z : ℤ) → FigureReply c s i j (figured.Figure z) → Runs 62 z
   -- it is 1 exactly when i and all its other neighbours are observed
@@ -51,7 +53,7 @@ pub record Document01 : Type 0 where
   -- a step text that is found good has as many steps as is answered, at most 1,024, each with numbers 1 to 64
   pub steps-counted : (text : List ℕ) (count : ℕ) → StepsCheckedReply text (Steps count) → length (stepsOf text) ≡ count
   pub steps-few : (text : List ℕ) (count : ℕ) → StepsCheckedReply text (Steps count) → count ≤ mostSteps
-  pub steps-named : (text : List ℕ) (count : ℕ) → StepsCheckedReply text (Steps count) → AllNamed (stepsOf text)
+  pub steps-named : (text : List ℕ) (count : ℕ) → StepsCheckedReply text (Steps count) → Each (Names mostBuses) (stepsOf text)
   -- no result of the state estimator's calls is 5, or 12 at place 0
   pub wz-observed : (text lent left : List ℕ) (r : ℕ) → Answered (OfText text ObservedFor) lent left r → NoFiveOrTwelve r
   pub wz-unconfirmed : (text lent left : List ℕ) (r : ℕ) → Answered (OfText text UnconfirmedFor) lent left r → NoFiveOrTwelve r

@@ -5,8 +5,8 @@ use Prim.Native.Nat.{ℕ}
 use lib.ListN.{length}
 use contract.Lifetimes.{Lfts}
 use denote.Ref.{RefT, now}
-use Rattle.text_put.specs.declared.Written.{Written}
-use Rattle.text_put.specs.declared.Written.the-variants.{Bytes}
+use Rattle.refusals.specs.declared.Written.{Written}
+use Rattle.refusals.specs.declared.Written.the-variants.{Bytes}
 use Rattle.report_lines.specs.Printing.{Printed, PrintedReply}
 use Rattle.report_day.specs.Day.{Day}
 use Rattle.report_plan.specs.Plan.{Plan}
