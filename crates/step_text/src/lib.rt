@@ -3,6 +3,9 @@ ghost use mathlib.Core.Path.{_≡_};
 ghost use Prim.Native.Nat.{_≤_, _<_};
 ghost use lib.ListN.{length};
 ghost use Rattle.step_text.specs.Steps.{reasonInRange, stepInRange, endedAfter, readSteps};
+
+pub mod taking;
+
 use case_judge::is_bus;
 use refusals::Refusal;
 use step::Reason;
