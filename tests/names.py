@@ -198,7 +198,8 @@ def two_meanings():
         alike[name.lower()].append(name)
     for names in alike.values():
         if len(names) > 1:
-            yield " and ".join("%s (%s)" % (name, ", ".join(places[name])) for name in sorted(names)) + " differ by a capital"
+            pair = ("%s (%s)" % (name, ", ".join(places[name])) for name in sorted(names))
+            yield " and ".join(pair) + " differ by a capital"
     types = collections.defaultdict(list)
     for file in sorted(pathlib.Path("crates").glob("*/src/**/*.rt")):
         for name in re.findall(r"^(?:pub )?(?:struct|enum|type) (\w+)", file.read_text(), re.M):

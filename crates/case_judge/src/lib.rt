@@ -3,7 +3,8 @@ ghost use mathlib.Core.Path.{_≡_};
 ghost use mathlib.Core.Bool.{_&&_};
 ghost use Prim.Native.Nat.{_+_};
 ghost use lib.Dec.{eqb, ltb};
-ghost use Rattle.case_judge.specs.Judging.{isAfter, pastBuses, inPlace, inRange, inOrder, accepted, verdict, nextPlace, Fit};
+ghost use Rattle.case_judge.specs.Judging.{isAfter, pastBuses, inPlace, inRange, inOrder};
+ghost use Rattle.case_judge.specs.Judging.{accepted, verdict, nextPlace, Fit};
 use busset::is_bus;
 use case_line::Record;
 

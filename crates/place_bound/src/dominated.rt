@@ -41,7 +41,8 @@ pub fn is_outlit(rows: &[BusSet; 64], others: BusSet, x: usize) -> bool
 
 // The sites less those beside which another lights at least as much. For one unit that is not worth its while.
 pub fn undominated(nbr: &[BusSet; 64], zero: BusSet, s: BusSet, sites: BusSet, k: usize) -> BusSet
-    ensures { λ r. ⌜ ((n : ℕ) → Spares n (neighbours (now (nbr .entry))) (setOf zero) (setOf s) (setOf sites) k (setOf r)) ⌝ }
+    ensures { λ r. ⌜ ((n : ℕ)
+        → Spares n (neighbours (now (nbr .entry))) (setOf zero) (setOf s) (setOf sites) k (setOf r)) ⌝ }
 {
     if k < 2 {
         return sites;

@@ -6,8 +6,8 @@ ghost use Rattle.rules.specs.Ways.{Whatever, Cut};
 ghost use Rattle.grid.specs.Cases.{neighbours, Lines};
 use busset::BusSet;
 
-// Says yes only where no k of the sites, added where s is observed, make all buses observed: such a cover has a site of the group, and each of
-// these, tried in turn, leaves no cover of k - 1.
+// Says yes only where no k of the sites, added where s is observed, make all buses observed.
+// Such a cover has a site of the group, and each of these, tried in turn, leaves no cover of k - 1.
 pub fn is_hopeless(
     n: usize,
     nbr: &[BusSet; 64],
@@ -17,7 +17,8 @@ pub fn is_hopeless(
     k: usize,
 ) -> bool
     requires { ⌜ (n ≤ width) × Lines n (neighbours (now nbr)) × Within n (setOf sites) ⌝ }
-    ensures { λ r. ⌜ Whatever n (neighbours (now (nbr .entry))) (setOf zero) (λ g. ObservedSet g (setOf s) → Cut g (setOf sites) k r) ⌝ }
+    ensures { λ r. ⌜ Whatever n (neighbours (now (nbr .entry))) (setOf zero)
+        (λ g. ObservedSet g (setOf s) → Cut g (setOf sites) k r) ⌝ }
 {
     if place_light::is_full(n, s) {
         return false;

@@ -23,7 +23,8 @@ pub fn search(
     k: usize,
 ) -> Found
     requires { ⌜ (n ≤ width) × Lines n (neighbours (now nbr)) × Within n (setOf sites) ⌝ }
-    ensures { λ r. ⌜ Whatever n (neighbours (now (nbr .entry))) (setOf zero) (λ g. ObservedSet g (setOf s) → FoundIs g (setOf sites) k r) ⌝ }
+    ensures { λ r. ⌜ Whatever n (neighbours (now (nbr .entry))) (setOf zero)
+        (λ g. ObservedSet g (setOf s) → FoundIs g (setOf sites) k r) ⌝ }
 {
     if k == 0 {
         if place_light::is_full(n, s) {

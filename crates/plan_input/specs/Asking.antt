@@ -38,7 +38,7 @@ abbrev pub askedWith : Numeral → CaseRead → Asked
 askedWith (Is budget) read = record { budget = budget; read = read }
 askedWith Wrong read = unasked (WrongForm 1)
 
--- the first line, and the pieces after its line feed, which are the case text's lines from line 2 on; where there are none, its line feed is lacking
+-- the first line, and the pieces after its line feed, the case text's lines from line 2 on; if there are none, its line feed is missing
 unfoldable pub planLines : List ℕ → List (List ℕ) → Asked
 planLines l [] = unasked (WrongForm 1)
 planLines l (m ∷ ms) = askedWith (budgetOf l) (readLines start 2 m ms)

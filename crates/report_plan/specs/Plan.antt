@@ -23,7 +23,8 @@ planChecks c budget = check (budget ≤ mostBudget) 10 1 ∷ check (SomePlan (gr
 
 -- `fewest count`, one `pmu` line for each added site, and `end`
 abbrev pub planText : ℕ → ℕ → List ℕ
-planText n sites = printed (bytes "fewest") (numberText (size sites) ∷ []) ++ (linesText (members Pmu sites 1 n) ++ printed (bytes "end") [])
+planText n sites =
+    printed (bytes "fewest") (numberText (size sites) ∷ []) ++ (linesText (members Pmu sites 1 n) ++ printed (bytes "end") [])
 
 -- t is that text
 abbrev pub PlanText : ℕ → ℕ → List ℕ → Type 0

@@ -36,6 +36,10 @@ ended k [] [] = Steps (k - 1)
 ended k [] (m ∷ ms) = Refused (WrongForm (k + 1))
 ended k (b ∷ l) ms = Refused (WrongForm (k + 1))
 
+-- what is read where the line feed of `end`, on line k, is at index e
+abbrev pub endedAfter : ℕ → List ℕ → ℕ → StepsRead
+endedAfter k text e = ended k (split lineFeed (drop (e + 1) text) .first) (split lineFeed (drop (e + 1) text) .rest)
+
 -- what is said of line k, which holds step k: 2 before 3 before 12
 abbrev pub lineSaid : StepLine → ℕ → StepsRead → StepsRead → StepsRead
 lineSaid (StepOf x) k on end = cond (stepInRange x) (cond (ltb mostSteps k) (Refused (TooManySteps k)) on) (Refused (OutOfRange k))

@@ -1,4 +1,5 @@
--- The order of refusals: 1, then the first bad line, in it 2, 3, 4 (in a step text 12 after 3); then 5; then 10 or 12; then 7, 8, 9 at the first bad step; then 13; then 11; then 6.
+-- The order of refusals: 1, then the first bad line, in it 2, 3, 4 (in a step text 12 after 3); then 5; then 10 or 12;
+-- then 7, 8, 9 at the first bad step; then 13; then 11; then 6.
 use mathlib.Core.List.{List, [], _∷_}
 use Prim.Native.Nat.{ℕ}
 use Rattle.refusals.specs.Refusals.{Check, check}

@@ -2,7 +2,8 @@
 use mathlib.Core.Bool.{Bool, true, false}
 use mathlib.Core.List.{List, [], _∷_}
 use Prim.Native.Nat.{ℕ, _-_, _≤_, _^_}
-use Rattle.busset.specs.Sets.{Bus, bit, In, Out, Sub, Within, add, meet, lack, less, upTo, size, setOf, Union, Both, Minus, With, Without, Lowest, Counted, All}
+use Rattle.busset.specs.Sets.{Bus, bit, In, Out, Sub, Within, add, meet, lack, less, upTo, size, setOf}
+use Rattle.busset.specs.Sets.{Union, Both, Minus, With, Without, Lowest, Counted, All}
 use Rattle.busset.specs.Held as held
 use Rattle.busset.specs.Bytes.{byteOf}
 use Rattle.basics.specs.Deciding.{Decides}

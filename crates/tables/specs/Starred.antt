@@ -1,4 +1,4 @@
--- The starred grids of document 01, as one table under one statement: each row is a question of a public call, with the reply that its promise asks.
+-- The starred grids of document 01, as one table under one statement: each row asks a public call, and has the reply that it promises.
 use mathlib.Core.List.{List, [], _∷_, _++_}
 use mathlib.Core.Bool.{cond}
 use Prim.Native.Nat.{ℕ, zero, suc, _+_, _-_, _^_, _≤_}
@@ -73,7 +73,8 @@ Right (figures d bs i j z) = FigureReply (caseOf d) (wordOf bs) i j (figured.Fig
 Right (fails d x) = ReplayReply (caseOf d) (x ∷ []) (replayed.Refused (ReasonFails 1))
 Right (unconfirmed d bs) = VerdictReply (caseOf d) (verdict.Unconfirmed (wordOf bs))
 Right (adds d budget xs) =
-    (entry : List ℕ) → length xs ≤ length entry → GreedyReply (caseOf d) budget entry (xs ++ drop (length xs) entry) (greedy.Added (length xs))
+    (entry : List ℕ) → length xs ≤ length entry
+    → GreedyReply (caseOf d) budget entry (xs ++ drop (length xs) entry) (greedy.Added (length xs))
 Right (fewestIs d budget bs) = FewestReply (caseOf d) budget (fewest.Sites (wordOf bs))
 Right (uncovered d budget) = FewestReply (caseOf d) budget (fewest.Refused NoCover)
 

@@ -16,7 +16,8 @@ pub struct Filled {
 // Reads the text into the first `room` records.
 pub fn read_first(text: &[u8], out: [Step; 1032], room: usize) -> Filled
     requires { ⌜ room ≤ 1032 ⌝ }
-    ensures { λ r. ⌜ StepsReadReply (now (text .entry)) (take room out) (take room (r .out)) (r .answer) × (drop room (r .out) ≡ drop room out) ⌝ }
+    ensures { λ r. ⌜ StepsReadReply (now (text .entry)) (take room out) (take room (r .out)) (r .answer)
+        × (drop room (r .out) ≡ drop room out) ⌝ }
 {
     let mut records = out;
     let answer = read_steps(text, &mut records[..room]);
