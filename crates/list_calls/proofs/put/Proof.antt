@@ -72,14 +72,14 @@ use Rattle.ending.proofs.count_of.Symbol.{name as #ending·count-of}
 use Rattle.ending.proofs.count_of.Met as count-of-thm
 use Rattle.list_value.proofs.nth as nth
 use Rattle.list_value.proofs.nth.Symbol as nth-def
-use Rattle.list_value.proofs.nth.Symbol.{name as #steplist·nth}
+use Rattle.list_value.proofs.nth.Symbol.{name as #list_value·nth}
 use Rattle.list_value.proofs.nth.Met as nth-thm
 use Rattle.list_calls.proofs.Rows.{following-made, following-typed, list-made, list-typed, wove-made, wove-typed}
 use Rattle.walking.proofs.StepRow.{step-made, step-typed}
 use Rattle.walking.proofs.Calling.{calls-plain}
 use Rattle.walking.proofs.Counting.{next-fits, next-le, nearer, Nearer, nearer-wf, below, above, inside}
 use Rattle.walking.proofs.Walking.{let-go, walk-proves}
-use Rattle.list_calls.proofs.put.Key.{name as #desks·put}
+use Rattle.list_calls.proofs.put.Key.{name as #list_calls·put}
 use Rattle.list_calls.proofs.put as f
 use Rattle.list_calls.proofs.put.Statement as stated
 use Rattle.list_calls.proofs.put.Code as code
@@ -159,7 +159,7 @@ module _ {M : Type 1} (𝓤 : URA M) (H : Heap 𝓤) (A : Atoms 𝓤) (W : Given
   sp τ = spell mir.table τ
 
   -- the loop, once it is settled that m records are written
-  module _ (𝓣 : Tables 𝓤 H) (known : Triple 𝓤 (𝓣 .C #steplist·nth) (Nth 𝓤 H A mem run)) (w : Wove) (u : Val) (gw : Is O.the-row w (u ∷ [])) (told : SettledAt st n w (st .standing)) (m : ℕ) (gm : m < 2 ^ 64) (counted : m ≡ countOf w) (l₀ l₁ l₂ l₃ l₄ l₅ l₆ l₇ l₈ l₉ l₁₀ l₁₁ : ℕ) where
+  module _ (𝓣 : Tables 𝓤 H) (known : Triple 𝓤 (𝓣 .C #list_value·nth) (Nth 𝓤 H A mem run)) (w : Wove) (u : Val) (gw : Is O.the-row w (u ∷ [])) (told : SettledAt st n w (st .standing)) (m : ℕ) (gm : m < 2 ^ 64) (counted : m ≡ countOf w) (l₀ l₁ l₂ l₃ l₄ l₅ l₆ l₇ l₈ l₉ l₁₀ l₁₁ : ℕ) where
     abbrev at-i : Turn m → ℕ
     at-i t = t .i
 
@@ -231,7 +231,7 @@ module _ {M : Type 1} (𝓤 : URA M) (H : Heap 𝓤) (A : Atoms 𝓤) (W : Given
     looped : ent 𝓤 (⋆ 𝓤 H A (At start)) (Wp 𝓤 H C Λ E mir.t-6 (atReturn 𝓤 H E Post))
     looped = qed W (At start) ∵ exec ! C Λ E mir.t-6 (atRet E Post) $ first ! $ blocks ! $ loops ! 𝓣 (Nearer m at-i) (nearer-wf m at-i) At (λ t. turn t (ltb (t .i) m) refl) start
 
-  module _ (𝓣 : Tables 𝓤 H) (settles : Triple 𝓤 (𝓣 .C #ending·settled) (Settled 𝓤 H A mem run)) (counts : Triple 𝓤 (𝓣 .C #ending·count-of) (CountOf 𝓤 H A mem run)) (finds : Triple 𝓤 (𝓣 .C #steplist·nth) (Nth 𝓤 H A mem run)) where
+  module _ (𝓣 : Tables 𝓤 H) (settles : Triple 𝓤 (𝓣 .C #ending·settled) (Settled 𝓤 H A mem run)) (counts : Triple 𝓤 (𝓣 .C #ending·count-of) (CountOf 𝓤 H A mem run)) (finds : Triple 𝓤 (𝓣 .C #list_value·nth) (Nth 𝓤 H A mem run)) where
     walk : ent 𝓤 (onEntry 𝓤 H A f.signature (κ, tt) (q, tt) a at) (WpFn 𝓤 H (𝓣 .C) (𝓣 .Λ) code.function (mach ∷ sliceVal (b, o) n ∷ []) Post)
     walk =
         qed W ((‵ (flft κ q) ⊛ ‵ ftrue) ∷ ‵ (owns (S.the-row ∷ MutSlice (named 0) κ T.the-row ∷ []) a at) ∷ []) ∵ enter ! (𝓣 .C) (𝓣 .Λ) code.function (mach ∷ sliceVal (b, o) n ∷ []) _ $
@@ -254,7 +254,7 @@ module _ {M : Type 1} (𝓤 : URA M) (H : Heap 𝓤) (A : Atoms 𝓤) (W : Given
         opens-slice ! tt T.the-row ys b o $
         keep ! (0 ∷ 1 ∷ 2 ∷ 3 ∷ 4 ∷ 5 ∷ 6 ∷ 7 ∷ 8 ∷ 9 ∷ 10 ∷ 11 ∷ 12 ∷ 13 ∷ 14 ∷ 15 ∷ 16 ∷ 17 ∷ 18 ∷ 19 ∷ 20 ∷ 21 ∷ 22 ∷ 23 ∷ 24 ∷ 25 ∷ 26 ∷ 27 ∷ 28 ∷ 29 ∷ []) $ by ! (looped 𝓣 finds w u gw told m (gm .1) counted l₀ l₁ l₂ l₃ l₄ l₅ l₆ l₇ l₈ l₉ l₁₀ l₁₁)))))))))))))))
 
-module _ {M : Type 1} (𝓤 : URA M) (H : Heap 𝓤) (A : Atoms 𝓤) (W : Given 𝓤 H A) (mem : Memory → SProp 𝓤) (run : Routine → Fun 𝓤) (𝓣 : Tables 𝓤 H) (settles : Triple 𝓤 (𝓣 .C #ending·settled) (Settled 𝓤 H A mem run)) (counts : Triple 𝓤 (𝓣 .C #ending·count-of) (CountOf 𝓤 H A mem run)) (finds : Triple 𝓤 (𝓣 .C #steplist·nth) (Nth 𝓤 H A mem run)) where
+module _ {M : Type 1} (𝓤 : URA M) (H : Heap 𝓤) (A : Atoms 𝓤) (W : Given 𝓤 H A) (mem : Memory → SProp 𝓤) (run : Routine → Fun 𝓤) (𝓣 : Tables 𝓤 H) (settles : Triple 𝓤 (𝓣 .C #ending·settled) (Settled 𝓤 H A mem run)) (counts : Triple 𝓤 (𝓣 .C #ending·count-of) (CountOf 𝓤 H A mem run)) (finds : Triple 𝓤 (𝓣 .C #list_value·nth) (Nth 𝓤 H A mem run)) where
   meets : Meets 𝓤 H A f.signature (WpFn 𝓤 H (𝓣 .C) (𝓣 .Λ) code.function) (f.spec 𝓤 H A mem run)
   meets =
       walk-proves 𝓤 H A W f.ended stayed (f.clauses 𝓤 H A mem run) 𝓣 code.function (goes-none 𝓤 H A W 1 (λ _. S.the-row) yes (λ κs x f. refl), (goes-slice 𝓤 H A W 1 0 tt (plain (λ _. T.the-row)), tt))
@@ -265,8 +265,8 @@ pub put-spec : {M : Type 1} → stated.statement M
 unfolding code.routine tablesOf
 put-spec 𝓤 H 𝓜 𝓖 𝓡 =
     entered 𝓤 H (tripleOf 𝓤 H (𝓖 .A) f.signature (f.spec 𝓤 H (𝓖 .A) (𝓜 .mem) (𝓡 .run)))
-    (tables 𝓤 H 𝓜 𝓡 code.env .C) (tables 𝓤 H 𝓜 𝓡 code.env .Λ) #desks·put code.function (code.unfolded 𝓤 H 𝓜 𝓡)
+    (tables 𝓤 H 𝓜 𝓡 code.env .C) (tables 𝓤 H 𝓜 𝓡 code.env .Λ) #list_calls·put code.function (code.unfolded 𝓤 H 𝓜 𝓡)
     (meets 𝓤 H (𝓖 .A) (givenOf 𝓤 H 𝓜 𝓖) (𝓜 .mem) (𝓡 .run) (tablesOf 𝓤 H 𝓜 (tables 𝓤 H 𝓜 𝓡 code.env))
     (cited 𝓤 H (Settled 𝓤 H (𝓖 .A) (𝓜 .mem) (𝓡 .run)) 𝓜 𝓡 code.env #ending·settled settled-def.routine code.calls-ending·settled (settled-thm.met 𝓤 H 𝓜 𝓖 𝓡))
     (cited 𝓤 H (CountOf 𝓤 H (𝓖 .A) (𝓜 .mem) (𝓡 .run)) 𝓜 𝓡 code.env #ending·count-of count-of-def.routine code.calls-ending·count-of (count-of-thm.met 𝓤 H 𝓜 𝓖 𝓡))
-    (cited 𝓤 H (Nth 𝓤 H (𝓖 .A) (𝓜 .mem) (𝓡 .run)) 𝓜 𝓡 code.env #steplist·nth nth-def.routine code.calls-steplist·nth (nth-thm.met 𝓤 H 𝓜 𝓖 𝓡)))
+    (cited 𝓤 H (Nth 𝓤 H (𝓖 .A) (𝓜 .mem) (𝓡 .run)) 𝓜 𝓡 code.env #list_value·nth nth-def.routine code.calls-list-value·nth (nth-thm.met 𝓤 H 𝓜 𝓖 𝓡)))

@@ -43,7 +43,7 @@ use Rattle.ending.specs.declared.Replayed.{Replayed}
 use Rattle.ending.proofs.Outcomes.{replay-law}
 use Rattle.ending.proofs.Replayed as R
 use Rattle.list_follow.proofs.begin.Symbol as begin-def
-use Rattle.list_follow.proofs.begin.Symbol.{name as #following·begin}
+use Rattle.list_follow.proofs.begin.Symbol.{name as #list_follow·begin}
 use Rattle.list_follow.proofs.begin.Met as begin-thm
 use Rattle.ending.proofs.ended as ended
 use Rattle.ending.proofs.ended.Symbol as ended-def
@@ -54,9 +54,9 @@ use Rattle.walking.proofs.Calling.{calls-plain}
 use Rattle.walking.proofs.Walking.{let-go, walk-proves}
 use Rattle.list_calls.proofs.Beginning.{Begin, Follow, calls-begin, calls-follow}
 use Rattle.list_calls.proofs.follow.Symbol as follow-def
-use Rattle.list_calls.proofs.follow.Symbol.{name as #desks·follow}
+use Rattle.list_calls.proofs.follow.Symbol.{name as #list_calls·follow}
 use Rattle.list_calls.proofs.follow.Met as follow-thm
-use Rattle.list_calls.proofs.replay.Key.{name as #desks·replay}
+use Rattle.list_calls.proofs.replay.Key.{name as #list_calls·replay}
 use Rattle.list_calls.proofs.replay as f
 use Rattle.list_calls.proofs.replay.Statement as stated
 use Rattle.list_calls.proofs.replay.Code as code
@@ -97,7 +97,7 @@ module _ {M : Type 1} (𝓤 : URA M) (H : Heap 𝓤) (A : Atoms 𝓤) (W : Given
       use1 W (‵ (flft κ q) ⊛ ‵ ftrue) (id⊢ 𝓤 _) $ frame ! $ nothing ! $ nothing ! $ fjoin ! $ owned ! D.the-row (Is D.the-row) (case-made 𝓤 H A) cs _ gcs $ fjoin ! $ frame ! $
       owned ! R.the-row (Is R.the-row) (replayed-made 𝓤 H A) r _ is $ done !
 
-  module _ (𝓣 : Tables 𝓤 H) (begins : Triple 𝓤 (𝓣 .C #following·begin) (Begin 𝓤 H A mem run)) (follows : Triple 𝓤 (𝓣 .C #desks·follow) (Follow 𝓤 H A mem run)) (ends : Triple 𝓤 (𝓣 .C #ending·ended) (End 𝓤 H A mem run)) where
+  module _ (𝓣 : Tables 𝓤 H) (begins : Triple 𝓤 (𝓣 .C #list_follow·begin) (Begin 𝓤 H A mem run)) (follows : Triple 𝓤 (𝓣 .C #list_calls·follow) (Follow 𝓤 H A mem run)) (ends : Triple 𝓤 (𝓣 .C #ending·ended) (End 𝓤 H A mem run)) where
     walk : ent 𝓤 (onEntry 𝓤 H A f.signature (κ, tt) (q, tt) a at) (WpFn 𝓤 H (𝓣 .C) (𝓣 .Λ) code.function (cmach ∷ sliceVal (b, o) n ∷ []) Post)
     walk =
         qed W (raw (alive 𝓤 H A f.signature (κ, tt) (q, tt)) ∷ ‵ (owns (D.the-row ∷ ShrSlice (named 0) κ T.the-row ∷ []) a at) ∷ []) ∵ enter ! (𝓣 .C) (𝓣 .Λ) code.function (cmach ∷ sliceVal (b, o) n ∷ []) _ $
@@ -120,7 +120,7 @@ module _ {M : Type 1} (𝓤 : URA M) (H : Heap 𝓤) (A : Atoms 𝓤) (W : Given
         let-go ! $ let-go ! $ let-go ! $ let-go ! $ let-go ! $ let-go ! $ let-go ! $ free0 ! $
         by ! (exits r v gr (replay-law ys r e₁ e₂ e₃))))))))))))
 
-module _ {M : Type 1} (𝓤 : URA M) (H : Heap 𝓤) (A : Atoms 𝓤) (W : Given 𝓤 H A) (mem : Memory → SProp 𝓤) (run : Routine → Fun 𝓤) (𝓣 : Tables 𝓤 H) (begins : Triple 𝓤 (𝓣 .C #following·begin) (Begin 𝓤 H A mem run)) (follows : Triple 𝓤 (𝓣 .C #desks·follow) (Follow 𝓤 H A mem run)) (ends : Triple 𝓤 (𝓣 .C #ending·ended) (End 𝓤 H A mem run)) where
+module _ {M : Type 1} (𝓤 : URA M) (H : Heap 𝓤) (A : Atoms 𝓤) (W : Given 𝓤 H A) (mem : Memory → SProp 𝓤) (run : Routine → Fun 𝓤) (𝓣 : Tables 𝓤 H) (begins : Triple 𝓤 (𝓣 .C #list_follow·begin) (Begin 𝓤 H A mem run)) (follows : Triple 𝓤 (𝓣 .C #list_calls·follow) (Follow 𝓤 H A mem run)) (ends : Triple 𝓤 (𝓣 .C #ending·ended) (End 𝓤 H A mem run)) where
   meets : Meets 𝓤 H A f.signature (WpFn 𝓤 H (𝓣 .C) (𝓣 .Λ) code.function) (f.spec 𝓤 H A mem run)
   meets =
       walk-proves 𝓤 H A W f.ended stayed (f.clauses 𝓤 H A mem run) 𝓣 code.function (goes-none 𝓤 H A W 1 (λ _. D.the-row) yes (λ κs x f. refl), (goes-dropped 𝓤 H A W 1 (shrSliceOf (0 ∷ []) tt (plain (λ _. T.the-row))) yes (λ κs x f. refl), tt))
@@ -131,8 +131,8 @@ pub replay-spec : {M : Type 1} → stated.statement M
 unfolding code.routine tablesOf
 replay-spec 𝓤 H 𝓜 𝓖 𝓡 =
     entered 𝓤 H (tripleOf 𝓤 H (𝓖 .A) f.signature (f.spec 𝓤 H (𝓖 .A) (𝓜 .mem) (𝓡 .run)))
-    (tables 𝓤 H 𝓜 𝓡 code.env .C) (tables 𝓤 H 𝓜 𝓡 code.env .Λ) #desks·replay code.function (code.unfolded 𝓤 H 𝓜 𝓡)
+    (tables 𝓤 H 𝓜 𝓡 code.env .C) (tables 𝓤 H 𝓜 𝓡 code.env .Λ) #list_calls·replay code.function (code.unfolded 𝓤 H 𝓜 𝓡)
     (meets 𝓤 H (𝓖 .A) (givenOf 𝓤 H 𝓜 𝓖) (𝓜 .mem) (𝓡 .run) (tablesOf 𝓤 H 𝓜 (tables 𝓤 H 𝓜 𝓡 code.env))
-    (cited 𝓤 H (Begin 𝓤 H (𝓖 .A) (𝓜 .mem) (𝓡 .run)) 𝓜 𝓡 code.env #following·begin begin-def.routine code.calls-following·begin (begin-thm.met 𝓤 H 𝓜 𝓖 𝓡))
-    (cited 𝓤 H (Follow 𝓤 H (𝓖 .A) (𝓜 .mem) (𝓡 .run)) 𝓜 𝓡 code.env #desks·follow follow-def.routine code.calls-desks·follow (follow-thm.met 𝓤 H 𝓜 𝓖 𝓡))
+    (cited 𝓤 H (Begin 𝓤 H (𝓖 .A) (𝓜 .mem) (𝓡 .run)) 𝓜 𝓡 code.env #list_follow·begin begin-def.routine code.calls-list-follow·begin (begin-thm.met 𝓤 H 𝓜 𝓖 𝓡))
+    (cited 𝓤 H (Follow 𝓤 H (𝓖 .A) (𝓜 .mem) (𝓡 .run)) 𝓜 𝓡 code.env #list_calls·follow follow-def.routine code.calls-list-calls·follow (follow-thm.met 𝓤 H 𝓜 𝓖 𝓡))
     (cited 𝓤 H (End 𝓤 H (𝓖 .A) (𝓜 .mem) (𝓡 .run)) 𝓜 𝓡 code.env #ending·ended ended-def.routine code.calls-ending·ended (ended-thm.met 𝓤 H 𝓜 𝓖 𝓡)))

@@ -44,7 +44,7 @@ use Rattle.ending.proofs.Outcomes.{weave-law}
 use Rattle.list_follow.proofs.Following as S
 use Rattle.ending.proofs.Wove as O
 use Rattle.list_follow.proofs.begin.Symbol as begin-def
-use Rattle.list_follow.proofs.begin.Symbol.{name as #following·begin}
+use Rattle.list_follow.proofs.begin.Symbol.{name as #list_follow·begin}
 use Rattle.list_follow.proofs.begin.Met as begin-thm
 use Rattle.list_calls.proofs.Rows.{case-made, case-typed, following-made, following-typed, task-is, task-typed, wove-made, wove-typed}
 use Rattle.walking.proofs.Calling.{calls-lent}
@@ -52,13 +52,13 @@ use Rattle.walking.proofs.Walking.{let-go, walk-proves}
 use Rattle.list_calls.proofs.Beginning.{Begin, Follow, calls-begin, calls-follow}
 use Rattle.list_calls.proofs.follow as follow
 use Rattle.list_calls.proofs.follow.Symbol as follow-def
-use Rattle.list_calls.proofs.follow.Symbol.{name as #desks·follow}
+use Rattle.list_calls.proofs.follow.Symbol.{name as #list_calls·follow}
 use Rattle.list_calls.proofs.follow.Met as follow-thm
 use Rattle.list_calls.proofs.put as put
 use Rattle.list_calls.proofs.put.Symbol as put-def
-use Rattle.list_calls.proofs.put.Symbol.{name as #desks·put}
+use Rattle.list_calls.proofs.put.Symbol.{name as #list_calls·put}
 use Rattle.list_calls.proofs.put.Met as put-thm
-use Rattle.list_calls.proofs.weave.Key.{name as #desks·weave}
+use Rattle.list_calls.proofs.weave.Key.{name as #list_calls·weave}
 use Rattle.list_calls.proofs.weave as f
 use Rattle.list_calls.proofs.weave.Statement as stated
 use Rattle.list_calls.proofs.weave.Code as code
@@ -112,7 +112,7 @@ module _ {M : Type 1} (𝓤 : URA M) (H : Heap 𝓤) (A : Atoms 𝓤) (W : Given
       nothing ! $ move ! (1 ∷ 0 ∷ []) $ fjoin ! $ nothing ! $ fjoin ! $ owned ! D.the-row (Is D.the-row) (case-made 𝓤 H A) cs _ gcs $ fjoin ! $ frame ! $
       owned ! O.the-row (Is O.the-row) (wove-made 𝓤 H A) w _ is $ done !
 
-  module _ (𝓣 : Tables 𝓤 H) (begins : Triple 𝓤 (𝓣 .C #following·begin) (Begin 𝓤 H A mem run)) (follows : Triple 𝓤 (𝓣 .C #desks·follow) (Follow 𝓤 H A mem run)) (puts : Triple 𝓤 (𝓣 .C #desks·put) (Puts 𝓤 H A mem run)) where
+  module _ (𝓣 : Tables 𝓤 H) (begins : Triple 𝓤 (𝓣 .C #list_follow·begin) (Begin 𝓤 H A mem run)) (follows : Triple 𝓤 (𝓣 .C #list_calls·follow) (Follow 𝓤 H A mem run)) (puts : Triple 𝓤 (𝓣 .C #list_calls·put) (Puts 𝓤 H A mem run)) where
     walk : ent 𝓤 (onEntry 𝓤 H A f.signature (κ, (κ′, tt)) (q, (q′, tt)) a at) (WpFn 𝓤 H (𝓣 .C) (𝓣 .Λ) code.function (cmach ∷ sliceVal (b, o) n ∷ sliceVal (b′, o′) (length zs) ∷ []) Post)
     walk =
         qed W ((‵ (flft κ q) ⊛ ‵ (flft κ′ q′) ⊛ ‵ ftrue) ∷ ‵ (owns (D.the-row ∷ ShrSlice (named 0) κ T.the-row ∷ MutSlice (named 1) κ′ T.the-row ∷ []) a at) ∷ []) ∵
@@ -144,7 +144,7 @@ module _ {M : Type 1} (𝓤 : URA M) (H : Heap 𝓤) (A : Atoms 𝓤) (W : Given
         let-go ! $ let-go ! $ let-go ! $ let-go ! $ let-go ! $ let-go ! $ let-go ! $ let-go ! $ let-go ! $ let-go ! $ free0 ! $
         by ! (exits (ws .1 .0) w v gw long (weave-law ys zs (ws .1 .0) w e₁ e₂ e₃))))))))))))))))
 
-module _ {M : Type 1} (𝓤 : URA M) (H : Heap 𝓤) (A : Atoms 𝓤) (W : Given 𝓤 H A) (mem : Memory → SProp 𝓤) (run : Routine → Fun 𝓤) (𝓣 : Tables 𝓤 H) (begins : Triple 𝓤 (𝓣 .C #following·begin) (Begin 𝓤 H A mem run)) (follows : Triple 𝓤 (𝓣 .C #desks·follow) (Follow 𝓤 H A mem run)) (puts : Triple 𝓤 (𝓣 .C #desks·put) (Puts 𝓤 H A mem run)) where
+module _ {M : Type 1} (𝓤 : URA M) (H : Heap 𝓤) (A : Atoms 𝓤) (W : Given 𝓤 H A) (mem : Memory → SProp 𝓤) (run : Routine → Fun 𝓤) (𝓣 : Tables 𝓤 H) (begins : Triple 𝓤 (𝓣 .C #list_follow·begin) (Begin 𝓤 H A mem run)) (follows : Triple 𝓤 (𝓣 .C #list_calls·follow) (Follow 𝓤 H A mem run)) (puts : Triple 𝓤 (𝓣 .C #list_calls·put) (Puts 𝓤 H A mem run)) where
   meets : Meets 𝓤 H A f.signature (WpFn 𝓤 H (𝓣 .C) (𝓣 .Λ) code.function) (f.spec 𝓤 H A mem run)
   meets =
       walk-proves 𝓤 H A W f.ended stayed (f.clauses 𝓤 H A mem run) 𝓣 code.function
@@ -156,8 +156,8 @@ pub weave-spec : {M : Type 1} → stated.statement M
 unfolding code.routine tablesOf
 weave-spec 𝓤 H 𝓜 𝓖 𝓡 =
     entered 𝓤 H (tripleOf 𝓤 H (𝓖 .A) f.signature (f.spec 𝓤 H (𝓖 .A) (𝓜 .mem) (𝓡 .run)))
-    (tables 𝓤 H 𝓜 𝓡 code.env .C) (tables 𝓤 H 𝓜 𝓡 code.env .Λ) #desks·weave code.function (code.unfolded 𝓤 H 𝓜 𝓡)
+    (tables 𝓤 H 𝓜 𝓡 code.env .C) (tables 𝓤 H 𝓜 𝓡 code.env .Λ) #list_calls·weave code.function (code.unfolded 𝓤 H 𝓜 𝓡)
     (meets 𝓤 H (𝓖 .A) (givenOf 𝓤 H 𝓜 𝓖) (𝓜 .mem) (𝓡 .run) (tablesOf 𝓤 H 𝓜 (tables 𝓤 H 𝓜 𝓡 code.env))
-    (cited 𝓤 H (Begin 𝓤 H (𝓖 .A) (𝓜 .mem) (𝓡 .run)) 𝓜 𝓡 code.env #following·begin begin-def.routine code.calls-following·begin (begin-thm.met 𝓤 H 𝓜 𝓖 𝓡))
-    (cited 𝓤 H (Follow 𝓤 H (𝓖 .A) (𝓜 .mem) (𝓡 .run)) 𝓜 𝓡 code.env #desks·follow follow-def.routine code.calls-desks·follow (follow-thm.met 𝓤 H 𝓜 𝓖 𝓡))
-    (cited 𝓤 H (Puts 𝓤 H (𝓖 .A) (𝓜 .mem) (𝓡 .run)) 𝓜 𝓡 code.env #desks·put put-def.routine code.calls-desks·put (put-thm.met 𝓤 H 𝓜 𝓖 𝓡)))
+    (cited 𝓤 H (Begin 𝓤 H (𝓖 .A) (𝓜 .mem) (𝓡 .run)) 𝓜 𝓡 code.env #list_follow·begin begin-def.routine code.calls-list-follow·begin (begin-thm.met 𝓤 H 𝓜 𝓖 𝓡))
+    (cited 𝓤 H (Follow 𝓤 H (𝓖 .A) (𝓜 .mem) (𝓡 .run)) 𝓜 𝓡 code.env #list_calls·follow follow-def.routine code.calls-list-calls·follow (follow-thm.met 𝓤 H 𝓜 𝓖 𝓡))
+    (cited 𝓤 H (Puts 𝓤 H (𝓖 .A) (𝓜 .mem) (𝓡 .run)) 𝓜 𝓡 code.env #list_calls·put put-def.routine code.calls-list-calls·put (put-thm.met 𝓤 H 𝓜 𝓖 𝓡)))

@@ -76,7 +76,7 @@ use Rattle.step_records.proofs.Rows.{steps-read-made, steps-read-typed,
 use Rattle.walking.proofs.Calling.{calls-lent, calls-plain}
 use Rattle.walking.proofs.Counting.{next-fits, next-le, nearer, Nearer, nearer-wf, below, above, inside}
 use Rattle.walking.proofs.Walking.{let-go, walk-proves}
-use Rattle.step_records.proofs.read_steps.Key.{name as #stepreader·read-steps}
+use Rattle.step_records.proofs.read_steps.Key.{name as #step_records·read-steps}
 use Rattle.step_records.proofs.read_steps as f
 use Rattle.step_records.proofs.read_steps.Statement as stated
 use Rattle.step_records.proofs.read_steps.Code as code
@@ -290,7 +290,7 @@ pub read-steps-spec : {M : Type 1} → stated.statement M
 unfolding code.routine tablesOf
 read-steps-spec 𝓤 H 𝓜 𝓖 𝓡 =
     entered 𝓤 H (tripleOf 𝓤 H (𝓖 .A) f.signature (f.spec 𝓤 H (𝓖 .A) (𝓜 .mem) (𝓡 .run)))
-    (tables 𝓤 H 𝓜 𝓡 code.env .C) (tables 𝓤 H 𝓜 𝓡 code.env .Λ) #stepreader·read-steps code.function (code.unfolded 𝓤 H 𝓜 𝓡)
+    (tables 𝓤 H 𝓜 𝓡 code.env .C) (tables 𝓤 H 𝓜 𝓡 code.env .Λ) #step_records·read-steps code.function (code.unfolded 𝓤 H 𝓜 𝓡)
     (meets 𝓤 H (𝓖 .A) (givenOf 𝓤 H 𝓜 𝓖) (𝓜 .mem) (𝓡 .run) (tablesOf 𝓤 H 𝓜 (tables 𝓤 H 𝓜 𝓡 code.env))
     (cited 𝓤 H (CheckRoom 𝓤 H (𝓖 .A) (𝓜 .mem) (𝓡 .run)) 𝓜 𝓡 code.env #taking·check-room check-room-def.routine code.calls-taking·check-room (check-room-thm.met 𝓤 H 𝓜 𝓖 𝓡))
     (cited 𝓤 H (CountOf 𝓤 H (𝓖 .A) (𝓜 .mem) (𝓡 .run)) 𝓜 𝓡 code.env #taking·count-of count-of-def.routine code.calls-taking·count-of (count-of-thm.met 𝓤 H 𝓜 𝓖 𝓡))

@@ -54,7 +54,7 @@ use Rattle.walking.proofs.StepRow.{step-made}
 use Rattle.walking.proofs.Calling.{calls-lent}
 use Rattle.list_calls.proofs.replay as replay
 use Rattle.list_calls.proofs.replay.Symbol as replay-def
-use Rattle.list_calls.proofs.replay.Symbol.{name as #desks·replay}
+use Rattle.list_calls.proofs.replay.Symbol.{name as #list_calls·replay}
 use Rattle.list_calls.proofs.replay.Met as replay-thm
 use Rattle.try_steps.proofs.lending.replay_first.Key.{name as #replay-first}
 use Rattle.try_steps.proofs.lending.replay_first as f
@@ -110,7 +110,7 @@ module _ {M : Type 1} (𝓤 : URA M) (H : Heap 𝓤) (A : Atoms 𝓤) (W : Given
   abbrev passed : (α l : ℕ) → Vals replay.signature (α ∷ [], tt)
   passed α l = (cmach ∷ [], (sliceVal (l, 0) (length ys) ∷ [], tt))
 
-  module _ (𝓣 : Tables 𝓤 H) (known : Triple 𝓤 (𝓣 .C #desks·replay) (Replay 𝓤 H A mem run)) where
+  module _ (𝓣 : Tables 𝓤 H) (known : Triple 𝓤 (𝓣 .C #list_calls·replay) (Replay 𝓤 H A mem run)) where
     walk : ent 𝓤 (onEntry 𝓤 H A f.signature tt tt a at) (WpFn 𝓤 H (𝓣 .C) (𝓣 .Λ) code.function (cmach ∷ mach xs ∷ vint w64 k ∷ []) Post)
     walk =
         qed W (‵ ftrue ∷ ‵ (owns (D.the-row ∷ Steps size ∷ usize ∷ []) a at) ∷ []) ∵ keep ! [] $ enter ! (𝓣 .C) (𝓣 .Λ) code.function (cmach ∷ mach xs ∷ vint w64 k ∷ []) _ $
@@ -138,7 +138,7 @@ module _ {M : Type 1} (𝓤 : URA M) (H : Heap 𝓤) (A : Atoms 𝓤) (W : Given
         move ! (13 ∷ 14 ∷ []) $ free1 ! $ move ! (11 ∷ 12 ∷ []) $ free1 ! $ move ! (9 ∷ 10 ∷ []) $ free1 ! $ move ! (7 ∷ 8 ∷ []) $ free1 ! $ move ! (0 ∷ 6 ∷ []) $ free1 ! $ move ! (3 ∷ 4 ∷ []) $ free1 ! $ move ! (1 ∷ 2 ∷ []) $ free1 ! $ free0 ! $
         keep ! [] $ by ! (exits r v is e))))))))))))
 
-module _ {M : Type 1} (𝓤 : URA M) (H : Heap 𝓤) (A : Atoms 𝓤) (W : Given 𝓤 H A) (mem : Memory → SProp 𝓤) (run : Routine → Fun 𝓤) (𝓣 : Tables 𝓤 H) (known : Triple 𝓤 (𝓣 .C #desks·replay) (Replay 𝓤 H A mem run)) where
+module _ {M : Type 1} (𝓤 : URA M) (H : Heap 𝓤) (A : Atoms 𝓤) (W : Given 𝓤 H A) (mem : Memory → SProp 𝓤) (run : Routine → Fun 𝓤) (𝓣 : Tables 𝓤 H) (known : Triple 𝓤 (𝓣 .C #list_calls·replay) (Replay 𝓤 H A mem run)) where
   walks : Walks 𝓤 H A f.ended stayed (WpFn 𝓤 H (𝓣 .C) (𝓣 .Λ) code.function) (f.clauses 𝓤 H A mem run)
   walks = walked 𝓤 H A f.ended stayed (f.clauses 𝓤 H A mem run) (WpFn 𝓤 H (𝓣 .C) (𝓣 .Λ) code.function) (λ κs. (LL.vals D.the-type D′.the-laws, (machs, (uint-vals w64, tt))))
       (λ κs. (LL.tells D.the-type D′.the-laws, (array-tells T.the-row (LL.vals T.the-type T′.the-laws) (LL.tells T.the-type T′.the-laws) size, (uint-tells w64, tt))))
@@ -153,4 +153,4 @@ replay-first-spec 𝓤 H 𝓜 𝓖 𝓡 =
     entered 𝓤 H (tripleOf 𝓤 H (𝓖 .A) f.signature (f.spec 𝓤 H (𝓖 .A) (𝓜 .mem) (𝓡 .run)))
     (tables 𝓤 H 𝓜 𝓡 code.env .C) (tables 𝓤 H 𝓜 𝓡 code.env .Λ) #replay-first code.function (code.unfolded 𝓤 H 𝓜 𝓡)
     (meets 𝓤 H (𝓖 .A) (givenOf 𝓤 H 𝓜 𝓖) (𝓜 .mem) (𝓡 .run) (tablesOf 𝓤 H 𝓜 (tables 𝓤 H 𝓜 𝓡 code.env))
-    (cited 𝓤 H (Replay 𝓤 H (𝓖 .A) (𝓜 .mem) (𝓡 .run)) 𝓜 𝓡 code.env #desks·replay replay-def.routine code.calls-desks·replay (replay-thm.met 𝓤 H 𝓜 𝓖 𝓡)))
+    (cited 𝓤 H (Replay 𝓤 H (𝓖 .A) (𝓜 .mem) (𝓡 .run)) 𝓜 𝓡 code.env #list_calls·replay replay-def.routine code.calls-list-calls·replay (replay-thm.met 𝓤 H 𝓜 𝓖 𝓡)))
