@@ -5,9 +5,9 @@ use mathlib.Core.Logic.{_⊎_, inl, inr, ⊎-elim}
 use Prim.Native.Nat.{ℕ, zero, suc, _-_, _^_, _≤_, _<_, min}
 use native.Mathlib.Nat.{eq-zero-or-pos, le-antisymm}
 use native.Mathlib.Omega.{arith}
-use Rattle.busset.specs.Deciding.{Decides}
+use Rattle.basics.specs.Deciding.{Decides}
 use Rattle.busset.specs.Sets.{Bus, bit, In, Out, Sub, Within, empty, add, meet, lack, less, upTo, Both, Minus, With, Without, All}
-use Rattle.busset.proofs.Tests.{below-or, same-or, decides-by}
+use Rattle.basics.proofs.Tests.{below-or, same-or, decides-by}
 use Rattle.busset.proofs.Digits.{bit-or, bit-and, bit-less, bit-zero, bit-mod, bit-mod-out, bit-one-same, bit-one-other, ext}
 
 -- ---- cases

@@ -9,7 +9,7 @@ use lib.Arith.{lt-one}
 use lib.Pow.{pow-pos, shr-lt, split}
 use lib.Count.{ones, ones-cat}
 use Rattle.busset.specs.Sets.{bit}
-use Rattle.busset.proofs.Tests.{below-or}
+use Rattle.basics.proofs.Tests.{below-or}
 use Rattle.busset.proofs.Digits.{bit-mod}
 
 -- the sum of f below k

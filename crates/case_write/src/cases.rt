@@ -8,7 +8,7 @@ ghost use Rattle.case_line.specs.Record.{Formed};
 ghost use Rattle.case_line.specs.declared.Record.the-variants.{Line, Pmu};
 ghost use Rattle.grid.specs.Cases.{neighbours};
 ghost use lib.ListN.{length};
-ghost use Rattle.case_read.specs.Writing.{busRecord, busRecords, members, lineRecords, linesText, caseText};
+ghost use Rattle.case_line.specs.CaseText.{busRecord, busRecords, members, lineRecords, linesText, caseText};
 ghost use Rattle.text_put.specs.Put.{Put};
 ghost use Rattle.case_write.specs.Lines.{lineText};
 use busset::BusSet;

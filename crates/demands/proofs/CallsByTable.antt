@@ -15,8 +15,8 @@ use Rattle.ending.specs.declared.Replayed.{Replayed}
 use Rattle.ending.specs.declared.Replayed.the-variants as replayed
 use Rattle.ending.specs.declared.Wove.{Wove}
 use Rattle.ending.specs.declared.Wove.the-variants as wove
-use Rattle.text_put.specs.declared.Written.{Written}
-use Rattle.text_put.specs.declared.Written.the-variants as written
+use Rattle.refusals.specs.declared.Written.{Written}
+use Rattle.refusals.specs.declared.Written.the-variants as written
 use Rattle.observe_calls.specs.declared.Observed.{Observed}
 use Rattle.observe_calls.specs.declared.Observed.the-variants as observed
 use Rattle.observe_calls.specs.declared.Figured.{Figured}

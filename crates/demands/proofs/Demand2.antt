@@ -9,7 +9,7 @@ use lib.Seq.{take-append-seam}
 use Rattle.busset.specs.Sets.{empty, add, setOf}
 use Rattle.step.specs.declared.Step.{Step}
 use Rattle.rules.specs.Grids.{Proper}
-use Rattle.rules.specs.Observation.{Least}
+use Rattle.rules.specs.Observation.{ObservedSet}
 use Rattle.rules.specs.Steps.{AcceptedFrom, Accepted}
 use Rattle.rules.specs.Placing as placing
 use Rattle.rules.proofs.Reasons.{allowed-names}
@@ -24,8 +24,8 @@ use Rattle.list_follow.specs.declared.Task.the-variants.{Replay}
 use Rattle.ending.specs.declared.Replayed.{Replayed}
 use Rattle.ending.specs.declared.Replayed.the-variants as replayed
 use Rattle.case_read.specs.Reading.{got}
-use Rattle.case_read.specs.Writing.{caseText}
-use Rattle.text_put.specs.declared.Written.the-variants as written
+use Rattle.case_line.specs.CaseText.{caseText}
+use Rattle.refusals.specs.declared.Written.the-variants as written
 use Rattle.observe_calls.specs.declared.Observed.{Observed}
 use Rattle.observe_calls.specs.declared.Observed.the-variants as observed
 use Rattle.place_calls.specs.declared.Fewest.{Fewest}
@@ -39,7 +39,7 @@ use Rattle.demands.proofs.TextUniqueness.{written-then-read, read-then-
 
 -- ---- the observed set
 
-observed-least : (c : Case) → Valid c → (r : Observed) → ObservedReply c r → (set : ℕ) × (r ≡ observed.Set set) × Least (gridOf c) (setOf set)
+observed-least : (c : Case) → Valid c → (r : Observed) → ObservedReply c r → (set : ℕ) × (r ≡ observed.Set set) × ObservedSet (gridOf c) (setOf set)
 observed-least c v (observed.Set s) p = (s, refl, p .1)
 observed-least c v (observed.Refused q) p = absurd (failed-or-passed (observedChecks c) q p (v, tt))
 

@@ -6,9 +6,10 @@ use lib.ListN.{length}
 use Rattle.busset.specs.Sets.{In, empty, add, size, setOf}
 use Rattle.step.specs.declared.Step.{Step}
 use Rattle.rules.specs.Grids.{Proper}
-use Rattle.rules.specs.Observation.{Least}
+use Rattle.rules.specs.Observation.{ObservedSet}
 use Rattle.rules.specs.Steps.{Names, reached, Accepted}
-use Rattle.rules.specs.Weaving.{WeavableFrom, woven, Each, Shuffle, Woven}
+use Rattle.basics.specs.Lists.{Each}
+use Rattle.rules.specs.Weaving.{WeavableFrom, woven, Shuffle, Woven}
 use Rattle.rules.proofs.Lists.{accepted-names}
 use Rattle.rules.proofs.Shuffles.{shuffle-each, weaving-shuffles}
 use Rattle.grid.specs.declared.Case.{Case}
@@ -45,7 +46,7 @@ demand-3 c desks received before after (wove.Written count s) v ok sh l room p =
   all = λ b h. subst⁻¹ (λ (t : ℕ). In t b) same (w .all b h);
   only = λ b h. w .only b (subst (λ (t : ℕ). In t b) same h);
   each-once = p .1 ∙ w .each-once ∙ ap size (sym same);
-  least = λ f. subst⁻¹ (Least (gridOf c)) same (w .least f);
+  least = λ f. subst⁻¹ (ObservedSet (gridOf c)) same (w .least f);
 }
   where
     w : Woven (gridOf c) desks received

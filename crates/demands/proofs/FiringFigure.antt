@@ -16,8 +16,8 @@ figure-range c s i j z p =
     subst⁻¹ (Runs 62) (p .1) (figure-runs (gridOf c) 62 (stated c s) i j (p .0 .0 .proper) (p .0 .0 .buses .most) (p .0 .1 .1 .0))
 
 pub figure-usable : (c : Case) (s i j : ℕ) (z : ℤ) → FigureReply c s i j (figured.Figure z)
-    → (z ≡ pos 1 → In (stated c s) i × AllBut (gridOf c .nbr i) j (stated c s)) × (In (stated c s) i → AllBut (gridOf c .nbr i) j (stated c s) → z ≡ pos 1)
+    → (z ≡ pos 1 → In (stated c s) i × AllBut (gridOf c .neighbours i) j (stated c s)) × (In (stated c s) i → AllBut (gridOf c .neighbours i) j (stated c s) → z ≡ pos 1)
 figure-usable c s i j z p = (
-  λ e. one-figure (gridOf c .nbr) (stated c s) i j (p .0 .1 .1 .0) (sym (p .1) ∙ e),
-  λ h b. p .1 ∙ figure-one (gridOf c .nbr) (stated c s) i j (p .0 .1 .1 .0) h b,
+  λ e. one-figure (gridOf c .neighbours) (stated c s) i j (p .0 .1 .1 .0) (sym (p .1) ∙ e),
+  λ h b. p .1 ∙ figure-one (gridOf c .neighbours) (stated c s) i j (p .0 .1 .1 .0) h b,
 )

@@ -19,8 +19,8 @@ use Rattle.grid.specs.Cases.{mostBytes}
 use Rattle.case_read.specs.Reading.{start, refused, readLines, readCase}
 use Rattle.case_read.specs.declared.CaseRead.{CaseRead}
 use Rattle.report_lines.specs.Printing.{RefusedText, PrintedReply}
-use Rattle.text_put.specs.declared.Written.{Written}
-use Rattle.text_put.specs.declared.Written.the-variants as written
+use Rattle.refusals.specs.declared.Written.{Written}
+use Rattle.refusals.specs.declared.Written.the-variants as written
 use Rattle.report_day.specs.Day.{DayReport, DayFor, Day}
 use Rattle.report_day.proofs.Days.{day-unique}
 use Rattle.plan_input.specs.Asking.{budgetOf, unasked, askedWith, planLines, readPlan}

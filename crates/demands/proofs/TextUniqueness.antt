@@ -3,21 +3,23 @@ use mathlib.Core.Path.{_≡_, sym, ap, _∙_}
 use mathlib.Core.List.{List}
 use Prim.Native.Nat.{ℕ, _≤_}
 use lib.ListN.{length}
+use Rattle.rules.specs.Steps.{Names}
+use Rattle.basics.specs.Lists.{Each}
 use Rattle.step.specs.declared.Step.{Step}
 use Rattle.grid.specs.declared.Case.{Case}
-use Rattle.grid.specs.Cases.{mostSteps, Valid, mostBytes}
+use Rattle.grid.specs.Cases.{mostSteps, Valid, mostBytes, mostBuses}
 use Rattle.refusals.proofs.Orders.{failed-unique, failed-or-passed}
 use Rattle.case_read.specs.Reading.{got}
-use Rattle.case_read.specs.Writing.{caseText}
+use Rattle.case_line.specs.CaseText.{caseText}
 use Rattle.case_read.specs.declared.CaseRead.{CaseRead}
 use Rattle.case_inverse.proofs.Inverse as inverse
-use Rattle.step_text.specs.Steps.{stepsOf, AllNamed}
-use Rattle.taking.specs.Taking.{leaves, StepsReadReply}
+use Rattle.step_text.specs.Steps.{stepsOf}
+use Rattle.step_text.specs.Taking.{leaves, StepsReadReply}
 use Rattle.step_text.specs.declared.StepsRead.{StepsRead}
 use Rattle.step_text.specs.declared.StepsRead.the-variants.{Steps}
 use Rattle.step_text.proofs.Found as found
-use Rattle.text_put.specs.declared.Written.{Written}
-use Rattle.text_put.specs.declared.Written.the-variants as written
+use Rattle.refusals.specs.declared.Written.{Written}
+use Rattle.refusals.specs.declared.Written.the-variants as written
 use Rattle.text_calls.specs.Replies.{CaseReadReply, writeChecks, CaseWrittenReply, StepsCheckedReply}
 
 -- ---- uniqueness
@@ -46,7 +48,7 @@ steps-counted text n e = found.steps-count text n (sym e)
 pub steps-few : (text : List ℕ) (n : ℕ) → StepsCheckedReply text (Steps n) → n ≤ mostSteps
 steps-few text n e = found.steps-found text n (sym e) .few
 
-pub steps-named : (text : List ℕ) (n : ℕ) → StepsCheckedReply text (Steps n) → AllNamed (stepsOf text)
+pub steps-named : (text : List ℕ) (n : ℕ) → StepsCheckedReply text (Steps n) → Each (Names mostBuses) (stepsOf text)
 steps-named text n e = found.steps-found text n (sym e) .named
 
 -- ---- one form for each case

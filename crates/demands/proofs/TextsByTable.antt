@@ -18,7 +18,7 @@ use Rattle.case_read.specs.Reading.{got, refused}
 use Rattle.case_read.specs.declared.CaseRead.{CaseRead}
 use Rattle.case_read.specs.declared.ReadAnswer.the-variants as read
 use Rattle.step_text.specs.Steps.{readSteps, stepsOf}
-use Rattle.taking.specs.Taking.{withRoom, leaves, StepsReadReply}
+use Rattle.step_text.specs.Taking.{withRoom, leaves, StepsReadReply}
 use Rattle.step_text.specs.declared.StepsRead.{StepsRead}
 use Rattle.step_text.specs.declared.StepsRead.the-variants.{Steps, Refused}
 use Rattle.step_text.proofs.Found.{steps-count}

@@ -7,7 +7,7 @@ use lib.ListN.{length, take}
 use Rattle.busset.specs.Sets.{setOf}
 use Rattle.step.specs.declared.Step.{Step}
 use Rattle.rules.specs.Grids.{Grid}
-use Rattle.rules.specs.Observation.{Least}
+use Rattle.rules.specs.Observation.{ObservedSet}
 use Rattle.rules.specs.Steps.{Accepted}
 use Rattle.rules.specs.Placing as placing
 use Rattle.grid.specs.declared.Case.{Case}
@@ -18,7 +18,7 @@ use Rattle.ending.specs.Replies.{ReplayReply}
 use Rattle.ending.specs.declared.Replayed.{Replayed}
 use Rattle.ending.specs.declared.Replayed.the-variants as replayed
 use Rattle.case_read.specs.Reading.{got}
-use Rattle.text_put.specs.declared.Written.the-variants as written
+use Rattle.refusals.specs.declared.Written.the-variants as written
 use Rattle.observe_calls.specs.declared.Observed.{Observed}
 use Rattle.observe_calls.specs.declared.Observed.the-variants as observed
 use Rattle.place_calls.specs.declared.Fewest.{Fewest}
@@ -42,7 +42,7 @@ pub record FirstSmallest (g : Grid) (budget : ℕ) (reply : Fewest) : Type 0 whe
 -- what the calls reply for the case c
 pub record Demand2 (c : Case) : Type 0 where
   -- the observed set is the least one closed under the two published rules
-  pub observed : (r : Observed) → ObservedReply c r → (set : ℕ) × (r ≡ observed.Set set) × Least (gridOf c) (setOf set)
+  pub observed : (r : Observed) → ObservedReply c r → (set : ℕ) × (r ≡ observed.Set set) × ObservedSet (gridOf c) (setOf set)
   -- a list of steps is accepted exactly when each step is allowed where it stands
   pub accepted : (xs : List Step) (r : Replayed) → length xs ≤ mostSteps → ReplayReply c xs r → AcceptedExactly (gridOf c) xs r
   -- the fewest-unit answer is the first smallest placement that covers, and a budget of at most 8 is refused as too small exactly when none within it does

@@ -5,9 +5,10 @@ use Prim.Native.Nat.{ℕ}
 use Rattle.busset.specs.Sets.{In, size, setOf}
 use Rattle.step.specs.Records.{written}
 use Rattle.step.specs.declared.Step.{Step}
-use Rattle.rules.specs.Observation.{Least}
+use Rattle.rules.specs.Observation.{ObservedSet}
 use Rattle.rules.specs.Steps.{reached, Accepted, Finished}
-use Rattle.rules.specs.Weaving.{woven, Some}
+use Rattle.basics.specs.Lists.{Some}
+use Rattle.rules.specs.Weaving.{woven}
 use Rattle.grid.specs.declared.Case.{Case}
 use Rattle.grid.specs.Cases.{gridOf}
 use Rattle.ending.specs.declared.Wove.{Wove}
@@ -28,4 +29,4 @@ pub record Demand3 (c : Case) (desks : List (List Step)) (received before after 
   -- one step for each of them
   pub each-once : count ≡ size (setOf set)
   -- if any desk had finished, that is demand 2's set
-  pub least : Some (λ xs. Finished (gridOf c) (reached xs)) desks → Least (gridOf c) (setOf set)
+  pub least : Some (λ xs. Finished (gridOf c) (reached xs)) desks → ObservedSet (gridOf c) (setOf set)

@@ -25,7 +25,7 @@ verdictChecks c = check (Valid c) 5 0 ∷ []
 
 -- the set of units that no other unit confirms
 abbrev pub VerdictReply : Case → Verdict → Type 0
-VerdictReply c (verdict.Unconfirmed s) = Passed (verdictChecks c) × UnconfirmedSet (gridOf c .nbr) (gridOf c .units) (setOf s)
+VerdictReply c (verdict.Unconfirmed s) = Passed (verdictChecks c) × UnconfirmedSet (gridOf c .neighbours) (gridOf c .units) (setOf s)
 VerdictReply c (verdict.Refused r) = Failed (verdictChecks c) r
 
 -- ---- greedy, into the room lent

@@ -14,7 +14,7 @@ use grid::Case;
 use lines::put_day;
 use list_value::StepList;
 use refusals::Refusal;
-use text_put::Written;
+use refusals::Written;
 
 // The report of these steps, in the bytes lent.
 fn print_day(out: &mut [u8], n: usize, list: StepList, alone: usize) -> Written

@@ -26,7 +26,7 @@ fn put_steps(out: &mut [u8], at: usize, list: StepList) -> usize
 {
     let mut k = at;
     for i in 0..list.n {
-        k = report_lines::steps::put_step(out, k, list_value::nth(list, i));
+        k = step_line::put::put_step(out, k, list_value::nth(list, i));
     }
     k
 }

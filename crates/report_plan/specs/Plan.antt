@@ -11,7 +11,7 @@ use Rattle.grid.specs.declared.Case.{Case}
 use Rattle.refusals.specs.declared.Refusal.{Refusal}
 use Rattle.grid.specs.Cases.{gridOf}
 use Rattle.refusals.specs.Refusals.{Check, check, Passed, Failed}
-use Rattle.case_read.specs.Writing.{members, linesText}
+use Rattle.case_line.specs.CaseText.{members, linesText}
 use Rattle.case_read.specs.declared.ReadAnswer.{ReadAnswer}
 use Rattle.case_read.specs.declared.ReadAnswer.the-variants.{Read, Refused}
 use Rattle.report_lines.specs.Printing.{printed, RefusedText}

@@ -10,8 +10,8 @@ use grid::Case;
 use place_fewest::Found;
 use place_fewest::fewest;
 use refusals::Refusal;
+use refusals::Written;
 use report_lines::print_refused;
-use text_put::Written;
 
 // The fewest of a case within the budget, or the line of the refusal.
 fn report(case: Case, budget: usize, out: &mut [u8]) -> Written

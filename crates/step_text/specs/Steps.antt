@@ -14,7 +14,6 @@ use Rattle.step_line.specs.declared.StepLine.{StepLine}
 use Rattle.step_line.specs.declared.StepLine.the-variants.{Step as StepOf, End, Wrong}
 use Rattle.grid.specs.Cases.{mostBuses, mostSteps, mostStepBytes}
 use Rattle.refusals.specs.declared.Refusal.the-variants.{TextTooLong, WrongForm, OutOfRange, TooManySteps}
-use Rattle.rules.specs.Steps.{Names}
 use Rattle.case_judge.specs.Judging.{isBus}
 use Rattle.step_text.specs.declared.StepsRead.{StepsRead}
 use Rattle.step_text.specs.declared.StepsRead.the-variants.{Steps, Refused}
@@ -82,8 +81,3 @@ pub record StepHere (text : List ℕ) (a : ℕ) (x : Step) (e : ℕ) : Type 0 wh
   pub steps : stepsFrom text a ≡ x ∷ stepsFrom text e
   pub later : a < e
   pub high : e ≤ length text
-
--- each step, in its bus and its reason, names buses 1 to 64
-abbrev pub AllNamed : List Step → Type 0
-AllNamed [] = Unit {0}
-AllNamed (x ∷ xs) = Names mostBuses x × AllNamed xs

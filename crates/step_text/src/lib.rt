@@ -4,6 +4,9 @@ ghost use Prim.Native.Nat.{_+_, _≤_, _<_};
 ghost use lib.ListN.{length, drop};
 ghost use Rattle.text_field.specs.Split.{split};
 ghost use Rattle.step_text.specs.Steps.{reasonInRange, stepInRange, ended, readSteps};
+
+pub mod taking;
+
 use case_judge::is_bus;
 use refusals::Refusal;
 use step::Reason;

@@ -13,7 +13,7 @@ use Rattle.ending.specs.declared.Replayed.the-variants as replayed
 use Rattle.ending.specs.declared.Wove.the-variants as wove
 use Rattle.case_read.specs.Reading.{refused}
 use Rattle.step_text.specs.declared.StepsRead.the-variants as steps
-use Rattle.text_put.specs.declared.Written.the-variants as written
+use Rattle.refusals.specs.declared.Written.the-variants as written
 use Rattle.observe_calls.specs.Replies.{ObservedReply, FigureReply, StepReply}
 use Rattle.list_derive.specs.Replies.{DerivationReply}
 use Rattle.place_calls.specs.Replies.{VerdictReply, GreedyReply, FewestReply}
@@ -25,7 +25,7 @@ use Rattle.list_derive.specs.declared.DerivationAnswer.the-variants as derived
 use Rattle.place_calls.specs.declared.Verdict.the-variants as verdict
 use Rattle.place_calls.specs.declared.Greedy.the-variants as greedy
 use Rattle.place_calls.specs.declared.Fewest.the-variants as fewest
-use Rattle.starred.specs.Table.{wordOf, caseOf, seven}
+use Rattle.tables.specs.Starred.{wordOf, caseOf, seven}
 use Rattle.tables.specs.Tables.{Row, holds, fails}
 use Rattle.tables.specs.Drawings.{own, near, zeroAt, value}
 use Rattle.tables.specs.Steps.{derivation}

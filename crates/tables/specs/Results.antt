@@ -7,7 +7,7 @@ use Rattle.refusals.specs.declared.Refusal.the-variants.{TextTooLong, WrongForm
 use Rattle.estimator_reply.specs.Results.{codeOf, resultOf, leftBy}
 use Rattle.estimator_reply.specs.declared.Answer.{Answer}
 use Rattle.estimator_reply.specs.declared.Answer.the-variants.{Set, Refused, Unread}
-use Rattle.starred.specs.Table.{wordOf}
+use Rattle.tables.specs.Starred.{wordOf}
 use Rattle.tables.specs.Tables.{Right}
 
 -- ---- the result

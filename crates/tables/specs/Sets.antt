@@ -5,7 +5,7 @@ use Prim.Native.Nat.{ℕ, _-_, _≤_, _^_}
 use Rattle.busset.specs.Sets.{Bus, bit, In, Out, Sub, Within, add, meet, lack, less, upTo, size, setOf, Union, Both, Minus, With, Without, Lowest, Counted, All}
 use Rattle.busset.specs.Held as held
 use Rattle.busset.specs.Bytes.{byteOf}
-use Rattle.busset.specs.Deciding.{Decides}
+use Rattle.basics.specs.Deciding.{Decides}
 use Rattle.tables.specs.Tables.{Right, Row, holds, fails}
 use Rattle.tables.specs.Drawings.{set}
 

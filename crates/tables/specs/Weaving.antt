@@ -2,11 +2,12 @@
 use mathlib.Core.List.{List, [], _∷_}
 use Prim.Native.Nat.{ℕ, _≤_}
 use Rattle.step.specs.declared.Step.{Step}
-use Rattle.rules.specs.Weaving.{woven, wovenFrom, WeavableFrom, Weavable, Each, Some, Taken, Shuffle, Woven}
+use Rattle.basics.specs.Lists.{Each, Some}
+use Rattle.rules.specs.Weaving.{woven, wovenFrom, WeavableFrom, Weavable, Taken, Shuffle, Woven}
 use Rattle.refusals.specs.declared.Refusal.the-variants.{NoRoom}
 use Rattle.ending.specs.declared.Wove.the-variants as wove
 use Rattle.demands.specs.Demand3.{Demand3}
-use Rattle.starred.specs.Table.{wordOf, caseOf, seven}
+use Rattle.tables.specs.Starred.{wordOf, caseOf, seven}
 use Rattle.tables.specs.Tables.{Right, Row, holds, fails}
 use Rattle.tables.specs.Drawings.{set, own, near, zeroAt, sevenGrid}
 use Rattle.tables.specs.Steps.{derivation}

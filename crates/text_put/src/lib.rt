@@ -5,13 +5,6 @@ ghost use Prim.Native.Nat.{_+_, _<_, _^_};
 ghost use lib.ListN.{length};
 ghost use Rattle.text_field.specs.Number.{numberText};
 ghost use Rattle.text_put.specs.Put.{Put};
-use refusals::Refusal;
-
-// What writing says: how many bytes the text has.
-pub enum Written {
-    Bytes(usize),
-    Refused(Refusal),
-}
 
 // One byte.
 pub fn put_byte(out: &mut [u8], at: usize, b: u8) -> usize

@@ -2,7 +2,7 @@
 ghost use Prim.Native.Nat.{_≤_};
 ghost use lib.ListN.{take, drop};
 ghost use mathlib.Core.Path.{_≡_};
-ghost use Rattle.taking.specs.Taking.{StepsReadReply};
+ghost use Rattle.step_text.specs.Taking.{StepsReadReply};
 use step::Step;
 use step_records::read_steps;
 use step_text::StepsRead;

@@ -1,5 +1,5 @@
 use native.Mathlib.Omega.{arith}
-use Rattle.busset.proofs.Tests.{decides-le, decides-by, decides-no}
+use Rattle.basics.proofs.Tests.{decides-le, decides-by, decides-no}
 use Rattle.busset.proofs.is_bus.Statement.{statement}
 use Rattle.busset.proofs.is_bus.Tie as tie
 

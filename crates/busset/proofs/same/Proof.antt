@@ -1,4 +1,4 @@
-use Rattle.busset.proofs.Tests.{decides-eq}
+use Rattle.basics.proofs.Tests.{decides-eq}
 use Rattle.busset.proofs.Words.{decides-set}
 use Rattle.busset.proofs.same.Statement.{statement}
 use Rattle.busset.proofs.same.Tie as tie

@@ -1,5 +1,5 @@
 use mathlib.Core.Path.{sym}
-use Rattle.busset.proofs.Tests.{refutes}
+use Rattle.basics.proofs.Tests.{refutes}
 use Rattle.busset.proofs.Members.{out-of}
 use borrow.Author.Needs.{needs}
 use Rattle.figures.proofs.seen.Statement.{statement}

@@ -3,7 +3,7 @@ use mathlib.Core.Logic.{inl, inr}
 use native.Mathlib.Omega.{arith}
 use borrow.Author.Tests.{not-true, not-false}
 use lib.ListN.{take}
-use Rattle.busset.proofs.Tests.{refutes}
+use Rattle.basics.proofs.Tests.{refutes}
 use Rattle.grid.specs.Cases.{gridOf, Valid}
 use Rattle.refusals.proofs.Orders.{itself}
 use Rattle.place_greedy.specs.Choices.{Listed}

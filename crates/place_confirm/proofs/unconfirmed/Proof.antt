@@ -3,7 +3,7 @@ use mathlib.Core.Logic.{⊎-elim}
 use native.Mathlib.Omega.{arith}
 use borrow.Author.Tests.{not-true, not-false}
 use Rattle.busset.specs.Sets.{setOf, size}
-use Rattle.busset.proofs.Tests.{refutes}
+use Rattle.basics.proofs.Tests.{refutes}
 use Rattle.grid.specs.Cases.{neighbours}
 use Rattle.place_confirm.proofs.Sharing.{Sifted, sifted-none, sifted-yes, sifted-no, sifted-to, sifted-all}
 use borrow.Author.Needs.{needs}

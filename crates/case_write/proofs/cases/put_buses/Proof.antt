@@ -2,7 +2,7 @@ use mathlib.Core.Path.{refl}
 use Prim.Native.Nat.{_-_}
 use native.Mathlib.Omega.{arith}
 use Rattle.busset.specs.Sets.{setOf}
-use Rattle.case_read.specs.Writing.{busRecords}
+use Rattle.case_line.specs.CaseText.{busRecords}
 use Rattle.case_write.proofs.Turns.{Turn, turn-first, turn-bus, turn-all}
 use borrow.Author.Needs.{needs}
 use Rattle.case_write.proofs.cases.put_buses.Statement.{statement}

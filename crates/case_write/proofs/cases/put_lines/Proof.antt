@@ -2,7 +2,7 @@ use mathlib.Core.Path.{refl}
 use Prim.Native.Nat.{_-_}
 use native.Mathlib.Omega.{arith}
 use Rattle.grid.specs.Cases.{neighbours}
-use Rattle.case_read.specs.Writing.{lineRecords}
+use Rattle.case_line.specs.CaseText.{lineRecords}
 use Rattle.case_write.proofs.Turns.{Turn, turn-first, turn-row, turn-all}
 use borrow.Author.Needs.{needs}
 use Rattle.case_write.proofs.cases.put_lines.Statement.{statement}

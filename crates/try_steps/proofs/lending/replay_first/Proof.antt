@@ -50,8 +50,8 @@ use Rattle.ending.specs.Replies.{ReplayReply}
 use Rattle.ending.specs.declared.Replayed.{Replayed}
 use Rattle.ending.proofs.Replayed as R
 use Rattle.list_calls.proofs.Rows.{case-made, case-typed, replayed-made, replayed-typed}
-use Rattle.walking.proofs.StepRow.{step-made}
-use Rattle.walking.proofs.Calling.{calls-lent}
+use Rattle.step.proofs.StepRow.{step-made}
+use Rattle.step.proofs.Calling.{calls-lent}
 use Rattle.list_calls.proofs.replay as replay
 use Rattle.list_calls.proofs.replay.Symbol as replay-def
 use Rattle.list_calls.proofs.replay.Symbol.{name as #list_calls·replay}

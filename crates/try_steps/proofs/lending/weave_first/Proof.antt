@@ -51,8 +51,8 @@ use Rattle.ending.specs.Replies.{WeaveReply}
 use Rattle.ending.specs.declared.Wove.{Wove}
 use Rattle.ending.proofs.Wove as O
 use Rattle.list_calls.proofs.Rows.{case-made, case-typed, wove-typed}
-use Rattle.walking.proofs.StepRow.{step-made}
-use Rattle.walking.proofs.Calling.{calls-lent}
+use Rattle.step.proofs.StepRow.{step-made}
+use Rattle.step.proofs.Calling.{calls-lent}
 use Rattle.list_calls.proofs.weave as weave
 use Rattle.list_calls.proofs.weave.Symbol as weave-def
 use Rattle.list_calls.proofs.weave.Symbol.{name as #list_calls·weave}

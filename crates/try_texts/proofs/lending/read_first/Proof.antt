@@ -45,12 +45,12 @@ use Rattle.step.specs.declared.Step.{Step}
 use Rattle.step.proofs.Parted.{Steps, machs, mach, stepsTy, First, Past, Others, Returned, first-long, new-long, as-field, parted, joined}
 use Rattle.step.proofs.Step as T
 use Rattle.step.proofs.Step.Laws as T′
-use Rattle.taking.specs.Taking.{StepsReadReply}
+use Rattle.step_text.specs.Taking.{StepsReadReply}
 use Rattle.step_text.specs.declared.StepsRead.{StepsRead}
 use Rattle.step_text.proofs.StepsRead as O
-use Rattle.walking.proofs.StepRow.{step-made}
+use Rattle.step.proofs.StepRow.{step-made}
 use Rattle.step_records.proofs.Rows.{steps-read-typed}
-use Rattle.walking.proofs.Calling.{calls-lent}
+use Rattle.step.proofs.Calling.{calls-lent}
 use Rattle.step_records.proofs.read_steps as read
 use Rattle.step_records.proofs.read_steps.Symbol as read-def
 use Rattle.step_records.proofs.read_steps.Symbol.{name as #step_records·read-steps}
