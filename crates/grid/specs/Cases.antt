@@ -20,6 +20,14 @@ mostLines = 256
 abbrev pub mostSteps : ℕ
 mostSteps = 1024
 
+-- new units of the fewest
+abbrev pub mostBudget : ℕ
+mostBudget = 8
+
+-- new units of greedy
+abbrev pub mostGreedyBudget : ℕ
+mostGreedyBudget = 64
+
 -- bytes of a case text
 abbrev pub mostBytes : ℕ
 mostBytes = 8192

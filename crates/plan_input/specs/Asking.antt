@@ -10,16 +10,12 @@ use Rattle.text_field.specs.declared.Numeral.{Numeral}
 use Rattle.text_field.specs.declared.Numeral.the-variants.{Is, Wrong}
 use Rattle.refusals.specs.declared.Refusal.{Refusal}
 use Rattle.refusals.specs.declared.Refusal.the-variants.{TextTooLong, WrongForm}
-use Rattle.grid.specs.Cases.{mostBytes}
+use Rattle.grid.specs.Cases.{mostBudget, mostBytes}
 use Rattle.case_read.specs.Reading.{start, refused, readLines}
 use Rattle.case_read.specs.declared.CaseRead.{CaseRead}
 use Rattle.plan_input.specs.declared.Asked.{Asked}
 
--- the budget where the line says none, and the most
-abbrev pub mostBudget : ℕ
-mostBudget = 8
-
--- what follows the word `plan`
+-- what follows the word `plan`: nothing stands for the most
 unfoldable pub planFields : List (List ℕ) → Numeral
 planFields [] = Is mostBudget
 planFields (f ∷ []) = numberOf f

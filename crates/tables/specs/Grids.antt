@@ -7,8 +7,7 @@ use lib.ListN.{replicate}
 use Rattle.busset.specs.Sets.{width}
 use Rattle.rules.specs.Grids.{Line, Proper, total, lineCount}
 use Rattle.grid.specs.declared.Case.{Case}
-use Rattle.grid.specs.Cases.{mostBuses, mostLines, mostSteps, neighbours, gridOf, LinesAt, Lines, Valid, mostBytes, mostStepBytes}
-use Rattle.plan_input.specs.Asking.{mostBudget}
+use Rattle.grid.specs.Cases.{mostBuses, mostLines, mostSteps, mostBudget, mostGreedyBudget, neighbours, gridOf, LinesAt, Lines, Valid, mostBytes, mostStepBytes}
 use Rattle.tables.specs.Starred.{caseOf, seven, path}
 use Rattle.tables.specs.Tables.{Right, Row, holds, fails}
 use Rattle.tables.specs.Drawings.{set, value, sevenGrid, grid}
@@ -25,6 +24,7 @@ limits =
     ∷ (mostBytes, 8192)
     ∷ (mostStepBytes, 16384)
     ∷ (mostBudget, 8)
+    ∷ (mostGreedyBudget, 64)
     ∷ []
 
 -- every row is right

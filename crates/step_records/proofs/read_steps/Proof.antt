@@ -54,7 +54,7 @@ use Rattle.step_text.specs.Steps.{readSteps, stepsFrom, stepsOf}
 use Rattle.step_text.specs.Taking.{withRoom, StepsReadReply, countOf, Takes}
 use Rattle.step_text.specs.declared.StepsRead.{StepsRead}
 use Rattle.step_text.specs.declared.taking.Taken.{Taken}
-use Rattle.step_text.proofs.Taking.{count-fits, placed, takes-next, read-law}
+use Rattle.step_text.proofs.TakingLaws.{count-fits, placed, takes-next, read-law}
 use Rattle.step_text.proofs.StepsRead as O
 use Rattle.step_text.proofs.StepsRead.Laws as O′
 use Rattle.step_text.proofs.Taken as K

@@ -1,5 +1,5 @@
 -- By what `check_steps` said: a refusal stays, and a number of steps is compared with the room.
-use Rattle.step_text.proofs.Taking.{room-short, room-enough, room-refused}
+use Rattle.step_text.proofs.TakingLaws.{room-short, room-enough, room-refused}
 use borrow.Author.Needs.{needs}
 use Rattle.step_text.proofs.taking.check_room.Statement.{statement}
 use Rattle.step_text.proofs.taking.check_room.Tie as tie

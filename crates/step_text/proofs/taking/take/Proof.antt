@@ -1,5 +1,5 @@
 -- Past the text there is no step. Within it the two arms are what `step_at` says of the line.
-use Rattle.step_text.proofs.Taking.{takes-past, takes-nothing, takes-step}
+use Rattle.step_text.proofs.TakingLaws.{takes-past, takes-nothing, takes-step}
 use borrow.Author.Needs.{needs}
 use Rattle.step_text.proofs.taking.take.Statement.{statement}
 use Rattle.step_text.proofs.taking.take.Tie as tie
