@@ -9,9 +9,9 @@ use Rattle.rules.specs.Grids.{Proper}
 use Rattle.rules.specs.Observation.{ObservedSet}
 use Rattle.rules.specs.Steps.{Names, reached, Accepted}
 use Rattle.basics.specs.Lists.{Each}
-use Rattle.rules.specs.Weaving.{WeavableFrom, woven, Woven}
+use Rattle.rules.specs.Weaving.{WeavableFrom, woven}
 use Rattle.rules.proofs.Lists.{accepted-names}
-use Rattle.rules.proofs.Shuffles.{shuffle-each, weaving-shuffles}
+use Rattle.rules.proofs.Shuffles.{Woven, shuffle-each, weaving-shuffles}
 use Rattle.grid.specs.declared.Case.{Case}
 use Rattle.grid.specs.Cases.{gridOf}
 use Rattle.refusals.specs.Refusals.{Check, check, Passed}

@@ -17,7 +17,8 @@ use Rattle.refusals.specs.declared.Refusal.{Refusal}
 use Rattle.refusals.specs.declared.Refusal.the-variants.{NoRoom}
 use Rattle.grid.specs.Cases.{gridOf}
 use Rattle.refusals.proofs.Orders.{itself}
-use Rattle.observe.specs.Passes.{Started, Swept}
+use Rattle.grid.specs.Near.{WithNeighbours}
+use Rattle.observe.specs.Passes.{Swept}
 use Rattle.ending.specs.Replies.{EndedAt, SettledAt}
 use Rattle.list_follow.specs.declared.Standing.the-variants.{Good, Bad}
 use Rattle.list_follow.specs.declared.Following.{Following}
@@ -26,13 +27,13 @@ use Rattle.ending.specs.declared.Wove.the-variants as wove
 
 -- ---- finished is closed: it has what O1 gives, and a sweep of O2 changes nothing
 
-started-in : {g : Grid} {s o : ℕ} → Started (g .neighbours) (g .units) o → Closed g s → Sub o s
-started-in {g} {s} st cl = st .sound s (sub-of (g .units) s (cl .o1 .own)) (cl .o1 .near)
+started-in : {g : Grid} {s o : ℕ} → WithNeighbours (g .neighbours) (g .units) o → Closed g s → Sub o s
+started-in {g} {s} st cl = st .least s (sub-of (g .units) s (cl .o1 .own)) (cl .o1 .near)
 
-pub finished-unless-started : {g : Grid} {s o : ℕ} → Started (g .neighbours) (g .units) o → (Sub o s → ⊥) → Decides (Finished g s) false
+pub finished-unless-started : {g : Grid} {s o : ℕ} → WithNeighbours (g .neighbours) (g .units) o → (Sub o s → ⊥) → Decides (Finished g s) false
 finished-unless-started {g} {s} st f = decides-no (λ fin. f (started-in {g = g} st (finished-closed g s fin)))
 
-pub finished-test : {g : Grid} {s o r : ℕ} {b : Bool} → Started (g .neighbours) (g .units) o → Sub o s → Swept (g .neighbours) (g .zeros) s r → Decides (r ≡ s) b → Decides (Finished g s) b
+pub finished-test : {g : Grid} {s o r : ℕ} {b : Bool} → WithNeighbours (g .neighbours) (g .units) o → Sub o s → Swept (g .neighbours) (g .zeros) s r → Decides (r ≡ s) b → Decides (Finished g s) b
 finished-test {g} {s} {o} {r} st sub sw d =
     decides-by
     (λ e. closed-finished g s (record { o1 = record { own = λ b h. omega (arith, st .own b, sub b); near = λ b h a. omega (arith, st .near b h a, sub a) }; o2 = sw .settled e }))

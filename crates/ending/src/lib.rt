@@ -28,7 +28,7 @@ pub fn is_finished(case: Case, s: BusSet) -> bool
     ensures { λ r. ⌜ Decides (Finished (gridOf case) (setOf s)) r ⌝ }
 {
     let nbr = case.nbr;
-    if !busset::is_subset(observe::sweeps::start(&nbr, case.units), s) {
+    if !busset::is_subset(grid::with_neighbours(&nbr, case.units), s) {
         return false;
     }
     busset::same(observe::sweeps::sweep(&nbr, case.zero, s), s)

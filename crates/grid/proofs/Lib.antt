@@ -1,3 +1,4 @@
 pub mod Rows
+pub mod Gathering
 pub mod Checking
 pub mod Summing

@@ -44,7 +44,13 @@ neighbours rows b = setOf (getD (0 ∷ rows) b 0)
 
 -- the grid that n, the rows, the Z buses, the Y sites and the units say
 abbrev pub gridWith : ℕ → List ℕ → ℕ → ℕ → ℕ → Grid
-gridWith n rows zeros sites units = record { n = n; neighbours = neighbours rows; zeros = setOf zeros; sites = setOf sites; units = setOf units }
+gridWith n rows zeros sites units = record {
+  n = n;
+  neighbours = neighbours rows;
+  zeros = setOf zeros;
+  sites = setOf sites;
+  units = setOf units;
+}
 
 -- the grid that a case value says
 abbrev pub gridOf : Case → Grid

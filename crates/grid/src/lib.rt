@@ -1,7 +1,11 @@
-// The case value and its view, and when it is valid.
+// The case value, its view and when it is valid; buses with their neighbours; whether a set has all buses.
 ghost use mathlib.Core.Path.{_≡_};
+ghost use Prim.Native.Nat.{_≤_};
+ghost use Rattle.basics.specs.Deciding.{Decides};
 ghost use Rattle.busset.specs.Sets.{Bus, width, setOf};
+ghost use Rattle.rules.specs.Placing.{Full};
 ghost use Rattle.grid.specs.Cases.{neighbours};
+ghost use Rattle.grid.specs.Near.{WithNeighbours};
 
 pub mod validity;
 
@@ -22,4 +26,26 @@ pub fn row(nbr: &[BusSet; 64], b: usize) -> BusSet
     ensures { λ r. ⌜ setOf r ≡ neighbours (now (nbr .entry)) b ⌝ }
 {
     nbr[b - 1]
+}
+
+// These buses and their neighbours.
+pub fn with_neighbours(nbr: &[BusSet; 64], buses: BusSet) -> BusSet
+    ensures { λ r. ⌜ WithNeighbours (neighbours (now (nbr .entry))) (setOf buses) (setOf r) ⌝ }
+{
+    let mut near = busset::none();
+    let mut left = buses;
+    while !busset::is_none(left) {
+        let b = busset::lowest(left);
+        near = busset::union(near, row(nbr, b));
+        left = busset::without(left, b);
+    }
+    busset::union(buses, near)
+}
+
+// Whether s has all n buses.
+pub fn is_full(n: usize, s: BusSet) -> bool
+    requires { ⌜ n ≤ width ⌝ }
+    ensures { λ r. ⌜ Decides (Full n (setOf s)) r ⌝ }
+{
+    busset::is_subset(busset::all(n), s)
 }

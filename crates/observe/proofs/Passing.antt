@@ -1,42 +1,15 @@
--- The passes, over the buses that are left: how a turn keeps what they promise, and how they end in the observed set.
+-- The passes, over the Z buses that are left: how a turn keeps what they promise, and how they end in the observed set.
 use mathlib.Core.Path.{_≡_, sym, ap, _∙_, subst}
 use Prim.Native.Nat.{ℕ}
 use native.Mathlib.Omega.{arith}
 use native.Mathlib.Nat.{le-refl}
-use Rattle.busset.specs.Sets.{bit, In, Out, Sub, empty, Union, Both, Without}
+use Rattle.busset.specs.Sets.{bit, In, Out, Sub, empty, Both, Without}
 use Rattle.busset.proofs.Digits.{bit-zero, ext}
 use Rattle.busset.proofs.Members.{sub-of, without-of, without-sub}
 use Rattle.rules.specs.Grids.{Grid}
-use Rattle.rules.specs.Observation.{ObservedSet, Fired}
-use Rattle.observe.specs.Passes.{Started, Fires, AllFired, Swept}
-
--- ---- O1, unit after unit
-
-pub record Starting (nbr : ℕ → ℕ) (units s left : ℕ) : Type 0 where
-  pub of : Sub left units
-  pub own : Sub units s
-  pub near : (b : ℕ) → Out left b → In units b → Sub (nbr b) s
-  pub sound : (t : ℕ) → Sub units t → ((b : ℕ) → In units b → Sub (nbr b) t) → Sub s t
-
-pub starting-none : (nbr : ℕ → ℕ) (units : ℕ) → Starting nbr units units units
-starting-none nbr units = record {
-  of = λ b. le-refl (bit units b);
-  own = λ b. le-refl (bit units b);
-  near = λ b o h. absurd (omega arith);
-  sound = λ t sub near. sub;
-}
-
-pub starting-more : {nbr : ℕ → ℕ} {units s left b m r rest : ℕ} → Starting nbr units s left → In left b → m ≡ nbr b → Union s m r → Without left b rest → Starting nbr units r rest
-starting-more {nbr} {units} {s} {left} {b} {m} {r} {rest} inv here e u w = record {
-  of = λ a. omega (arith, without-sub w a, inv .of a);
-  own = λ a. omega (arith, u .at a, inv .own a);
-  near = without-of {P = λ b. In units b → Sub (nbr b) r} w
-      (λ h a. omega (arith, u .at a, ap (λ (x : ℕ). bit x a) e)) (λ b o h a. omega (arith, u .at a, inv .near b o h a));
-  sound = λ t sub near a. omega (arith, u .at a, inv .sound t sub near a, ap (λ (x : ℕ). bit x a) e, near b (omega (arith, inv .of b)) a);
-}
-
-pub starting-all : {nbr : ℕ → ℕ} {units s left : ℕ} → Starting nbr units s left → left ≡ empty → Started nbr units s
-starting-all inv e = record { own = inv .own; near = λ b. inv .near b (ap (λ (x : ℕ). bit x b) e ∙ bit-zero b); sound = inv .sound }
+use Rattle.rules.specs.Observation.{ObservedSet, Fired, O2}
+use Rattle.grid.specs.Near.{WithNeighbours}
+use Rattle.observe.specs.Passes.{Fires, Swept, Spread}
 
 -- ---- a sweep of O2, Z bus after Z bus
 
@@ -44,7 +17,7 @@ pub record Sweeping (nbr : ℕ → ℕ) (zeros s r left : ℕ) : Type 0 where
   pub zero : Sub left zeros
   pub seen : Sub left s
   pub grows : Sub s r
-  pub sound : (t : ℕ) → Sub s t → AllFired nbr zeros t → Sub r t
+  pub sound : (t : ℕ) → Sub s t → O2 nbr zeros t → Sub r t
   pub settled : r ≡ s → (w : ℕ) → Out left w → In zeros w → In s w → Fired (nbr w) s
 
 pub sweeping-none : (nbr : ℕ → ℕ) {zeros s left : ℕ} → Both zeros s left → Sweeping nbr zeros s s left
@@ -80,25 +53,35 @@ sweeping-all inv e = record {
 
 -- ---- sweep after sweep
 
--- s has what O1 gives, and no more than the rules give
-pub record Reaching (nbr : ℕ → ℕ) (zeros units s : ℕ) : Type 0 where
-  pub own : Sub units s
-  pub near : (b : ℕ) → In units b → Sub (nbr b) s
-  pub sound : (t : ℕ) → Sub units t → ((b : ℕ) → In units b → Sub (nbr b) t) → AllFired nbr zeros t → Sub s t
+-- t holds s, and no more than O2 gives
+pub record Spreading (nbr : ℕ → ℕ) (zeros s t : ℕ) : Type 0 where
+  pub grows : Sub s t
+  pub sound : (v : ℕ) → Sub s v → O2 nbr zeros v → Sub t v
 
-pub reaching-none : {nbr : ℕ → ℕ} {units s : ℕ} (zeros : ℕ) → Started nbr units s → Reaching nbr zeros units s
-reaching-none zeros st = record { own = st .own; near = st .near; sound = λ t own near full. st .sound t own near }
+pub spreading-none : (nbr : ℕ → ℕ) (zeros s : ℕ) → Spreading nbr zeros s s
+spreading-none nbr zeros s = record { grows = λ b. le-refl (bit s b); sound = λ v sub full. sub }
 
-pub reaching-more : {nbr : ℕ → ℕ} {zeros units s r : ℕ} → Reaching nbr zeros units s → Swept nbr zeros s r → Reaching nbr zeros units r
-reaching-more inv sw = record {
-  own = λ b. omega (arith, inv .own b, sw .grows b);
-  near = λ b h a. omega (arith, inv .near b h a, sw .grows a);
-  sound = λ t own near full. sw .sound t (inv .sound t own near full) full;
+pub spreading-more : {nbr : ℕ → ℕ} {zeros s t r : ℕ} → Spreading nbr zeros s t → Swept nbr zeros t r → Spreading nbr zeros s r
+spreading-more p sw = record {
+  grows = λ b. omega (arith, p .grows b, sw .grows b);
+  sound = λ v sub full. sw .sound v (p .sound v sub full) full;
 }
 
--- where a sweep changes nothing, that is the observed set of every grid with these lines, Z buses and units
-pub reaching-all : {g : Grid} {s r : ℕ} → Reaching (g .neighbours) (g .zeros) (g .units) s → Swept (g .neighbours) (g .zeros) s r → r ≡ s → ObservedSet g s
-reaching-all {g} {s} inv sw e = record {
-  closed = record { o1 = record { own = λ b h. omega (arith, inv .own b); near = inv .near }; o2 = sw .settled e };
-  least = λ t cl. inv .sound t (sub-of (g .units) t (cl .o1 .own)) (cl .o1 .near) (cl .o2);
+pub spreading-all : {nbr : ℕ → ℕ} {zeros s t r : ℕ} → Spreading nbr zeros s t → Swept nbr zeros t r → r ≡ t → Spread nbr zeros s t
+spreading-all p sw e = record { grows = p .grows; fired = sw .settled e; least = p .sound }
+
+-- ---- from what the units give by O1
+
+-- that, spread, is the observed set of every grid with these lines, Z buses and units
+pub spread-observed : {g : Grid} {o s : ℕ} → WithNeighbours (g .neighbours) (g .units) o → Spread (g .neighbours) (g .zeros) o s
+    → ObservedSet g s
+spread-observed {g} w sp = record {
+  closed = record {
+    o1 = record {
+      own = λ b h. omega (arith, w .own b, sp .grows b);
+      near = λ b h a. omega (arith, w .near b h a, sp .grows a);
+    };
+    o2 = sp .fired;
+  };
+  least = λ t cl. sp .least t (w .least t (sub-of (g .units) t (cl .o1 .own)) (cl .o1 .near)) (cl .o2);
 }

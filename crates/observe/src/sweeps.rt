@@ -1,10 +1,10 @@
-// The observed set: what O1 gives, then sweeps of O2 until one changes nothing.
+// The observed set: what the units give by O1, spread by O2.
 ghost use mathlib.Core.Path.{_≡_};
-ghost use Prim.Native.Nat.{ℕ, _≤_};
+ghost use Prim.Native.Nat.{ℕ};
 ghost use Rattle.busset.specs.Sets.{lack, size, setOf};
 ghost use Rattle.rules.specs.Observation.{ObservedSet};
 ghost use Rattle.grid.specs.Cases.{neighbours, gridWith};
-ghost use Rattle.observe.specs.Passes.{Started, Fires, Swept};
+ghost use Rattle.observe.specs.Passes.{Fires, Swept, Spread};
 use busset::BusSet;
 
 // The buses m that are not in s, gathered and counted one after another.
@@ -32,20 +32,6 @@ pub fn fire(m: BusSet, s: BusSet) -> BusSet
     }
 }
 
-// The units and their neighbours.
-pub fn start(nbr: &[BusSet; 64], units: BusSet) -> BusSet
-    ensures { λ r. ⌜ Started (neighbours (now (nbr .entry))) (setOf units) (setOf r) ⌝ }
-{
-    let mut s = units;
-    let mut left = units;
-    while !busset::is_none(left) {
-        let b = busset::lowest(left);
-        s = busset::union(s, grid::row(nbr, b));
-        left = busset::without(left, b);
-    }
-    s
-}
-
 // Each Z bus of s fires, where it can.
 pub fn sweep(nbr: &[BusSet; 64], zero: BusSet, s: BusSet) -> BusSet
     ensures { λ r. ⌜ Swept (neighbours (now (nbr .entry))) (setOf zero) (setOf s) (setOf r) ⌝ }
@@ -60,16 +46,23 @@ pub fn sweep(nbr: &[BusSet; 64], zero: BusSet, s: BusSet) -> BusSet
     r
 }
 
+// The smallest set that holds s and satisfies O2: sweeps, until one changes nothing.
+pub fn spread(nbr: &[BusSet; 64], zero: BusSet, s: BusSet) -> BusSet
+    ensures { λ r. ⌜ Spread (neighbours (now (nbr .entry))) (setOf zero) (setOf s) (setOf r) ⌝ }
+{
+    let mut t = s;
+    loop {
+        let r = sweep(nbr, zero, t);
+        if busset::same(r, t) {
+            return t;
+        }
+        t = r;
+    }
+}
+
 // The observed set, whatever n and the sites are: no rule reads them.
 pub fn observed(nbr: &[BusSet; 64], zero: BusSet, units: BusSet) -> BusSet
     ensures { λ r. ⌜ ((n sites : ℕ) → ObservedSet (gridWith n (now (nbr .entry)) zero sites units) (setOf r)) ⌝ }
 {
-    let mut s = start(nbr, units);
-    loop {
-        let r = sweep(nbr, zero, s);
-        if busset::same(r, s) {
-            return s;
-        }
-        s = r;
-    }
+    spread(nbr, zero, grid::with_neighbours(nbr, units))
 }

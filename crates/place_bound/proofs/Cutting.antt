@@ -11,9 +11,8 @@ use Rattle.busset.proofs.Sizes.{size-some}
 use Rattle.rules.specs.Grids.{Grid}
 use Rattle.rules.specs.Observation.{Closed}
 use Rattle.rules.specs.Placing.{withUnits, Full}
-use Rattle.rules.specs.Ways.{NoCover, Spared}
-use Rattle.rules.specs.Blocking.{Idle}
-use Rattle.rules.proofs.Blocks.{cover-less, cover-not-idle}
+use Rattle.place_light.specs.Ways.{NoCover, Spared, Idle}
+use Rattle.place_light.proofs.Covers.{cover-less, cover-not-idle}
 use Rattle.place_light.proofs.Sparing.{without-less, without-out}
 
 -- x is tried, and left out where it does not help

@@ -10,13 +10,13 @@ use Rattle.busset.proofs.Members.{in-or, sub-of}
 use Rattle.rules.specs.Grids.{Grid}
 use Rattle.rules.specs.Observation.{Closed}
 use Rattle.rules.specs.Placing.{Full}
-use Rattle.rules.specs.Ways.{NoCover}
-use Rattle.rules.specs.Blocking.{Group}
-use Rattle.rules.proofs.Blocks.{Grouped, grouped-more, grouped-stuck}
 use Rattle.grid.specs.Cases.{Lines}
-use Rattle.observe.specs.Passes.{Started}
-use Rattle.place_light.specs.Spreads.{Spread, LitAll}
+use Rattle.grid.specs.Near.{WithNeighbours}
+use Rattle.observe.specs.Passes.{Spread}
+use Rattle.place_light.specs.Lights.{LitAll}
+use Rattle.place_light.specs.Ways.{NoCover, Group}
 use Rattle.place_light.proofs.Lighting.{lit-all-closed}
+use Rattle.place_light.proofs.Covers.{Grouped, grouped-more, grouped-stuck}
 use Rattle.place_bound.specs.Shrinking.{Shrunk}
 
 -- ---- trial units
@@ -41,7 +41,7 @@ shrunk-closed cl sh = record {
 
 -- ---- the group of a set: a site that is not on or next to a bus that c lacks is idle
 
-pub group-by : {n : ℕ} {nbr : ℕ → ℕ} {a sites c dark near r : ℕ} → Lines n nbr → All n a → Minus a c dark → Started nbr dark near → Both sites near r
+pub group-by : {n : ℕ} {nbr : ℕ → ℕ} {a sites c dark near r : ℕ} → Lines n nbr → All n a → Minus a c dark → WithNeighbours nbr dark near → Both sites near r
     → Within n sites → Group nbr sites c r
 group-by {n} {nbr} {a} {sites} {c} {dark} {near} {r} lines al m st h bus = record {
   of = λ b. omega (arith, h .at b);

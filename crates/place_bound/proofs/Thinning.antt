@@ -10,11 +10,11 @@ use Rattle.busset.specs.Sets.{Bus, bit, In, Out, Sub, empty, add, less, setOf, 
 use Rattle.basics.proofs.Tests.{same-or}
 use Rattle.busset.proofs.Digits.{bit-zero}
 use Rattle.busset.proofs.Members.{in-or, add-sub, without-sub}
-use Rattle.rules.proofs.Blocks.{cover-other}
 use Rattle.grid.specs.Cases.{neighbours}
-use Rattle.place_light.specs.Spreads.{Lit}
+use Rattle.place_light.specs.Lights.{Lit}
 use Rattle.place_light.specs.Spares.{Spares}
 use Rattle.place_light.proofs.Lighting.{lit-gives}
+use Rattle.place_light.proofs.Covers.{cover-other}
 use Rattle.place_light.proofs.Sparing.{spares-same, spares-more, without-less, without-out}
 use Rattle.place_bound.specs.Rows.{LitRows, Outlit}
 use Rattle.place_bound.proofs.Storing.{row-set-same, row-set-other}

@@ -3,7 +3,7 @@ use mathlib.Core.List.{List}
 use Prim.Native.Nat.{ℕ}
 use Rattle.busset.specs.Sets.{In, Sub}
 use Rattle.grid.specs.Cases.{neighbours}
-use Rattle.place_light.specs.Spreads.{Lit}
+use Rattle.place_light.specs.Lights.{Lit}
 
 -- the row of each of the sites is what is observed where s is and a unit stands at it
 pub record LitRows (nbr : ℕ → ℕ) (zeros s sites : ℕ) (rows : List ℕ) : Type 0 where

@@ -1,8 +1,8 @@
 // Groups of sites of which every cover has one.
 ghost use Prim.Native.Nat.{_≤_};
 ghost use Rattle.busset.specs.Sets.{Bus, Within, width, setOf};
-ghost use Rattle.rules.specs.Blocking.{Group};
 ghost use Rattle.grid.specs.Cases.{neighbours, Lines};
+ghost use Rattle.place_light.specs.Ways.{Group};
 ghost use Rattle.place_light.specs.Spares.{Spares};
 ghost use Rattle.place_bound.specs.Shrinking.{Shrunk};
 use busset::BusSet;
@@ -16,8 +16,8 @@ pub fn tried(n: usize, nbr: &[BusSet; 64], zero: BusSet, c: BusSet, x: usize) ->
     if busset::is_subset(here, c) {
         return c;
     }
-    let d = place_light::spread(nbr, zero, busset::union(c, here));
-    if place_light::is_full(n, d) {
+    let d = observe::sweeps::spread(nbr, zero, busset::union(c, here));
+    if grid::is_full(n, d) {
         return c;
     }
     d
@@ -44,7 +44,7 @@ pub fn group(n: usize, nbr: &[BusSet; 64], sites: BusSet, c: BusSet) -> BusSet
     ensures { λ r. ⌜ Group (neighbours (now (nbr .entry))) (setOf sites) (setOf c) (setOf r) ⌝ }
 {
     let dark = busset::minus(busset::all(n), c);
-    busset::both(sites, observe::sweeps::start(nbr, dark))
+    busset::both(sites, grid::with_neighbours(nbr, dark))
 }
 
 // The sites of k groups, each of which has a site of every cover; all the sites where fewer than k groups are found.
@@ -63,7 +63,7 @@ pub fn narrowed(
     let mut t = s;
     let mut m: usize = 0;
     while m < k {
-        if place_light::is_full(n, t) {
+        if grid::is_full(n, t) {
             return sites;
         }
         let c = shrunk(n, nbr, zero, t);
@@ -75,7 +75,7 @@ pub fn narrowed(
         t = place_light::lit_all(nbr, zero, t, next);
         m += 1;
     }
-    if place_light::is_full(n, t) {
+    if grid::is_full(n, t) {
         return q;
     }
     busset::none()

@@ -2,8 +2,8 @@
 ghost use Prim.Native.Nat.{_≤_};
 ghost use Rattle.busset.specs.Sets.{Within, width, setOf};
 ghost use Rattle.rules.specs.Observation.{ObservedSet};
-ghost use Rattle.rules.specs.Ways.{Whatever, Cut};
 ghost use Rattle.grid.specs.Cases.{neighbours, Lines};
+ghost use Rattle.place_light.specs.Ways.{Whatever, Cut};
 use busset::BusSet;
 
 // Says yes only where no k of the sites, added where s is observed, make all buses observed.
@@ -20,7 +20,7 @@ pub fn is_hopeless(
     ensures { λ r. ⌜ Whatever n (neighbours (now (nbr .entry))) (setOf zero)
         (λ g. ObservedSet g (setOf s) → Cut g (setOf sites) k r) ⌝ }
 {
-    if place_light::is_full(n, s) {
+    if grid::is_full(n, s) {
         return false;
     }
     if k == 0 {

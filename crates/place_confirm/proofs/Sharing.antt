@@ -11,30 +11,30 @@ use Rattle.busset.proofs.Digits.{bit-zero}
 use Rattle.busset.proofs.Members.{out-of, sub-of, empty-of, less-here, less-there, add-of, add-grows, with-add, without-of, without-sub}
 use Rattle.rules.specs.Confirming.{Confirm, joined, share, Unconfirmed, UnconfirmedSet}
 use Rattle.grid.specs.Cases.{Lines}
-use Rattle.observe.specs.Passes.{Started}
+use Rattle.grid.specs.Near.{WithNeighbours}
 
 -- ---- one unit
 
 module _ {n : ℕ} {nbr : ℕ → ℕ} {units p m near others both : ℕ}
-    (lines : Lines n nbr) (unit : In units p) (e : m ≡ nbr p) (st : Started nbr m near) (w : Without units p others) (h : Both near others both) where
+    (lines : Lines n nbr) (unit : In units p) (e : m ≡ nbr p) (s : WithNeighbours nbr m near) (w : Without units p others) (h : Both near others both) where
   -- a bus next to p, or next to a neighbour of p, is near
   confirm-near : (a : ℕ) → Confirm nbr a p → In near a
-  confirm-near a (joined j) = omega (arith, st .own a, ap (λ (s : ℕ). bit s a) e, lines a p j .back)
-  confirm-near a (share c j k) = omega (arith, st .near c (ap (λ (s : ℕ). bit s c) e ∙ k) a, lines a c j .back)
+  confirm-near a (joined j) = omega (arith, s .own a, ap (λ (s : ℕ). bit s a) e, lines a p j .back)
+  confirm-near a (share c j k) = omega (arith, s .near c (ap (λ (s : ℕ). bit s c) e ∙ k) a, lines a c j .back)
 
   -- and no other bus is
   near-confirm : (a : ℕ) → (Confirm nbr a p → ⊥) → In near a → ⊥
-  near-confirm a lone h = omega (arith, st .sound (less near a) own next a, less-here near a)
+  near-confirm a lone h = omega (arith, s .least (less near a) own next a, less-here near a)
     where
       kept : (b : ℕ) → In near b → (b ≡ a → ⊥) → In (less near a) b
       kept b i ne = less-there near a b ne ∙ i
 
       own : Sub m (less near a)
-      own = sub-of m (less near a) (λ b i. kept b (omega (arith, st .own b))
+      own = sub-of m (less near a) (λ b i. kept b (omega (arith, s .own b))
           (λ q. lone (joined (lines p a (subst (λ (x : ℕ). In (nbr p) x) q (sym (ap (λ (s : ℕ). bit s b) e) ∙ i)) .back))))
 
       next : (c : ℕ) → In m c → Sub (nbr c) (less near a)
-      next c k = sub-of (nbr c) (less near a) (λ b i. kept b (omega (arith, st .near c k b))
+      next c k = sub-of (nbr c) (less near a) (λ b i. kept b (omega (arith, s .near c k b))
           (λ q. lone (share c (lines c a (subst (λ (x : ℕ). In (nbr c) x) q i) .back) (sym (ap (λ (s : ℕ). bit s c) e) ∙ k))))
 
   pub unconfirmed-test : {r : Bool} → Decides (both ≡ empty) r → Decides (Unconfirmed nbr units p) r

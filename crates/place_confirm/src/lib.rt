@@ -10,7 +10,7 @@ pub fn is_unconfirmed(n: usize, nbr: &[BusSet; 64], units: BusSet, p: usize) -> 
     requires { ⌜ Lines n (neighbours (now nbr)) × In (setOf units) p ⌝ }
     ensures { λ r. ⌜ Decides (Unconfirmed (neighbours (now (nbr .entry))) (setOf units) p) r ⌝ }
 {
-    let near = observe::sweeps::start(nbr, grid::row(nbr, p));
+    let near = grid::with_neighbours(nbr, grid::row(nbr, p));
     let others = busset::without(units, p);
     busset::is_none(busset::both(near, others))
 }

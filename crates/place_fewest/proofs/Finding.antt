@@ -6,13 +6,13 @@ use Rattle.busset.proofs.Members.{with-add}
 use Rattle.rules.specs.Grids.{Grid}
 use Rattle.rules.specs.Observation.{ObservedSet}
 use Rattle.rules.specs.Placing.{withUnits}
-use Rattle.rules.specs.Ways.{FirstWay}
-use Rattle.rules.proofs.Searching.{Passed, first-take, passed-lowest}
+use Rattle.place_light.specs.Lights.{Lit}
+use Rattle.place_light.specs.Ways.{FirstWay}
+use Rattle.place_light.proofs.Lighting.{lit-least}
+use Rattle.place_light.proofs.Searching.{Passed, first-take, passed-lowest}
 use Rattle.place_fewest.specs.declared.Found.{Found}
 use Rattle.place_fewest.specs.declared.Found.the-variants.{Sites, Nothing}
-use Rattle.place_light.specs.Spreads.{Lit}
 use Rattle.place_fewest.specs.Answers.{FoundIs}
-use Rattle.place_light.proofs.Lighting.{lit-least}
 
 module _ (g : Grid) {n sites x rest k s t : ℕ} (some : 0 < k) (low : Lowest n sites x) (w : Without sites x rest)
     (l : ObservedSet g s) (lit : Lit (g .neighbours) (g .zeros) s x t)

@@ -3,7 +3,7 @@ use Prim.Native.Nat.{ℕ}
 use Rattle.busset.specs.Sets.{setOf}
 use Rattle.rules.specs.Grids.{Grid}
 use Rattle.rules.specs.Placing.{Fewest, SomePlan}
-use Rattle.rules.specs.Ways.{NoWay, FirstWay}
+use Rattle.place_light.specs.Ways.{NoWay, FirstWay}
 use Rattle.place_fewest.specs.declared.Found.{Found}
 use Rattle.place_fewest.specs.declared.Found.the-variants.{Sites, Nothing}
 

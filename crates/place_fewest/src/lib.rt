@@ -3,8 +3,8 @@ ghost use Prim.Native.Nat.{_≤_};
 ghost use Rattle.busset.specs.Sets.{Within, width, setOf};
 ghost use Rattle.rules.specs.Grids.{Proper};
 ghost use Rattle.rules.specs.Observation.{ObservedSet};
-ghost use Rattle.rules.specs.Ways.{Whatever};
 ghost use Rattle.grid.specs.Cases.{neighbours, gridWith, Lines};
+ghost use Rattle.place_light.specs.Ways.{Whatever};
 ghost use Rattle.place_fewest.specs.Answers.{FoundIs, FewestIs};
 use busset::BusSet;
 
@@ -27,7 +27,7 @@ pub fn search(
         (λ g. ObservedSet g (setOf s) → FoundIs g (setOf sites) k r) ⌝ }
 {
     if k == 0 {
-        if place_light::is_full(n, s) {
+        if grid::is_full(n, s) {
             return Found::Sites(busset::none());
         }
         return Found::Nothing;

@@ -6,7 +6,7 @@ use lib.ListN.{length, take}
 use Rattle.busset.specs.Sets.{Minus}
 use Rattle.rules.specs.Grids.{Grid}
 use Rattle.rules.specs.Observation.{ObservedSet}
-use Rattle.rules.specs.Ways.{Whatever}
+use Rattle.place_light.specs.Ways.{Whatever}
 use Rattle.rules.specs.Choosing.{Best, NoneAdds, Greedy}
 
 -- the best site, or 0 where none adds a bus

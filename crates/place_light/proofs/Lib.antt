@@ -1,2 +1,4 @@
 pub mod Lighting
+pub mod Searching
+pub mod Covers
 pub mod Sparing

@@ -1,42 +1,17 @@
--- Spreading, sweep after sweep, and what the sets so made are for a grid.
+-- What is lit from a bus or from several, and what the sets so made are for a grid.
 use mathlib.Core.Path.{_≡_, ap, subst⁻¹}
-use mathlib.Core.Bool.{Bool}
 use Prim.Native.Nat.{ℕ, _≤_}
 use native.Mathlib.Omega.{arith}
-use native.Mathlib.Nat.{le-refl}
-use Rattle.basics.specs.Deciding.{Decides}
-use Rattle.busset.specs.Sets.{bit, In, Sub, All, Union, With, add}
-use Rattle.basics.proofs.Tests.{decides-by}
-use Rattle.busset.proofs.Members.{sub-of, add-of, add-sub, add-here, add-grows, with-add}
+use Rattle.busset.specs.Sets.{bit, In, Sub, Union, With, add}
+use Rattle.busset.proofs.Members.{add-of, add-sub, add-here, add-grows, with-add}
 use Rattle.rules.specs.Grids.{Grid}
 use Rattle.rules.specs.Observation.{Closed, ObservedSet}
-use Rattle.rules.specs.Placing.{withUnits, Full}
-use Rattle.rules.specs.Blocking.{Idle}
+use Rattle.rules.specs.Placing.{withUnits}
 use Rattle.rules.proofs.Covering.{closed-fewer}
-use Rattle.observe.specs.Passes.{Started, AllFired, Swept}
-use Rattle.place_light.specs.Spreads.{Spread, Lit, LitAll}
-
--- ---- all buses
-
-pub full-test : (n s : ℕ) {a : ℕ} {r : Bool} → All n a → Decides (Sub a s) r → Decides (Full n s) r
-full-test n s {a} al d =
-    decides-by (λ sub b bus. omega (arith, sub b, al .has b bus)) (λ full. sub-of a s (λ b h. full b (al .only b h))) d
-
--- ---- sweep after sweep
-
--- t holds s, and no more than the rules give
-pub record Spreading (nbr : ℕ → ℕ) (zeros s t : ℕ) : Type 0 where
-  pub grows : Sub s t
-  pub sound : (v : ℕ) → Sub s v → AllFired nbr zeros v → Sub t v
-
-pub spreading-none : (nbr : ℕ → ℕ) (zeros s : ℕ) → Spreading nbr zeros s s
-spreading-none nbr zeros s = record { grows = λ b. le-refl (bit s b); sound = λ v sub full. sub }
-
-pub spreading-more : {nbr : ℕ → ℕ} {zeros s t r : ℕ} → Spreading nbr zeros s t → Swept nbr zeros t r → Spreading nbr zeros s r
-spreading-more p sw = record { grows = λ b. omega (arith, p .grows b, sw .grows b); sound = λ v sub full. sw .sound v (p .sound v sub full) full }
-
-pub spreading-all : {nbr : ℕ → ℕ} {zeros s t r : ℕ} → Spreading nbr zeros s t → Swept nbr zeros t r → r ≡ t → Spread nbr zeros s t
-spreading-all p sw e = record { grows = p .grows; fired = sw .settled e; least = p .sound }
+use Rattle.grid.specs.Near.{WithNeighbours}
+use Rattle.observe.specs.Passes.{Spread}
+use Rattle.place_light.specs.Lights.{Lit, LitAll}
+use Rattle.place_light.specs.Ways.{Idle}
 
 -- ---- a unit at x
 
@@ -78,11 +53,11 @@ lit-gives {g} {s} {x} {y} {a} {b} l lx ly sub t cl i = record { own = omega (ari
 
 -- ---- units at the buses u
 
-pub lit-all-by : {nbr : ℕ → ℕ} {zeros s u v t r : ℕ} → Started nbr u v → Union s v t → Spread nbr zeros t r → LitAll nbr zeros s u r
-lit-all-by {nbr} {zeros} {s} {u} {v} {t} {r} st j sp = record {
+pub lit-all-by : {nbr : ℕ → ℕ} {zeros s u v t r : ℕ} → WithNeighbours nbr u v → Union s v t → Spread nbr zeros t r → LitAll nbr zeros s u r
+lit-all-by {nbr} {zeros} {s} {u} {v} {t} {r} w j sp = record {
   grows = λ b. omega (arith, j .at b, sp .grows b);
-  own = λ b. omega (arith, st .own b, j .at b, sp .grows b);
-  near = λ b h a. omega (arith, st .near b h a, j .at a, sp .grows a);
+  own = λ b. omega (arith, w .own b, j .at b, sp .grows b);
+  near = λ b h a. omega (arith, w .near b h a, j .at a, sp .grows a);
   fired = sp .fired;
 }
 

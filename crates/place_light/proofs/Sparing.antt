@@ -9,7 +9,7 @@ use Rattle.basics.proofs.Tests.{same-or}
 use Rattle.busset.proofs.Digits.{bit-zero}
 use Rattle.busset.proofs.Members.{less-here, less-there}
 use Rattle.rules.specs.Observation.{ObservedSet}
-use Rattle.rules.specs.Ways.{NoCover, Whatever}
+use Rattle.place_light.specs.Ways.{NoCover, Whatever}
 use Rattle.place_light.specs.Spares.{Spares}
 
 pub spares-same : (n : ℕ) (nbr : ℕ → ℕ) (zeros s sites k : ℕ) → Spares n nbr zeros s sites k sites

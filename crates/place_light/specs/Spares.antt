@@ -2,7 +2,7 @@
 use Prim.Native.Nat.{ℕ}
 use Rattle.busset.specs.Sets.{Sub}
 use Rattle.rules.specs.Observation.{ObservedSet}
-use Rattle.rules.specs.Ways.{Whatever, Spared}
+use Rattle.place_light.specs.Ways.{Whatever, Spared}
 
 -- r is some of the sites, and where s is observed the others are not needed for a cover of at most k
 pub record Spares (n : ℕ) (nbr : ℕ → ℕ) (zeros s sites k r : ℕ) : Type 0 where

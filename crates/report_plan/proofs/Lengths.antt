@@ -9,7 +9,7 @@ use Rattle.busset.specs.Sets.{size, empty}
 use Rattle.busset.proofs.Sizes.{size-empty}
 use Rattle.rules.specs.Placing.{Fewest}
 use Rattle.rules.specs.Grids.{Grid}
-use Rattle.rules.proofs.Blocks.{size-placed}
+use Rattle.rules.proofs.Covering.{size-placed}
 use Rattle.text_field.specs.Split.{join}
 use Rattle.text_field.proofs.Digits.{text-few, text-two}
 use Rattle.case_line.specs.Record.{recordText}

@@ -1,11 +1,14 @@
 -- Covers: as the units change, and against the observed set. Rising lists of sites, and the units with them.
-use mathlib.Core.Path.{_≡_}
+use mathlib.Core.Path.{_≡_, ap}
+use mathlib.Core.Logic.{⊎-elim}
 use mathlib.Core.List.{List, [], _∷_}
-use Prim.Native.Nat.{ℕ, _-_, _≤_, _<_, _^_, max}
+use Prim.Native.Nat.{ℕ, suc, _+_, _≤_, _<_, _^_, max}
 use native.Mathlib.Omega.{arith}
-use Rattle.busset.specs.Sets.{bit, In, Sub, empty, add}
+use lib.ListN.{length}
+use Rattle.busset.specs.Sets.{bit, In, Out, Sub, empty, add, size}
 use Rattle.busset.proofs.Digits.{bit-or, bit-zero, ext}
-use Rattle.busset.proofs.Members.{add-of}
+use Rattle.busset.proofs.Members.{in-or, add-of, add-again}
+use Rattle.busset.proofs.Sizes.{size-add}
 use Rattle.rules.specs.Grids.{Grid}
 use Rattle.rules.specs.Observation.{Closed, ObservedSet}
 use Rattle.rules.specs.Placing.{withUnits, Full, Covers, Rising, placed}
@@ -58,3 +61,12 @@ unfolding add
 placed-last x xs =
     ext (placed (add 0 x) xs) (add (placed 0 xs) x)
     (λ b. omega (arith, placed-max xs (add 0 x) b, bit-or 0 (2 ^ x) b, bit-or (placed 0 xs) (2 ^ x) b, bit-zero b))
+
+-- one bus more is at most one more
+pub size-add-most : (u x : ℕ) → size (add u x) ≤ suc (size u)
+size-add-most u x = ⊎-elim (λ (h : In u x). omega (arith, ap size (add-again u x h))) (λ (h : Out u x). omega (arith, size-add u x h)) (in-or u x)
+
+-- and the numbers of a list are at most as many more as it has
+pub size-placed : (xs : List ℕ) (u : ℕ) → size (placed u xs) ≤ size u + length xs
+size-placed [] u = omega arith
+size-placed (x ∷ xs) u = omega (arith, size-placed xs (add u x), size-add-most u x)

@@ -7,6 +7,4 @@ pub mod Shuffles
 pub mod Figures
 pub mod Covering
 pub mod Ordering
-pub mod Searching
-pub mod Blocks
 pub mod Choices

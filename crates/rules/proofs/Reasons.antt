@@ -2,14 +2,18 @@
 -- A later rule adds a case to each of these laws, and no other theorem names a reason.
 use Prim.Native.Nat.{ℕ, _≤_}
 use native.Mathlib.Omega.{arith}
-use Rattle.busset.specs.Sets.{Bus, Sub}
+use Rattle.busset.specs.Sets.{Bus, In, Sub}
 use Rattle.busset.proofs.Members.{sub-of, bus-more}
 use Rattle.step.specs.declared.Reason.{Reason}
 use Rattle.step.specs.declared.Reason.the-variants.{OwnUnit, NeighbourOf, ZeroInjection}
 use Rattle.step.specs.declared.Step.{Step}
 use Rattle.rules.specs.Grids.{Grid, Proper}
 use Rattle.rules.specs.Observation.{Closed}
-use Rattle.rules.specs.Steps.{Holds, Allowed, HasReasoned, ReasonNames, Names}
+use Rattle.rules.specs.Steps.{Holds, Allowed, ReasonNames, Names}
+
+-- on the way: s is closed under the reasons, that is, it has every bus for which one holds
+abbrev pub HasReasoned : Grid → ℕ → Type 0
+HasReasoned g s = (b : ℕ) (r : Reason) → Holds g s b r → In s b
 
 -- a reason that holds goes on holding in a larger set
 pub holds-more : (g : Grid) (s t b : ℕ) → Sub s t → (r : Reason) → Holds g s b r → Holds g t b r

@@ -4,7 +4,8 @@ use mathlib.Core.List.{List, [], _∷_}
 use mathlib.Core.Logic.{_⊎_, inl, inr, ⊎-elim}
 use Prim.Native.Nat.{ℕ, zero, suc}
 use native.Mathlib.Omega.{arith}
-use Rattle.busset.specs.Sets.{bit, In, Out, Sub, empty, add}
+use lib.ListN.{length}
+use Rattle.busset.specs.Sets.{bit, In, Out, Sub, empty, add, size}
 use Rattle.busset.proofs.Digits.{bit-zero}
 use Rattle.busset.proofs.Members.{sub-of, sub-antisym, add-of, add-here, add-grows, add-both, add-again}
 use Rattle.step.specs.declared.Step.{Step}
@@ -12,7 +13,7 @@ use Rattle.rules.specs.Grids.{Grid}
 use Rattle.rules.specs.Observation.{ObservedSet}
 use Rattle.rules.specs.Steps.{Holds, reachedFrom, AcceptedFrom, reached, Accepted, Finished}
 use Rattle.basics.specs.Lists.{Each, Some}
-use Rattle.rules.specs.Weaving.{unlessSeen, wovenFrom, WeavableFrom, woven, Weavable, Taken, here, there, Shuffle, none, next, Woven}
+use Rattle.rules.specs.Weaving.{unlessSeen, wovenFrom, WeavableFrom, woven, Weavable, Taken, here, there, Shuffle, none, next}
 use Rattle.rules.proofs.Reasons.{holds-more}
 use Rattle.rules.proofs.Lists.{reached-grows, accepted-inside, accepted-length, finished-least}
 
@@ -141,6 +142,22 @@ each-inside r (xs ∷ xss) h = (sub-of (reached xs) r (λ b p. h b (inl p)), eac
 meets : {P Q R : List Step → Type 0} {S : Type 0} (xss : List (List Step)) → Each P xss → Each Q xss → ((xs : List Step) → P xs → Q xs → R xs → S) → Some R xss → S
 meets (xs ∷ xss) p q f (inl r) = f xs (p .0) (q .0) r
 meets (xs ∷ xss) p q f (inr r) = meets xss (p .1) (q .1) f r
+
+-- on the way: what weaving a shuffle of the desks' lists comes to
+pub record Woven (g : Grid) (desks : List (List Step)) (received : List Step) : Type 0 where
+  -- it never refuses
+  pub weavable : Weavable g received
+  -- it writes a list that is itself accepted
+  pub accepted : Accepted g (woven received)
+  -- which reaches what the received list names
+  pub reaches : reached (woven received) ≡ reached received
+  -- it ends with exactly the buses at least one desk observed
+  pub all : (b : ℕ) → Some (λ xs. In (reached xs) b) desks → In (reached (woven received)) b
+  pub only : (b : ℕ) → In (reached (woven received)) b → Some (λ xs. In (reached xs) b) desks
+  -- with one step for each
+  pub each-once : length (woven received) ≡ size (reached (woven received))
+  -- if any desk had finished, that is the observed set
+  pub least : Some (λ xs. Finished g (reached xs)) desks → ObservedSet g (reached (woven received))
 
 -- demand 3, for any number of desks
 pub weaving-shuffles : (g : Grid) (desks : List (List Step)) (received : List Step) → Each (Accepted g) desks → Shuffle desks received → Woven g desks received

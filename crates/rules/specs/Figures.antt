@@ -6,7 +6,7 @@ use Rattle.busset.specs.Sets.{bit, size, less, meet}
 
 -- 1, less the number of i's neighbours, plus 1 if i is observed, plus the number of observed neighbours of i other than j
 unfoldable pub figure : (ℕ → ℕ) → ℕ → ℕ → ℕ → ℤ
-figure nbr s i j = pos 1 -ℤ pos (size (nbr i)) +ℤ pos (bit s i) +ℤ pos (size (less (meet (nbr i) s) j))
+figure neighbours s i j = pos 1 -ℤ pos (size (neighbours i)) +ℤ pos (bit s i) +ℤ pos (size (less (meet (neighbours i) s) j))
 
 -- z runs from -k to 1
 pub record Runs (k : ℕ) (z : ℤ) : Type 0 where

@@ -12,11 +12,11 @@ pub record Grid : Type 0 where
   pub units : ℕ
 
 -- a and b, joined as seen from a, have a line: they are two different buses, 1 to n, and it is the same seen from b
-pub record Line (n : ℕ) (nbr : ℕ → ℕ) (a b : ℕ) : Type 0 where
+pub record Line (n : ℕ) (neighbours : ℕ → ℕ) (a b : ℕ) : Type 0 where
   pub from : Bus n a
   pub to : Bus n b
   pub differ : a ≡ b → ⊥
-  pub back : In (nbr b) a
+  pub back : In (neighbours b) a
 
 -- every line is one, and every Z bus, Y site and unit is at a bus 1 to n
 pub record Proper (g : Grid) : Type 0 where
@@ -32,4 +32,4 @@ total (suc n) f = total n f + f (suc n)
 
 -- how many lines there are: each is counted at its higher bus
 abbrev pub lineCount : ℕ → (ℕ → ℕ) → ℕ
-lineCount n nbr = total n (λ b. size (upTo b (nbr b)))
+lineCount n neighbours = total n (λ b. size (upTo b (neighbours b)))

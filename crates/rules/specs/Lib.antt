@@ -1,11 +1,19 @@
+-- Document 01's definitions, to be read in this order.
+-- the grid, lines, and when a grid is proper
 pub mod Grids
+-- the two rules, and the observed set
 pub mod Observation
+-- reasons, steps, and lists of steps
 pub mod Steps
+-- the derivation: the one fixed finished list
 pub mod Derivation
-pub mod Weaving
+-- the firing figure
 pub mod Figures
+-- weaving a received list, and shuffles of the desks' lists
+pub mod Weaving
+-- cross-validation: which units confirm each other
 pub mod Confirming
+-- additions of new units, and the fewest
 pub mod Placing
-pub mod Blocking
-pub mod Ways
+-- greedy: the site that it adds
 pub mod Choosing

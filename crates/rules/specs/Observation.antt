@@ -5,9 +5,9 @@ use Rattle.busset.specs.Sets.{In, Sub}
 use Rattle.rules.specs.Grids.{Grid}
 
 -- O1: a bus with a unit, and each of its neighbours, is observed
-pub record O1 (g : Grid) (s : ℕ) : Type 0 where
-  pub own : (b : ℕ) → In (g .units) b → In s b
-  pub near : (b : ℕ) → In (g .units) b → Sub (g .neighbours b) s
+pub record O1 (neighbours : ℕ → ℕ) (units s : ℕ) : Type 0 where
+  pub own : (b : ℕ) → In units b → In s b
+  pub near : (b : ℕ) → In units b → Sub (neighbours b) s
 
 -- of the buses m, all but b are in s
 abbrev pub AllBut : ℕ → ℕ → ℕ → Type 0
@@ -18,13 +18,13 @@ abbrev pub Fired : ℕ → ℕ → Type 0
 Fired m s = (b : ℕ) → In m b → AllBut m b s → In s b
 
 -- O2: if a Z bus is observed and all its neighbours but one are observed, that one is observed too
-abbrev pub O2 : Grid → ℕ → Type 0
-O2 g s = (w : ℕ) → In (g .zeros) w → In s w → Fired (g .neighbours w) s
+abbrev pub O2 : (ℕ → ℕ) → ℕ → ℕ → Type 0
+O2 neighbours zeros s = (w : ℕ) → In zeros w → In s w → Fired (neighbours w) s
 
 -- s satisfies both rules
 pub record Closed (g : Grid) (s : ℕ) : Type 0 where
-  pub o1 : O1 g s
-  pub o2 : O2 g s
+  pub o1 : O1 (g .neighbours) (g .units) s
+  pub o2 : O2 (g .neighbours) (g .zeros) s
 
 -- s is the observed set: it satisfies both rules and is contained in every set that does
 pub record ObservedSet (g : Grid) (s : ℕ) : Type 0 where

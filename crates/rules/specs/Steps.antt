@@ -11,16 +11,16 @@ use Rattle.rules.specs.Observation.{AllBut}
 -- ---- one step
 
 -- N p: a unit stands at p, joined to b
-pub record ByUnit (nbr : ℕ → ℕ) (units b p : ℕ) : Type 0 where
+pub record ByUnit (neighbours : ℕ → ℕ) (units b p : ℕ) : Type 0 where
   pub unit : In units p
-  pub joined : In (nbr p) b
+  pub joined : In (neighbours p) b
 
 -- Z w: w is Z, observed, joined to b, and every other neighbour of w is observed
-pub record ByZero (nbr : ℕ → ℕ) (zeros s b w : ℕ) : Type 0 where
+pub record ByZero (neighbours : ℕ → ℕ) (zeros s b w : ℕ) : Type 0 where
   pub class : In zeros w
   pub observed : In s w
-  pub joined : In (nbr w) b
-  pub others : AllBut (nbr w) b s
+  pub joined : In (neighbours w) b
+  pub others : AllBut (neighbours w) b s
 
 -- the reason holds for bus b where s is observed
 abbrev pub Holds : Grid → ℕ → ℕ → Reason → Type 0
@@ -32,10 +32,6 @@ Holds g s b (ZeroInjection w) = ByZero (g .neighbours) (g .zeros) s b w
 pub record Allowed (g : Grid) (s : ℕ) (x : Step) : Type 0 where
   pub new : Out s (x .bus)
   pub holds : Holds g s (x .bus) (x .reason)
-
--- s is closed under the reasons: it has every bus for which one holds
-abbrev pub HasReasoned : Grid → ℕ → Type 0
-HasReasoned g s = (b : ℕ) (r : Reason) → Holds g s b r → In s b
 
 -- the bus that a reason names, if it names one, is 1 to n
 abbrev pub ReasonNames : ℕ → Reason → Type 0

@@ -1,14 +1,12 @@
--- Weaving a received list, shuffles of the desks' lists, and what demand 3 says of weaving one.
+-- Weaving a received list, and shuffles of the desks' lists.
 use mathlib.Core.Path.{_≡_}
 use mathlib.Core.List.{List, [], _∷_}
 use Prim.Native.Nat.{ℕ, zero, suc}
-use lib.ListN.{length}
 use Rattle.basics.specs.Lists.{Each, Some}
-use Rattle.busset.specs.Sets.{bit, In, Out, empty, add, size}
+use Rattle.busset.specs.Sets.{bit, Out, empty, add}
 use Rattle.step.specs.declared.Step.{Step}
 use Rattle.rules.specs.Grids.{Grid}
-use Rattle.rules.specs.Observation.{ObservedSet}
-use Rattle.rules.specs.Steps.{Holds, reached, Accepted, Finished}
+use Rattle.rules.specs.Steps.{Holds}
 
 -- ---- weaving
 
@@ -46,21 +44,3 @@ pub data Taken : Step → List (List Step) → List (List Step) → Type 0 where
 pub data Shuffle : List (List Step) → List Step → Type 0 where
   none : {xss : List (List Step)} → Each (λ xs. xs ≡ []) xss → Shuffle xss []
   next : {x : Step} {xss yss : List (List Step)} {zs : List Step} → Taken x xss yss → Shuffle yss zs → Shuffle xss (x ∷ zs)
-
--- ---- demand 3
-
--- what weaving a shuffle of the desks' lists comes to
-pub record Woven (g : Grid) (desks : List (List Step)) (received : List Step) : Type 0 where
-  -- it never refuses
-  pub weavable : Weavable g received
-  -- it writes a list that is itself accepted
-  pub accepted : Accepted g (woven received)
-  -- which reaches what the received list names
-  pub reaches : reached (woven received) ≡ reached received
-  -- it ends with exactly the buses at least one desk observed
-  pub all : (b : ℕ) → Some (λ xs. In (reached xs) b) desks → In (reached (woven received)) b
-  pub only : (b : ℕ) → In (reached (woven received)) b → Some (λ xs. In (reached xs) b) desks
-  -- with one step for each
-  pub each-once : length (woven received) ≡ size (reached (woven received))
-  -- if any desk had finished, that is the observed set
-  pub least : Some (λ xs. Finished g (reached xs)) desks → ObservedSet g (reached (woven received))

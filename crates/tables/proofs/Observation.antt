@@ -52,7 +52,7 @@ fired-right =
     & tt
 
 -- bus 2 of the seven asks for 1
-asks-1 : O2 (sevenGrid (3 ∷ [])) (set (2 ∷ 3 ∷ 4 ∷ 7 ∷ [])) → ⊥
+asks-1 : O2 (sevenGrid [] .neighbours) (sevenGrid [] .zeros) (set (2 ∷ 3 ∷ 4 ∷ 7 ∷ [])) → ⊥
 unfolding neighbours lack setOf ones onesIn
 asks-1 h = omega (arith, h 2 refl refl 1 refl (but-one (set (1 ∷ 3 ∷ [])) 1 (set (2 ∷ 3 ∷ 4 ∷ 7 ∷ [])) refl refl refl))
 

@@ -17,13 +17,13 @@ use Rattle.rules.specs.Observation.{ObservedSet}
 use Rattle.rules.specs.Steps.{reached}
 use Rattle.rules.specs.Confirming.{Confirm, joined, share, Unconfirmed, UnconfirmedSet}
 use Rattle.rules.specs.Placing.{withUnits, Full, Free, SomePlan, Fewest}
-use Rattle.rules.specs.Ways.{NoWay, FirstWay}
 use Rattle.rules.specs.Choosing as choosing
 use Rattle.rules.specs.Choosing.{Greedy}
 use Rattle.tables.proofs.Tests.{total-none, total-pass, gap, gap-none, given, given-passes, holdsTest, leastTest, least-passes}
 use Rattle.rules.proofs.Leasts.{least-unique}
 use Rattle.rules.proofs.Covering.{covers-full, full-covers}
-use Rattle.rules.proofs.Searching.{way-none, no-way-none, no-way-left, first-take, passed-lowest, passed-no, passed-first, NoFewer, no-fewer-none, no-fewer-more, first-fewest, no-plan}
+use Rattle.place_light.specs.Ways.{NoWay, FirstWay}
+use Rattle.place_light.proofs.Searching.{way-none, no-way-none, no-way-left, first-take, passed-lowest, passed-no, passed-first, NoFewer, no-fewer-none, no-fewer-more, first-fewest, no-plan}
 
 -- ---- what helps to compute
 

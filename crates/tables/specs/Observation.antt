@@ -3,18 +3,18 @@ use mathlib.Core.List.{List, [], _∷_}
 use Rattle.rules.specs.Observation.{O1, AllBut, Fired, O2, Closed, ObservedSet}
 use Rattle.tables.specs.Starred.{path}
 use Rattle.tables.specs.Tables.{Row, holds, fails}
-use Rattle.tables.specs.Drawings.{set, grid, sevenGrid, pathWith, sweep, leaf, lone}
+use Rattle.tables.specs.Drawings.{set, grid, sevenGrid, sweep, leaf, lone}
 
 -- ---- O1
 
 -- a bus with a unit, and each of its neighbours
 abbrev pub o1 : List Row
 o1 =
-    holds (O1 (sevenGrid (3 ∷ [])) (set (1 ∷ 2 ∷ 3 ∷ 4 ∷ 7 ∷ [])))
-    ∷ fails (O1 (sevenGrid (3 ∷ [])) (set (3 ∷ [])))
-    ∷ fails (O1 (sevenGrid (3 ∷ [])) (set (2 ∷ 3 ∷ 4 ∷ [])))
-    ∷ fails (O1 (sevenGrid (3 ∷ [])) (set (2 ∷ 4 ∷ 7 ∷ [])))
-    ∷ holds (O1 (sevenGrid []) (set []))
+    holds (O1 (sevenGrid [] .neighbours) (set (3 ∷ [])) (set (1 ∷ 2 ∷ 3 ∷ 4 ∷ 7 ∷ [])))
+    ∷ fails (O1 (sevenGrid [] .neighbours) (set (3 ∷ [])) (set (3 ∷ [])))
+    ∷ fails (O1 (sevenGrid [] .neighbours) (set (3 ∷ [])) (set (2 ∷ 3 ∷ 4 ∷ [])))
+    ∷ fails (O1 (sevenGrid [] .neighbours) (set (3 ∷ [])) (set (2 ∷ 4 ∷ 7 ∷ [])))
+    ∷ holds (O1 (sevenGrid [] .neighbours) (set []) (set []))
     ∷ []
 
 -- ---- O2
@@ -43,17 +43,17 @@ fired =
 abbrev pub o2 : List Row
 o2 =
     -- bus 2 is Z and observed, and 1 is its only unknown neighbour
-    fails (O2 (sevenGrid (3 ∷ [])) (set (2 ∷ 3 ∷ 4 ∷ 7 ∷ [])))
-    ∷ holds (O2 (sevenGrid (3 ∷ [])) (set (1 ∷ 2 ∷ 3 ∷ 4 ∷ 7 ∷ [])))
+    fails (O2 (sevenGrid [] .neighbours) (sevenGrid [] .zeros) (set (2 ∷ 3 ∷ 4 ∷ 7 ∷ [])))
+    ∷ holds (O2 (sevenGrid [] .neighbours) (sevenGrid [] .zeros) (set (1 ∷ 2 ∷ 3 ∷ 4 ∷ 7 ∷ [])))
     -- an I bus, as 2 and 4 here, asks nothing
-    ∷ holds (O2 (grid path) (set (1 ∷ 2 ∷ 4 ∷ 5 ∷ [])))
+    ∷ holds (O2 (grid path .neighbours) (grid path .zeros) (set (1 ∷ 2 ∷ 4 ∷ 5 ∷ [])))
     -- a Z bus that is not observed, as 3 here, asks nothing, though its neighbour 4 alone is unknown
-    ∷ holds (O2 (grid (pathWith (1 ∷ []))) (set (1 ∷ 2 ∷ [])))
+    ∷ holds (O2 (grid path .neighbours) (grid path .zeros) (set (1 ∷ 2 ∷ [])))
     -- a Z bus with two unknown neighbours, as 3 here, asks nothing
-    ∷ holds (O2 (sevenGrid (4 ∷ [])) (set (3 ∷ 4 ∷ 5 ∷ 6 ∷ [])))
+    ∷ holds (O2 (sevenGrid [] .neighbours) (sevenGrid [] .zeros) (set (3 ∷ 4 ∷ 5 ∷ 6 ∷ [])))
     -- a Z bus with one neighbour asks for it as soon as it is observed
-    ∷ fails (O2 (grid leaf) (set (1 ∷ [])))
-    ∷ holds (O2 (grid leaf) (set (1 ∷ 2 ∷ [])))
+    ∷ fails (O2 (grid leaf .neighbours) (grid leaf .zeros) (set (1 ∷ [])))
+    ∷ holds (O2 (grid leaf .neighbours) (grid leaf .zeros) (set (1 ∷ 2 ∷ [])))
     ∷ []
 
 -- ---- the observed set

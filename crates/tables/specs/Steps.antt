@@ -6,7 +6,8 @@ use Rattle.step.specs.Records.{noStep, written, putFirst}
 use Rattle.step.specs.declared.Reason.{Reason}
 use Rattle.step.specs.declared.Reason.the-variants.{OwnUnit, NeighbourOf, ZeroInjection}
 use Rattle.step.specs.declared.Step.{Step}
-use Rattle.rules.specs.Steps.{Holds, Allowed, HasReasoned, ReasonNames, Names, AcceptedFrom, Accepted, reached, Finished}
+use Rattle.rules.specs.Steps.{Holds, Allowed, ReasonNames, Names, AcceptedFrom, Accepted, reached, Finished}
+use Rattle.rules.proofs.Reasons.{HasReasoned}
 use Rattle.list_value.specs.Lists.{listed, nthOf, listOf}
 use Rattle.list_value.specs.declared.StepList.{StepList}
 use Rattle.tables.specs.Tables.{Right, Row, holds, fails}

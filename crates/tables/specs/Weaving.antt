@@ -3,7 +3,8 @@ use mathlib.Core.List.{List, [], _∷_}
 use Prim.Native.Nat.{ℕ, _≤_}
 use Rattle.step.specs.declared.Step.{Step}
 use Rattle.basics.specs.Lists.{Each, Some}
-use Rattle.rules.specs.Weaving.{woven, wovenFrom, WeavableFrom, Weavable, Taken, Shuffle, Woven}
+use Rattle.rules.specs.Weaving.{woven, wovenFrom, WeavableFrom, Weavable, Taken, Shuffle}
+use Rattle.rules.proofs.Shuffles.{Woven}
 use Rattle.refusals.specs.declared.Refusal.the-variants.{NoRoom}
 use Rattle.ending.specs.declared.Wove.{Wove}
 use Rattle.ending.specs.declared.Wove.the-variants as wove

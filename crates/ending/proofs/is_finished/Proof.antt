@@ -5,14 +5,14 @@ use borrow.Author.Needs.{needs}
 use Rattle.ending.proofs.is_finished.Statement.{statement}
 use Rattle.ending.proofs.is_finished.Tie as tie
 
-start-requires : tie.Need-start-requires
-start-requires c κs = search needs
+with-neighbours-requires : tie.Need-with-neighbours-requires
+with-neighbours-requires c κs = search needs
 
 is-subset-requires : tie.Need-is-subset-requires
 is-subset-requires c κs = search needs
 
 returns : tie.Need-returns
-returns c = finished-unless-started (c .before .before .start .ensures) (refutes (c .before .is-subset .ensures) (not-true _ (c .if1 .taken)))
+returns c = finished-unless-started (c .before .before .with-neighbours .ensures) (refutes (c .before .is-subset .ensures) (not-true _ (c .if1 .taken)))
 
 sweep-requires : tie.Need-sweep-requires
 sweep-requires c κs = search needs
@@ -24,7 +24,7 @@ returns-2 : tie.Need-returns-2
 returns-2 c =
     let swept = c .before in
     let first = swept .before .before in
-    finished-test (first .before .before .start .ensures) (first .before .is-subset .ensures .yes (not-false _ (first .if1 .left))) (swept .sweep .ensures) (c .same .ensures)
+    finished-test (first .before .before .with-neighbours .ensures) (first .before .is-subset .ensures .yes (not-false _ (first .if1 .left))) (swept .sweep .ensures) (c .same .ensures)
 
 pub is-finished-spec : {M : Type 1} → statement M
-is-finished-spec = tie.close (tie.spec start-requires is-subset-requires returns sweep-requires same-requires returns-2)
+is-finished-spec = tie.close (tie.spec with-neighbours-requires is-subset-requires returns sweep-requires same-requires returns-2)

@@ -12,8 +12,8 @@ bus c = set-bus 64 (c .args .p) (search needs) (c .pre .1)
 row-requires : tie.Need-row-requires
 row-requires c κs = bus c
 
-start-requires : tie.Need-start-requires
-start-requires c κs = search needs
+with-neighbours-requires : tie.Need-with-neighbours-requires
+with-neighbours-requires c κs = search needs
 
 without-requires : tie.Need-without-requires
 without-requires c κs = bus (c .before .before)
@@ -28,9 +28,9 @@ returns : tie.Need-returns
 returns c =
     let near = c .before .before .before in
     let start = near .before .before in
-    unconfirmed-test (start .pre .0) (start .pre .1) (near .before .row .ensures) (near .start .ensures) (c .before .before .without .ensures) (c .before .both .ensures) (c .is-none .ensures)
+    unconfirmed-test (start .pre .0) (start .pre .1) (near .before .row .ensures) (near .with-neighbours .ensures) (c .before .before .without .ensures) (c .before .both .ensures) (c .is-none .ensures)
 
 pub is-unconfirmed-spec : {M : Type 1} → statement M
 is-unconfirmed-spec =
     tie.close
-    (tie.spec row-requires start-requires without-requires both-requires is-none-requires returns)
+    (tie.spec row-requires with-neighbours-requires without-requires both-requires is-none-requires returns)

@@ -10,11 +10,11 @@ use Rattle.busset.proofs.Members.{without-sub}
 use Rattle.busset.proofs.Sizes.{size-le}
 use Rattle.rules.specs.Grids.{Grid}
 use Rattle.rules.specs.Observation.{ObservedSet}
-use Rattle.rules.specs.Ways.{Whatever}
 use Rattle.rules.proofs.Covering.{covers-full, full-covers}
-use Rattle.rules.proofs.Searching.{way-none, no-way-none, no-way-left, Passed, passed-none, passed-more, passed-no, passed-first}
-use Rattle.rules.proofs.Blocks.{no-cover-way}
 use Rattle.grid.specs.Cases.{neighbours}
+use Rattle.place_light.specs.Ways.{Whatever}
+use Rattle.place_light.proofs.Searching.{way-none, no-way-none, no-way-left, Passed, passed-none, passed-more, passed-no, passed-first}
+use Rattle.place_light.proofs.Covers.{no-cover-way}
 use Rattle.place_fewest.proofs.Finding.{found-take, found-pass}
 use borrow.Fn.Kinds.{In}
 use borrow.Fn.PlainCycle.{Measures, is, falls, and}
@@ -27,7 +27,7 @@ use Rattle.busset.proofs.none.Reads as none-reads
 use Rattle.busset.proofs.with.Reads as with-reads
 use Rattle.busset.proofs.without.Reads as without-reads
 use Rattle.place_bound.proofs.hopeless.is_hopeless.Reads as is-hopeless-reads
-use Rattle.place_light.proofs.is_full.Reads as is-full-reads
+use Rattle.grid.proofs.is_full.Reads as is-full-reads
 use Rattle.place_light.proofs.lit.Reads as lit-reads
 use Rattle.place_fewest.proofs.+search.{statement}
 use Rattle.place_fewest.proofs.+search.Tie.{close}

@@ -5,8 +5,8 @@ use native.Mathlib.Omega.{arith}
 use borrow.Author.Needs.{needs}
 use Rattle.busset.specs.Sets.{setOf}
 use Rattle.rules.specs.Grids.{Grid}
-use Rattle.rules.proofs.Searching.{NoFewer, no-fewer-none, no-fewer-more, first-fewest, no-plan}
 use Rattle.grid.specs.Cases.{gridWith}
+use Rattle.place_light.proofs.Searching.{NoFewer, no-fewer-none, no-fewer-more, first-fewest, no-plan}
 use Rattle.place_fewest.specs.declared.Found.{Found}
 use Rattle.place_fewest.specs.Answers.{FoundIs}
 use Rattle.place_fewest.proofs.fewest.Statement.{statement}

@@ -3,8 +3,8 @@ use borrow.Author.Needs.{needs}
 use Rattle.place_light.proofs.lit_all.Statement.{statement}
 use Rattle.place_light.proofs.lit_all.Tie as tie
 
-start-requires : tie.Need-start-requires
-start-requires c κs = search needs
+with-neighbours-requires : tie.Need-with-neighbours-requires
+with-neighbours-requires c κs = search needs
 
 union-requires : tie.Need-union-requires
 union-requires c κs = search needs
@@ -13,7 +13,7 @@ spread-requires : tie.Need-spread-requires
 spread-requires c κs = search needs
 
 returns : tie.Need-returns
-returns c = lit-all-by (c .before .before .start .ensures) (c .before .union .ensures) (c .spread .ensures)
+returns c = lit-all-by (c .before .before .with-neighbours .ensures) (c .before .union .ensures) (c .spread .ensures)
 
 pub lit-all-spec : {M : Type 1} → statement M
-lit-all-spec = tie.close (tie.spec start-requires union-requires spread-requires returns)
+lit-all-spec = tie.close (tie.spec with-neighbours-requires union-requires spread-requires returns)

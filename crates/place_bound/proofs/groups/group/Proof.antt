@@ -10,8 +10,8 @@ all-requires c κs = search needs
 minus-requires : tie.Need-minus-requires
 minus-requires c κs = search needs
 
-start-requires : tie.Need-start-requires
-start-requires c κs = search needs
+with-neighbours-requires : tie.Need-with-neighbours-requires
+with-neighbours-requires c κs = search needs
 
 both-requires : tie.Need-both-requires
 both-requires c κs = search needs
@@ -20,7 +20,7 @@ returns : tie.Need-returns
 returns c =
     let dark = c .before .before in
     let start = dark .before .before in
-    group-by (start .pre .1) (dark .before .all .ensures) (dark .minus .ensures) (c .before .start .ensures) (c .both .ensures) (start .pre .2)
+    group-by (start .pre .1) (dark .before .all .ensures) (dark .minus .ensures) (c .before .with-neighbours .ensures) (c .both .ensures) (start .pre .2)
 
 pub group-spec : {M : Type 1} → statement M
-group-spec = tie.close (tie.spec all-requires minus-requires start-requires both-requires returns)
+group-spec = tie.close (tie.spec all-requires minus-requires with-neighbours-requires both-requires returns)

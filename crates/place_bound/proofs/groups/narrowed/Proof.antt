@@ -7,9 +7,9 @@ use Rattle.busset.specs.Sets.{bit, Sub, setOf}
 use Rattle.basics.proofs.Tests.{refutes}
 use Rattle.busset.proofs.Digits.{bit-zero}
 use Rattle.rules.specs.Observation.{ObservedSet}
-use Rattle.rules.specs.Ways.{Whatever}
-use Rattle.rules.proofs.Blocks.{Grouped, grouped-none, grouped-spared, grouped-lacks}
 use Rattle.grid.specs.Cases.{neighbours}
+use Rattle.place_light.specs.Ways.{Whatever}
+use Rattle.place_light.proofs.Covers.{Grouped, grouped-none, grouped-spared, grouped-lacks}
 use Rattle.place_light.proofs.Sparing.{spares-same, spares-none}
 use Rattle.place_bound.proofs.Grouping.{no-group, next-group}
 use borrow.Author.Needs.{needs}

@@ -10,8 +10,8 @@ use Rattle.basics.proofs.Tests.{refutes}
 use Rattle.busset.proofs.Members.{without-sub}
 use Rattle.busset.proofs.Sizes.{size-le}
 use Rattle.rules.specs.Observation.{ObservedSet}
-use Rattle.rules.specs.Ways.{Whatever, Spared}
 use Rattle.grid.specs.Cases.{neighbours}
+use Rattle.place_light.specs.Ways.{Whatever, Spared}
 use Rattle.place_light.proofs.Lighting.{lit-least}
 use Rattle.place_bound.proofs.Grouping.{shrunk-closed}
 use Rattle.place_bound.proofs.Cutting.{IdleBut, idle-tried, idle-no-cover, lacks-no-cover, spared-tried}
@@ -23,11 +23,11 @@ use Rattle.place_bound.proofs.hopeless.+is_hopeless.Lts-is_hopeless as 
 use Rattle.busset.proofs.is_none.Reads as is-none-reads
 use Rattle.busset.proofs.lowest.Reads as lowest-reads
 use Rattle.busset.proofs.without.Reads as without-reads
+use Rattle.grid.proofs.is_full.Reads as is-full-reads
 use Rattle.place_bound.proofs.groups.group.Reads as group-reads
 use Rattle.place_bound.proofs.groups.narrowed.Reads as narrowed-reads
 use Rattle.place_bound.proofs.groups.shrunk.Reads as shrunk-reads
 use Rattle.place_bound.proofs.dominated.undominated.Reads as undominated-reads
-use Rattle.place_light.proofs.is_full.Reads as is-full-reads
 use Rattle.place_light.proofs.lit.Reads as lit-reads
 use Rattle.place_bound.proofs.hopeless.+is_hopeless.{statement}
 use Rattle.place_bound.proofs.hopeless.+is_hopeless.Tie.{close}

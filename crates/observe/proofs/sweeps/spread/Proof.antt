@@ -1,3 +1,4 @@
+-- The set holds s and no more than O2 gives. A sweep that changes it makes it larger, so that what it lacks of 64 buses falls.
 use Prim.Native.Nat.{_-_, _≤_}
 use native.Mathlib.Omega.{arith}
 use Rattle.busset.specs.Sets.{setOf, size}
@@ -5,10 +6,10 @@ use Rattle.basics.proofs.Tests.{refutes}
 use Rattle.busset.proofs.Sizes.{size-lt}
 use Rattle.busset.proofs.Words.{set-size}
 use Rattle.grid.specs.Cases.{neighbours}
-use Rattle.place_light.proofs.Lighting.{Spreading, spreading-none, spreading-more, spreading-all}
+use Rattle.observe.proofs.Passing.{Spreading, spreading-none, spreading-more, spreading-all}
 use borrow.Author.Needs.{needs}
-use Rattle.place_light.proofs.spread.Statement.{statement}
-use Rattle.place_light.proofs.spread.Tie as tie
+use Rattle.observe.proofs.sweeps.spread.Statement.{statement}
+use Rattle.observe.proofs.sweeps.spread.Tie as tie
 
 abbrev Inv-loop : tie.InvT-loop
 Inv-loop nbr zero s t₀ t = Spreading (neighbours nbr) (setOf zero) (setOf s) (setOf t)

@@ -1,14 +1,19 @@
--- Ways: what one call of the search for the fewest looks for. The sites are those that are still open to it.
+-- On the way: what the search for the fewest looks for, and what keeps it short. No call's promise names any of it.
 use mathlib.Core.Path.{_≡_}
 use mathlib.Core.Bool.{Bool, true}
 use mathlib.Core.List.{List}
 use Prim.Native.Nat.{ℕ, _≤_}
 use lib.ListN.{length}
-use Rattle.busset.specs.Sets.{In, Sub, empty, size}
+use Rattle.busset.specs.Sets.{In, Out, Sub, empty, size}
 use Rattle.rules.specs.Grids.{Grid}
 use Rattle.rules.specs.Observation.{Closed}
 use Rattle.rules.specs.Placing.{Full, Covers, Rising, placed, Before}
-use Rattle.rules.specs.Blocking.{Idle}
+
+-- P holds of every grid with these buses, lines and Z buses, whatever its sites and units
+abbrev pub Whatever : ℕ → (ℕ → ℕ) → ℕ → (Grid → Type 0) → Type 0
+Whatever n nbr zeros P = (sites units : ℕ) → P (record { n = n; neighbours = nbr; zeros = zeros; sites = sites; units = units })
+
+-- ---- ways: what one call of the search looks for, where these sites are still open to it
 
 -- xs is a rising list of k of the sites that makes all buses observed
 pub record Way (g : Grid) (sites k : ℕ) (xs : List ℕ) : Type 0 where
@@ -27,7 +32,19 @@ pub record FirstWay (g : Grid) (sites k m : ℕ) : Type 0 where
   pub way : Way g sites k list
   pub first : (ys : List ℕ) → Way g sites k ys → Before list ys
 
--- v is at most k of the sites, and makes all buses observed: a set that satisfies the rules, and has what units at v observe directly, has them
+-- ---- covers: what a cut excludes
+
+-- a unit at x is idle in c: it observes no bus outside c directly
+pub record Idle (nbr : ℕ → ℕ) (c x : ℕ) : Type 0 where
+  pub own : In c x
+  pub near : Sub (nbr x) c
+
+-- r is some of the sites, and has all of them that are not idle in c
+pub record Group (nbr : ℕ → ℕ) (sites c r : ℕ) : Type 0 where
+  pub of : Sub r sites
+  pub rest : (x : ℕ) → In sites x → Out r x → Idle nbr c x
+
+-- v is at most k of the sites, and makes all buses observed: a set that satisfies the rules, and in which units at v are idle, has them
 pub record Cover (g : Grid) (sites k v : ℕ) : Type 0 where
   pub of : Sub v sites
   pub few : size v ≤ k
@@ -44,7 +61,3 @@ Cut g sites k r = r ≡ true → NoCover g sites k
 -- the other sites are not needed: where rest has no cover, the sites have none
 abbrev pub Spared : Grid → ℕ → ℕ → ℕ → Type 0
 Spared g sites k rest = NoCover g rest k → NoCover g sites k
-
--- P holds of every grid with these buses, lines and Z buses, whatever its sites and units
-abbrev pub Whatever : ℕ → (ℕ → ℕ) → ℕ → (Grid → Type 0) → Type 0
-Whatever n nbr zeros P = (sites units : ℕ) → P (record { n = n; neighbours = nbr; zeros = zeros; sites = sites; units = units })

@@ -1,21 +1,19 @@
--- Covers: units that are idle in a set, groups of sites that bound every cover from below, and one site in a cover or out of it.
+-- Covers: ways are covers; groups of sites, each of which has a site of every cover, bound the covers from below.
 use mathlib.Core.Path.{_≡_, ap, _∙_, subst⁻¹}
 use mathlib.Core.Logic.{⊎-elim}
-use mathlib.Core.List.{List, [], _∷_}
-use Prim.Native.Nat.{ℕ, suc, _+_, _-_, _≤_, _<_, zero-le}
+use mathlib.Core.List.{List}
+use Prim.Native.Nat.{ℕ, _+_, _-_, _≤_, _<_, zero-le}
 use native.Mathlib.Omega.{arith}
-use lib.ListN.{length}
 use Rattle.busset.specs.Sets.{bit, In, Out, Sub, empty, add, less, meet, size, Union}
 use Rattle.basics.proofs.Tests.{below-or, same-or}
 use Rattle.busset.proofs.Digits.{bit-zero}
-use Rattle.busset.proofs.Members.{in-or, sub-of, less-there, meet-at, add-here, add-grows, add-again}
-use Rattle.busset.proofs.Sizes.{size-empty, size-le, size-same, size-add, size-less}
+use Rattle.busset.proofs.Members.{in-or, sub-of, less-there, meet-at, add-here, add-grows}
+use Rattle.busset.proofs.Sizes.{size-empty, size-le, size-same, size-less}
 use Rattle.rules.specs.Grids.{Grid}
 use Rattle.rules.specs.Observation.{Closed}
 use Rattle.rules.specs.Placing.{withUnits, Full, placed}
-use Rattle.rules.specs.Ways.{Way, NoWay, Cover, NoCover, Spared}
-use Rattle.rules.specs.Blocking.{Idle, Group}
-use Rattle.rules.proofs.Covering.{closed-fewer, placed-of, placed-max}
+use Rattle.rules.proofs.Covering.{closed-fewer, placed-of, placed-max, size-add-most, size-placed}
+use Rattle.place_light.specs.Ways.{Way, NoWay, Idle, Group, Cover, NoCover, Spared}
 
 -- ---- idle units
 
@@ -31,14 +29,6 @@ pub cover-not-idle : {g : Grid} {sites k v c : ℕ} → Cover g sites k v → Cl
 cover-not-idle {c = c} v cl lacks idle = lacks (v .full c cl idle)
 
 -- ---- ways are covers
-
--- one bus more is at most one more
-size-add-most : (u x : ℕ) → size (add u x) ≤ suc (size u)
-size-add-most u x = ⊎-elim (λ (h : In u x). omega (arith, ap size (add-again u x h))) (λ (h : Out u x). omega (arith, size-add u x h)) (in-or u x)
-
-pub size-placed : (xs : List ℕ) (u : ℕ) → size (placed u xs) ≤ size u + length xs
-size-placed [] u = omega arith
-size-placed (x ∷ xs) u = omega (arith, size-placed xs (add u x), size-add-most u x)
 
 way-cover : {g : Grid} {sites k : ℕ} {xs : List ℕ} → Way g sites k xs → Cover g sites k (placed empty xs)
 way-cover {g} {sites} {k} {xs} w = record {

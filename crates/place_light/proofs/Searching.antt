@@ -10,10 +10,10 @@ use Rattle.busset.specs.Sets.{bit, In, Sub, empty, add, Lowest, Without, Minus}
 use Rattle.basics.proofs.Tests.{same-or, below-or}
 use Rattle.busset.proofs.Digits.{bit-zero}
 use Rattle.busset.proofs.Members.{without-sub}
 use Rattle.rules.specs.Grids.{Grid}
 use Rattle.rules.specs.Placing.{withUnits, Covers, Rising, Plan, Before, Earlier, Fewest, SomePlan}
-use Rattle.rules.specs.Ways.{Way, NoWay, FirstWay}
 use Rattle.rules.proofs.Covering.{rising-to, rising-above, placed-last}
+use Rattle.place_light.specs.Ways.{Way, NoWay, FirstWay}
 
 -- ---- no more to place
 
