@@ -20,6 +20,7 @@ use Rattle.estimator.proofs.wz_unconfirmed.Met as met-wz-unconfirmed
 use Rattle.estimator.proofs.wz_fewest.Met as met-wz-fewest
 use Rattle.estimator.proofs.wz_replay.Met as met-wz-replay
 use Rattle.demands.specs.Demand1.{Demand1}
+use Rattle.demands.proofs.Promised.{every-promise}
 use Rattle.demands.proofs.CallsByTable as calls
 use Rattle.demands.proofs.TextsByTable as texts
 use Rattle.demands.proofs.ReportsByTable as reports
@@ -49,6 +50,7 @@ demand-1 = record {
     wz-fewest = met-wz-fewest.met;
     wz-replay = met-wz-replay.met;
   };
+  promised = every-promise;
   observed-set = calls.observed-set;
   firing-figure = calls.firing-figure;
   test-step = calls.test-step;

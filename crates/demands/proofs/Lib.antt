@@ -16,6 +16,7 @@ pub mod TextsByTable
 pub mod EstimatorByTable
 pub mod ReportsByTable
 pub mod EstimatorResults
+pub mod Promised
 pub mod Demand1
 pub mod Demand2
 pub mod Demand3

@@ -45,10 +45,13 @@ use Rattle.estimator_reply.specs.Results.{Answered}
 use Rattle.demands.specs.TextChecks.{caseChecks, stepTextChecks, stepsReadChecks, textReplayChecks, estimatorChecks, inputChecks, printChecks}
 use Rattle.demands.specs.ByTable.{noDerivation, Refuses, TextRefuses, Coded, ByTable, NothingLent, PrintedByTable, FewestPrinted}
 use Rattle.demands.specs.Calls.{EveryCall}
+use Rattle.demands.specs.Promised.{EveryPromise}
 
 pub record Demand1 (M : Type 1) : Type 2 where
   -- every input gets a reply, which its call's promise determines, and the call ends
   pub replies : EveryCall M
+  -- every call's contract is its promise
+  pub promised : EveryPromise
   -- a reply that a call's promise allows is by the table: the grid
   pub observed-set : (c : Case) (r : Observed) → ObservedReply c r → NothingLent (observedChecks c) observed.Refused r
   pub firing-figure : (c : Case) (s i j : ℕ) (r : Figured) → FigureReply c s i j r → NothingLent (figureChecks c i j) figured.Refused r

@@ -3,6 +3,7 @@ pub mod Order
 pub mod TextChecks
 pub mod ByTable
 pub mod Calls
+pub mod Promised
 pub mod Demand1
 pub mod Demand2
 pub mod Demand3

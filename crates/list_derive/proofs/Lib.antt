@@ -1,2 +1,3 @@
 pub mod Nexting
 pub mod Extending
+pub mod Promised

@@ -1,3 +1,4 @@
 pub mod Texts
 pub mod Reports
 pub mod Days
+pub mod Promised

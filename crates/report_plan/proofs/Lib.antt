@@ -1,3 +1,4 @@
 pub mod Reports
 pub mod Unique
 pub mod Lengths
+pub mod Promised
