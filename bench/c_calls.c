@@ -1,4 +1,5 @@
-/* Replays one step text many times, for bench/run: linked with the library, or with tests/c's document 01 under the library's name.
+/* Replays one step text many times, for bench/run. It is linked with the library, or with tests/c's document 01 under
+   the library's name.
    usage: c_calls STEPS TIMES    with the case text on standard input; prints the last result and the set */
 #include "wozgrzyt.h"
 

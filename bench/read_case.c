@@ -11,24 +11,30 @@ struct grid {
 };
 
 /* the number in s[a..e), or -1 where its form is wrong */
-static long number(const unsigned char *s, size_t a, size_t e) {
-    if (a == e || e - a > 4 || (e - a > 1 && s[a] == '0')) return -1;
+static long number(const unsigned char *s, size_t a, size_t e)
+{
+    if (a == e || e - a > 4 || (e - a > 1 && s[a] == '0'))
+        return -1;
     long v = 0;
     for (; a < e; a++) {
-        if (s[a] < '0' || s[a] > '9') return -1;
+        if (s[a] < '0' || s[a] > '9')
+            return -1;
         v = v * 10 + (s[a] - '0');
     }
     return v;
 }
 
-static int is(const unsigned char *s, size_t a, size_t e, const char *w) {
+static int is(const unsigned char *s, size_t a, size_t e, const char *w)
+{
     size_t k = strlen(w);
     return e - a == k && memcmp(s + a, w, k) == 0;
 }
 
-static unsigned long read_case(const unsigned char *s, size_t len, struct grid *g) {
+static unsigned long read_case(const unsigned char *s, size_t len, struct grid *g)
+{
     memset(g, 0, sizeof *g);
-    if (len > 8192) return 1;
+    if (len > 8192)
+        return 1;
     size_t at = 0, line = 1, buses = 0, lines = 0;
     long la = 0, lb = 0, unit = 0;
     for (;; line++) {
@@ -36,43 +42,56 @@ static unsigned long read_case(const unsigned char *s, size_t len, struct grid *
         f[k++] = at;
         while (e < len && s[e] != '\n') {
             if (s[e] == '\t') {
-                if (k == 5) k = 4; /* one field too many for any record */
+                if (k == 5)
+                    k = 4; /* one field too many for any record */
                 f[k++] = e + 1;
             }
             e++;
         }
-        if (e == len) return line * 100 + 2;
+        if (e == len)
+            return line * 100 + 2;
         f[k] = e + 1;
 #define FROM(i) f[i]
 #define TO(i) (f[(i) + 1] - 1)
         int past = g->n > 0 && buses == g->n;
         if (is(s, FROM(0), TO(0), "grid") && k == 2) {
             long v = number(s, FROM(1), TO(1));
-            if (v < 0 || g->n > 0) return line * 100 + 2;
-            if (v < 1 || v > 64) return line * 100 + 3;
+            if (v < 0 || g->n > 0)
+                return line * 100 + 2;
+            if (v < 1 || v > 64)
+                return line * 100 + 3;
             g->n = (size_t)v;
         } else if (is(s, FROM(0), TO(0), "bus") && k == 4) {
             long v = number(s, FROM(1), TO(1));
             int z = is(s, FROM(2), TO(2), "Z"), y = is(s, FROM(3), TO(3), "Y");
-            if (v < 0 || !(z || is(s, FROM(2), TO(2), "I")) || !(y || is(s, FROM(3), TO(3), "N")) || buses >= g->n) return line * 100 + 2;
-            if (v < 1 || (size_t)v > g->n) return line * 100 + 3;
-            if ((size_t)v != buses + 1) return line * 100 + 4;
+            if (v < 0 || !(z || is(s, FROM(2), TO(2), "I")) || !(y || is(s, FROM(3), TO(3), "N")) || buses >= g->n)
+                return line * 100 + 2;
+            if (v < 1 || (size_t)v > g->n)
+                return line * 100 + 3;
+            if ((size_t)v != buses + 1)
+                return line * 100 + 4;
             g->zero |= (uint64_t)z << (v - 1);
             g->site |= (uint64_t)y << (v - 1);
             buses++;
         } else if (is(s, FROM(0), TO(0), "line") && k == 3) {
             long a = number(s, FROM(1), TO(1)), b = number(s, FROM(2), TO(2));
-            if (a < 0 || b < 0 || !past || unit > 0) return line * 100 + 2;
-            if (a < 1 || (size_t)a > g->n || b < 1 || (size_t)b > g->n || lines == 256) return line * 100 + 3;
-            if (a >= b || a < la || (a == la && b <= lb)) return line * 100 + 4;
+            if (a < 0 || b < 0 || !past || unit > 0)
+                return line * 100 + 2;
+            if (a < 1 || (size_t)a > g->n || b < 1 || (size_t)b > g->n || lines == 256)
+                return line * 100 + 3;
+            if (a >= b || a < la || (a == la && b <= lb))
+                return line * 100 + 4;
             la = a, lb = b, lines++;
             g->nbr[a - 1] |= (uint64_t)1 << (b - 1);
             g->nbr[b - 1] |= (uint64_t)1 << (a - 1);
         } else if (is(s, FROM(0), TO(0), "pmu") && k == 2) {
             long v = number(s, FROM(1), TO(1));
-            if (v < 0 || !past) return line * 100 + 2;
-            if (v < 1 || (size_t)v > g->n) return line * 100 + 3;
-            if (v <= unit) return line * 100 + 4;
+            if (v < 0 || !past)
+                return line * 100 + 2;
+            if (v < 1 || (size_t)v > g->n)
+                return line * 100 + 3;
+            if (v <= unit)
+                return line * 100 + 4;
             unit = v;
             g->units |= (uint64_t)1 << (v - 1);
         } else if (is(s, FROM(0), TO(0), "end") && k == 1 && past) {
@@ -84,11 +103,14 @@ static unsigned long read_case(const unsigned char *s, size_t len, struct grid *
     }
 }
 
-int main(int argc, char **argv) {
+int main(int argc, char **argv)
+{
     static unsigned char text[16384];
-    if (argc != 3) return 2;
+    if (argc != 3)
+        return 2;
     FILE *f = fopen(argv[1], "rb");
-    if (!f) return 2;
+    if (!f)
+        return 2;
     size_t len = fread(text, 1, sizeof text, f);
     fclose(f);
     struct grid g;

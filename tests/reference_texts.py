@@ -4,6 +4,7 @@
 usage: tests/reference_texts.py data DIR      writes the texts that the program reads into DIR
        tests/reference_texts.py answers DIR   prints what the program must print for them
 """
+import functools
 import random
 import sys
 
@@ -15,6 +16,7 @@ class No(Exception):
     """A refusal: its number and its line."""
 
 
+@functools.lru_cache(maxsize=None)
 def number(field):
     """1 to 4 digits, no leading zero except 0 itself; None where the form is wrong."""
     if not 1 <= len(field) <= 4 or any(not 48 <= c <= 57 for c in field):
@@ -30,6 +32,7 @@ def split_lines(text):
     return pieces[:-1], pieces[-1]
 
 
+@functools.lru_cache(maxsize=None)
 def case_record(line):
     """The fields of a record of a case text, or None where its form is wrong."""
     fields = line.split(b"\t")

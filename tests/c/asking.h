@@ -7,7 +7,7 @@
 
 enum call { OBSERVED, UNCONFIRMED, FEWEST, REPLAY, CALL_COUNT };
 
-/* Where a call has no step text or budget, what stands there is not used. */
+/* A field that a call does not take is not used. */
 struct question {
     enum call call;
     const uint8_t *case_text;

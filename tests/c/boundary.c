@@ -20,5 +20,6 @@ int main(int argc, char **argv)
     check_step_readings();
     check_memory();
     check_threads();
+    check_stack();
     return end_of_checks();
 }

@@ -1,8 +1,8 @@
-/* The parts of the boundary's test, and the grids that they share. A grid stands here without its units and without `end`. */
+/* The parts of the boundary's test, and the grids that they share. A grid is given without its units and `end`. */
 #ifndef BOUNDARY_H
 #define BOUNDARY_H
 
-/* Document 01's seven buses: `grid` on line 1, the buses on 2 to 8, the lines on 9 to 14; what is added starts on line 15. */
+/* Document 01's seven buses: `grid` on line 1, buses on 2 to 8, lines on 9 to 14. What is added starts on line 15. */
 #define SEVEN_BUSES \
     "grid\t7\n"     \
     "bus\t1\tI\tY\nbus\t2\tZ\tY\nbus\t3\tZ\tY\nbus\t4\tI\tY\nbus\t5\tZ\tY\nbus\t6\tI\tY\nbus\t7\tI\tY\n"
@@ -18,5 +18,6 @@ void check_case_readings(void);
 void check_step_readings(void);
 void check_memory(void);
 void check_threads(void);
+void check_stack(void);
 
 #endif

@@ -61,22 +61,24 @@ static void check_fewest(void)
 
 static void check_replay(void)
 {
-    expect_set("the derivation",
-               ask_replay(SEVEN_UNIT_3, "step\t2\tN\t3\nstep\t3\tO\nstep\t1\tZ\t2\nstep\t4\tN\t3\nstep\t7\tN\t3\nend\n"),
-               "1 2 3 4 7");
+    expect_set(
+        "the derivation",
+        ask_replay(SEVEN_UNIT_3, "step\t2\tN\t3\nstep\t3\tO\nstep\t1\tZ\t2\nstep\t4\tN\t3\nstep\t7\tN\t3\nend\n"),
+        "1 2 3 4 7");
     expect_refusal("1 by Z 2 first", ask_replay(SEVEN_UNIT_3, "step\t1\tZ\t2\nend\n"), 109);
-    expect_refusal("Z at a bus of class I", ask_replay(SEVEN_UNIT_3, "step\t4\tN\t3\nstep\t3\tO\nstep\t5\tZ\t4\nend\n"), 309);
-    expect_refusal("Z while two neighbours are dark", ask_replay(SEVEN_UNIT_3, "step\t3\tO\nstep\t2\tN\t3\nstep\t4\tZ\t3\nend\n"),
+    expect_refusal("Z at a bus of class I", ask_replay(SEVEN_UNIT_3, "step\t4\tN\t3\nstep\t3\tO\nstep\t5\tZ\t4\nend\n"),
                    309);
+    expect_refusal("Z while two neighbours are dark",
+                   ask_replay(SEVEN_UNIT_3, "step\t3\tO\nstep\t2\tN\t3\nstep\t4\tZ\t3\nend\n"), 309);
     expect_refusal("N of a bus that has no unit", ask_replay(SEVEN_UNIT_3, "step\t2\tN\t1\nend\n"), 109);
     expect_refusal("N of a unit that is not joined", ask_replay(SEVEN_UNIT_3, "step\t1\tN\t3\nend\n"), 109);
-    expect_refusal("O where no unit stands", ask_replay(SEVEN_UNIT_3, "step\t2\tO\nend\n"), 109);
+    expect_refusal("O where no unit is", ask_replay(SEVEN_UNIT_3, "step\t2\tO\nend\n"), 109);
     expect_set("N needs no step for the unit's own bus", ask_replay(SEVEN_UNIT_3, "step\t2\tN\t3\nend\n"), "2");
     expect_set("an unfinished list is an answer", ask_replay(SEVEN_UNIT_3, "step\t3\tO\nend\n"), "3");
     expect_set("the empty list", ask_replay(SEVEN_UNIT_3, "end\n"), "");
     expect_set("N at a bus with its own unit", ask_replay(SEVEN "pmu\t3\npmu\t4\nend\n", "step\t3\tN\t4\nend\n"), "3");
-    expect_set("any order that holds", ask_replay(SEVEN_UNIT_3, "step\t7\tN\t3\nstep\t4\tN\t3\nstep\t2\tN\t3\nstep\t3\tO\nend\n"),
-               "2 3 4 7");
+    expect_set("any order that holds",
+               ask_replay(SEVEN_UNIT_3, "step\t7\tN\t3\nstep\t4\tN\t3\nstep\t2\tN\t3\nstep\t3\tO\nend\n"), "2 3 4 7");
 }
 
 void check_grids(void)

@@ -35,16 +35,17 @@ static void check_null(void)
     struct question no_steps = ask_replay(SEVEN_UNIT_3, "");
     no_steps.step_text = NULL;
     expect_refusal("NULL for the step text", no_steps, 152);
-    struct question questions[] = {ask_observed(SEVEN_UNIT_3), ask_unconfirmed(SEVEN_UNIT_3), ask_fewest(SEVEN_UNIT_3, 1),
-                                   ask_replay(SEVEN_UNIT_3, "end\n")};
+    struct question questions[] = {ask_observed(SEVEN_UNIT_3), ask_unconfirmed(SEVEN_UNIT_3),
+                                   ask_fewest(SEVEN_UNIT_3, 1), ask_replay(SEVEN_UNIT_3, "end\n")};
     for (int call = 0; call < CALL_COUNT; call++)
         check(library_reply(&questions[call], NULL, 0) == 6, "NULL for the set of a good question");
 }
 
 static void check_budgets(void)
 {
-    static const size_t above[] = {9,          10,         64,          255,         256,          258,          65536,   65538,
-                                   0x80000000, 0xffffffff, 0x100000000, 0x100000002, SIZE_MAX / 2, SIZE_MAX - 1, SIZE_MAX};
+    static const size_t above[] = {9,           10,          64,           255,          256,
+                                   258,         65536,       65538,        0x80000000,   0xffffffff,
+                                   0x100000000, 0x100000002, SIZE_MAX / 2, SIZE_MAX - 1, SIZE_MAX};
     for (size_t i = 0; i < sizeof above / sizeof *above; i++) {
         char name[60];
         snprintf(name, sizeof name, "budget %zu", above[i]);

@@ -127,7 +127,8 @@ static void check_step_limit(void)
 static void check_short_room(void)
 {
     for (size_t i = 0; i < sizeof refused_steps / sizeof *refused_steps; i++)
-        expect_reply(refused_steps[i].name, ask_replay(SEVEN_UNIT_3, refused_steps[i].text), 7, refused_steps[i].result, "");
+        expect_reply(refused_steps[i].name, ask_replay(SEVEN_UNIT_3, refused_steps[i].text), 7, refused_steps[i].result,
+                     "");
 }
 
 void check_step_readings(void)

@@ -1,5 +1,5 @@
-/* Asks the library and document 01 in C the same questions about texts drawn from a fixed seed, and compares the results and every byte
-   in and around the memory lent.
+/* Asks the library and document 01 in C the same questions about texts drawn from a fixed seed. Compares the results
+   and every byte in and around the memory lent.
    usage: compare          all of them
           compare INDEX    one of them, with its texts printed */
 #include "asking.h"
@@ -36,7 +36,8 @@ static const char *index_at_fault(void)
 
 static size_t draw_budget(struct dice *dice)
 {
-    static const size_t above[] = {9, 10, 64, 255, 256, 65536, (size_t)1 << 32, ((size_t)1 << 32) + 3, SIZE_MAX - 1, SIZE_MAX};
+    static const size_t above[] = {
+        9, 10, 64, 255, 256, 65536, (size_t)1 << 32, ((size_t)1 << 32) + 3, SIZE_MAX - 1, SIZE_MAX};
     return percent(dice, 90) ? below(dice, MOST_BUDGET + 1) : above[below(dice, sizeof above / sizeof *above)];
 }
 
@@ -74,8 +75,8 @@ static uint32_t document01_reply(const struct question *q, uint8_t *set, size_t 
 
 static void show(size_t index, const struct drawn *drawn, enum call call, uint32_t library, uint32_t document01)
 {
-    printf("%s, index %zu, budget %zu, %zu bytes lent: the library replies %lu, document 01 %lu%s\n", call_names[call], index,
-           drawn->budget, drawn->set_len, (unsigned long)library, (unsigned long)document01,
+    printf("%s, index %zu, budget %zu, %zu bytes lent: the library replies %lu, document 01 %lu%s\n", call_names[call],
+           index, drawn->budget, drawn->set_len, (unsigned long)library, (unsigned long)document01,
            library == document01 ? ", other bytes" : "");
     print_bytes("case text", drawn->case_text.bytes, drawn->case_text.length);
     if (call == REPLAY)
@@ -131,7 +132,8 @@ static void check_counts(enum call call)
     };
     char name[100];
     for (const unsigned *number = numbers[call]; *number != NUMBERS; number++) {
-        snprintf(name, sizeof name, "%s: only %zu replies with the number %u", call_names[call], counts[call][*number], *number);
+        snprintf(name, sizeof name, "%s: only %zu replies with the number %u", call_names[call], counts[call][*number],
+                 *number);
         check(counts[call][*number] >= LEAST_OF_EACH, name);
     }
 }

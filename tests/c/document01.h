@@ -1,5 +1,5 @@
-/* Document 01 in C, written from its words alone and for plainness: the library and the programs are compared with it. Sets are arrays
- * of truth values, buses count from 1 and are their own index. */
+/* Document 01 in C, written from its words alone and for plainness. The library and the programs are compared with it.
+ * Sets are arrays of truth values; buses count from 1 and are their own index. */
 #ifndef DOCUMENT01_H
 #define DOCUMENT01_H
 
@@ -60,7 +60,8 @@ void add_unit(const struct grid_case *grid, unsigned bus, struct bus_set *observ
 void observe(const struct grid_case *grid, struct bus_set *observed);
 bool reason_holds(const struct grid_case *grid, const struct bus_set *observed, struct step step);
 size_t derive(const struct grid_case *grid, struct step steps[MOST_BUSES]);
-struct refusal replay(const struct grid_case *grid, const struct step *steps, size_t step_count, struct bus_set *observed);
+struct refusal replay(const struct grid_case *grid, const struct step *steps, size_t step_count,
+                      struct bus_set *observed);
 
 /* document01_placing.c */
 void find_unconfirmed(const struct grid_case *grid, struct bus_set *unconfirmed);
@@ -70,11 +71,11 @@ struct refusal place_fewest(const struct grid_case *grid, size_t budget, struct 
 uint32_t document01_observed(const uint8_t *case_text, size_t case_len, uint8_t *set, size_t set_len);
 uint32_t document01_unconfirmed(const uint8_t *case_text, size_t case_len, uint8_t *set, size_t set_len);
 uint32_t document01_fewest(const uint8_t *case_text, size_t case_len, size_t budget, uint8_t *set, size_t set_len);
-uint32_t document01_replay(const uint8_t *case_text, size_t case_len, const uint8_t *step_text, size_t step_len, uint8_t *set,
-                           size_t set_len);
+uint32_t document01_replay(const uint8_t *case_text, size_t case_len, const uint8_t *step_text, size_t step_len,
+                           uint8_t *set, size_t set_len);
 
-/* document01_programs.c: what the two programs print for an input. Each returns the length of what it printed, and gives the refusal's
- * number, or 0. */
+/* document01_programs.c: what the two programs print for an input. Each returns the length of what it printed, and
+ * gives the refusal's number, or 0. */
 size_t print_day_report(const uint8_t *input, size_t length, char printed[MOST_PRINTED], unsigned *number);
 size_t print_plan(const uint8_t *input, size_t length, char printed[MOST_PRINTED], unsigned *number);
 

@@ -55,8 +55,8 @@ uint32_t document01_fewest(const uint8_t *case_text, size_t case_len, size_t bud
     return answer_set(&added, set, set_len);
 }
 
-uint32_t document01_replay(const uint8_t *case_text, size_t case_len, const uint8_t *step_text, size_t step_len, uint8_t *set,
-                           size_t set_len)
+uint32_t document01_replay(const uint8_t *case_text, size_t case_len, const uint8_t *step_text, size_t step_len,
+                           uint8_t *set, size_t set_len)
 {
     struct grid_case grid;
     struct step steps[MOST_STEPS];

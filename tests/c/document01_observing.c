@@ -117,7 +117,8 @@ static unsigned step_refusal(const struct grid_case *grid, const struct bus_set 
     return reason_holds(grid, observed, step) ? 0 : 9;
 }
 
-struct refusal replay(const struct grid_case *grid, const struct step *steps, size_t step_count, struct bus_set *observed)
+struct refusal replay(const struct grid_case *grid, const struct step *steps, size_t step_count,
+                      struct bus_set *observed)
 {
     memset(observed, 0, sizeof *observed);
     for (size_t i = 0; i < step_count; i++) {

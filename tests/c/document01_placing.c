@@ -28,7 +28,7 @@ void find_unconfirmed(const struct grid_case *grid, struct bus_set *unconfirmed)
         unconfirmed->has[bus] = grid->unit[bus] && !is_confirmed(grid, bus);
 }
 
-/* The search adds exactly so many sites, in rising order. */
+/* The search adds exactly a given number of sites, in rising order. */
 struct search {
     const struct grid_case *grid;
     unsigned sites[MOST_BUSES];
@@ -69,8 +69,8 @@ static size_t dark_neighbours(const struct grid_case *grid, const struct bus_set
     return dark;
 }
 
-/* Whether so many more units may be enough, by counting: a unit lights its own bus and its dark neighbours, and each Z bus with a dark
- * neighbour lights one bus at most, once. */
+/* Whether `units` more units may be enough, by counting: a unit lights its own bus and its dark neighbours, and each
+ * Z bus with a dark neighbour lights one bus at most, once. */
 static bool enough_by_counting(const struct search *search, const struct bus_set *observed, size_t from, size_t units)
 {
     const struct grid_case *grid = search->grid;

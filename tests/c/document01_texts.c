@@ -138,7 +138,7 @@ static unsigned take_bus(struct reading *reading, struct grid_case *grid, unsign
     return 0;
 }
 
-/* What stands before a `line`, `pmu` or `end` record: the lines so far, the last line and the last unit; 0 for none. */
+/* What comes before a `line`, `pmu` or `end` record: the lines so far, the last line and the last unit; 0 for none. */
 struct taken {
     size_t lines;
     unsigned last_a, last_b;
@@ -224,7 +224,8 @@ struct refusal read_case_text(const uint8_t *text, size_t length, struct grid_ca
 
 static bool step_form(const struct record *record, struct step *step)
 {
-    if (!record->ended || record->field_count < 3 || !field_is(record, 0, "step") || !field_number(record, 1, &step->bus))
+    if (!record->ended || record->field_count < 3 || !field_is(record, 0, "step") ||
+        !field_number(record, 1, &step->bus))
         return false;
     if (field_is(record, 2, "O")) {
         step->reason = 'O';

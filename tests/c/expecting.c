@@ -33,7 +33,8 @@ static void put_buses(const char *buses, uint8_t set[SET_BYTES])
         set[(bus - 1) / 8] |= (uint8_t)(1u << (bus - 1) % 8);
 }
 
-static bool replies_over(const struct question *question, size_t set_len, uint32_t result, const char *buses, int filling)
+static bool replies_over(const struct question *question, size_t set_len, uint32_t result, const char *buses,
+                         int filling)
 {
     uint8_t lent[GUARD + MOST_LENT + GUARD], expected[sizeof lent];
     for (size_t i = 0; i < sizeof lent; i++)
@@ -50,8 +51,8 @@ static bool replies(struct question question, size_t set_len, uint32_t result, c
         question.case_text = guard_text(&case_memory, question.case_text, question.case_len);
     if (question.step_text != NULL)
         question.step_text = guard_text(&step_memory, question.step_text, question.step_len);
-    return replies_over(&question, set_len, result, buses, 0x00) && replies_over(&question, set_len, result, buses, 0xff) &&
-           replies_over(&question, set_len, result, buses, -1);
+    return replies_over(&question, set_len, result, buses, 0x00) &&
+           replies_over(&question, set_len, result, buses, 0xff) && replies_over(&question, set_len, result, buses, -1);
 }
 
 void expect_reply(const char *name, struct question question, size_t set_len, uint32_t result, const char *buses)

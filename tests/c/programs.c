@@ -51,6 +51,7 @@ static void draw_plan_input(struct dice *dice, struct text *input)
 static void compare_input(enum program program, size_t index, const struct text *input)
 {
     static const enum feeding feedings[] = {FEED_PIPE, FEED_PIPE, FEED_PIPE, FEED_FILE};
+
     char expected[MOST_PRINTED];
     struct printed printed;
     unsigned number;
@@ -99,8 +100,8 @@ static void check_program(enum program program)
     snprintf(name, sizeof name, "%s: %zu outputs differ", program_names[program], mismatches[program]);
     check(mismatches[program] == 0, name);
     for (const unsigned *number = numbers[program]; *number != NUMBERS; number++) {
-        snprintf(name, sizeof name, "%s: only %zu replies with the number %u", program_names[program], counts[program][*number],
-                 *number);
+        snprintf(name, sizeof name, "%s: only %zu replies with the number %u", program_names[program],
+                 counts[program][*number], *number);
         check(counts[program][*number] >= LEAST_OF_EACH, name);
     }
 }

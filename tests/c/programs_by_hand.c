@@ -7,12 +7,13 @@
 #include <stdio.h>
 #include <string.h>
 
-#define SEVEN_REPORT "observed\t5\t7\nstep\t2\tN\t3\nstep\t3\tO\nstep\t1\tZ\t2\nstep\t4\tN\t3\nstep\t7\tN\t3\nxv\tno\t1\nend\n"
+#define SEVEN_REPORT \
+    "observed\t5\t7\nstep\t2\tN\t3\nstep\t3\tO\nstep\t1\tZ\t2\nstep\t4\tN\t3\nstep\t7\tN\t3\nxv\tno\t1\nend\n"
 #define SEVEN_COVERED SEVEN "pmu\t1\npmu\t4\nend\n"
 #define SEVEN_EMPTY SEVEN "end\n"
 
-static void expect_bytes(const char *name, enum program program, enum feeding feeding, const uint8_t *input, size_t length,
-                         const char *output)
+static void expect_bytes(const char *name, enum program program, enum feeding feeding, const uint8_t *input,
+                         size_t length, const char *output)
 {
     struct printed printed;
     char whole_name[200];
@@ -35,10 +36,10 @@ void check_day_by_hand(void)
     expect_output("no unit", DAY, SEVEN_EMPTY, "observed\t0\t7\nxv\tyes\nend\n");
     expect_output("two units that confirm each other", DAY, TWO "line\t1\t2\npmu\t1\npmu\t2\nend\n",
                   "observed\t2\t2\nstep\t1\tO\nstep\t2\tO\nxv\tyes\nend\n");
-    expect_output(
-        "a later firing frees a lower bus", DAY,
-        "grid\t4\nbus\t1\tI\tY\nbus\t2\tZ\tY\nbus\t3\tZ\tY\nbus\t4\tI\tY\nline\t1\t2\nline\t2\t3\nline\t3\t4\npmu\t4\nend\n",
-        "observed\t4\t4\nstep\t3\tN\t4\nstep\t4\tO\nstep\t2\tZ\t3\nstep\t1\tZ\t2\nxv\tno\t1\nend\n");
+    expect_output("a later firing frees a lower bus", DAY,
+                  "grid\t4\nbus\t1\tI\tY\nbus\t2\tZ\tY\nbus\t3\tZ\tY\nbus\t4\tI\tY\nline\t1\t2\nline\t2\t3\nline\t3\t4"
+                  "\npmu\t4\nend\n",
+                  "observed\t4\t4\nstep\t3\tN\t4\nstep\t4\tO\nstep\t2\tZ\t3\nstep\t1\tZ\t2\nxv\tno\t1\nend\n");
     expect_output("the empty text", DAY, "", "refused\t2\t1\n");
     expect_output("65 buses", DAY, "grid\t65\n", "refused\t3\t1\n");
     expect_output("a line that does not rise", DAY, TWO "line\t1\t2\nline\t1\t2\nend\n", "refused\t4\t5\n");

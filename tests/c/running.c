@@ -106,7 +106,8 @@ static void take_printed(int from, struct printed *printed)
     }
 }
 
-void run_program(enum program program, enum feeding feeding, const uint8_t *input, size_t length, struct printed *printed)
+void run_program(enum program program, enum feeding feeding, const uint8_t *input, size_t length,
+                 struct printed *printed)
 {
     int in[2] = {-1, -1}, out[2], status;
     if (feeding == FEED_FILE)

@@ -29,6 +29,7 @@ extern const char *const program_names[PROGRAM_COUNT];
 /* The paths of the two programs, then the words of an emulator's command, if there is one. */
 void prepare_running(char **words, int count);
 bool is_emulated(void);
-void run_program(enum program program, enum feeding feeding, const uint8_t *input, size_t length, struct printed *printed);
+void run_program(enum program program, enum feeding feeding, const uint8_t *input, size_t length,
+                 struct printed *printed);
 
 #endif

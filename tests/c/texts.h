@@ -21,7 +21,7 @@ void write_case_text(const struct grid_case *grid, struct text *text);
 /* Bars sites until the search for the fewest has few additions to try. */
 void shorten_search(struct dice *dice, struct grid_case *grid, size_t budget);
 
-/* texts_steps.c: a step text for a case: allowed steps, wrong ones, too many, or none. Its records have the right form. */
+/* texts_steps.c: a step text for a case: allowed steps, wrong ones, too many, or none. Each record has a good form. */
 void draw_step_text(struct dice *dice, const struct grid_case *grid, struct text *text);
 
 /* texts_damage.c: one to three damages of any kind. The text may still be valid. */

@@ -172,7 +172,8 @@ void write_case_text(const struct grid_case *grid, struct text *text)
     text->length = 0;
     add_line(text, "grid\t%zu\n", grid->buses);
     for (unsigned bus = 1; bus <= grid->buses; bus++)
-        add_line(text, "bus\t%u\t%c\t%c\n", bus, grid->zero_injection[bus] ? 'Z' : 'I', grid->open_site[bus] ? 'Y' : 'N');
+        add_line(text, "bus\t%u\t%c\t%c\n", bus, grid->zero_injection[bus] ? 'Z' : 'I',
+                 grid->open_site[bus] ? 'Y' : 'N');
     for (unsigned a = 1; a <= grid->buses; a++)
         for (unsigned b = a + 1; b <= grid->buses; b++)
             if (grid->joined[a][b])

@@ -110,9 +110,10 @@ static void move_record(struct dice *dice, struct text *text)
 /* Puts another word, number or letter, good or bad, in the place of a field. */
 static void change_field(struct dice *dice, struct text *text)
 {
-    static const char *const others[] = {"0",     "00", "07", "1",  "2",  "3",   "12",   "13",   "64",  "65",  "99",   "9999",
-                                         "10000", "",   "+1", "-1", "1 ", "0x1", "I",    "Z",    "Y",   "N",   "O",    "K",
-                                         "L",     "i",  "ZZ", "y",  "x",  "bus", "grid", "line", "pmu", "end", "step", "ends"};
+    static const char *const others[] = {"0",  "00", "07",   "1",     "2",    "3",   "12",  "13",   "64",
+                                         "65", "99", "9999", "10000", "",     "+1",  "-1",  "1 ",   "0x1",
+                                         "I",  "Z",  "Y",    "N",     "O",    "K",   "L",   "i",    "ZZ",
+                                         "y",  "x",  "bus",  "grid",  "line", "pmu", "end", "step", "ends"};
     const char *other = others[below(dice, sizeof others / sizeof *others)];
     size_t from, to;
     draw_field(dice, text, &from, &to);
@@ -161,7 +162,7 @@ static size_t count_line_records(const struct text *text, size_t *after)
     return count;
 }
 
-/* One more `line` record after the last: where there are 256, it is one too many, rising or not and in a good form or a bad one. */
+/* One more `line` record after the last, rising or not, in a good form or a bad one. After 256 it is one too many. */
 static void add_line_record(struct dice *dice, struct text *text)
 {
     struct text record = {.length = 0};
@@ -177,7 +178,8 @@ static void insert_record(struct dice *dice, struct text *text)
     static const char *const forms[] = {"line\t%zu\t%zu\n", "pmu\t%zu\n", "bus\t%zu\tI\tY\n",   "grid\t%zu\n", "end\n",
                                         "step\t%zu\tO\n",   "\n",         "step\t%zu\tN\t%zu\n"};
     struct text record = {.length = 0};
-    size_t from, to, kind = below(dice, sizeof forms / sizeof *forms), a = between(dice, 0, 65), b = between(dice, 0, 65);
+    size_t from, to, kind = below(dice, sizeof forms / sizeof *forms), a = between(dice, 0, 65),
+                     b = between(dice, 0, 65);
     draw_line(dice, text, &from, &to);
     add_line(&record, forms[kind], a, b);
     replace(text, from, from, record.bytes, record.length);
@@ -204,7 +206,7 @@ static void pad(struct dice *dice, struct text *text, size_t byte_limit)
 
 void damage_text(struct dice *dice, struct text *text, size_t byte_limit)
 {
-    /* What stands here several times is drawn so much more often. */
+    /* What is here several times is drawn that much more often. */
     static void (*const damages[])(struct dice *, struct text *) = {
         remove_byte,   double_byte,   change_byte,     insert_byte,   cut_text,      double_record,
         drop_record,   move_record,   change_field,    change_field,  change_number, change_number,

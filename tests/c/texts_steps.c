@@ -18,7 +18,8 @@ static struct step draw_step(struct dice *dice, size_t highest_bus)
 }
 
 /* A reason that holds for the bus, looked for from a drawn place on. */
-static bool draw_reason(struct dice *dice, const struct grid_case *grid, const struct bus_set *observed, struct step *step)
+static bool draw_reason(struct dice *dice, const struct grid_case *grid, const struct bus_set *observed,
+                        struct step *step)
 {
     size_t first_reason = below(dice, 3), first_by = below(dice, grid->buses);
     for (size_t i = 0; i < 3; i++) {
@@ -32,7 +33,8 @@ static bool draw_reason(struct dice *dice, const struct grid_case *grid, const s
     return false;
 }
 
-static bool draw_allowed_step(struct dice *dice, const struct grid_case *grid, const struct bus_set *observed, struct step *step)
+static bool draw_allowed_step(struct dice *dice, const struct grid_case *grid, const struct bus_set *observed,
+                              struct step *step)
 {
     size_t first_bus = below(dice, grid->buses);
     for (size_t i = 0; i < grid->buses; i++) {

@@ -9,7 +9,7 @@ use lib.Arith.{digits-mod, digits-div, lt-one}
 use lib.Pow.{field, mod-mod-pow, pow-pos, pow-mono, pow-lt, pow-add, high, ones-split, shr-shr, shr-lt, ones-lt, shl-shr}
 use lib.Bits.{bitAnd, bitOr, and-step, or-step, and-shr, or-shr, and-mask, and-le-l, and-comm}
 use Rattle.busset.specs.Sets.{bit}
-use Rattle.busset.proofs.Tests.{below-or}
+use Rattle.basics.proofs.Tests.{below-or}
 
 -- ---- the lowest digit and the rest
 

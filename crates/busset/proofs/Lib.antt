@@ -1,4 +1,3 @@
-pub mod Tests
 pub mod Digits
 pub mod Sums
 pub mod Sizes

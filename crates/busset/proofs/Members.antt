@@ -5,9 +5,9 @@ use mathlib.Core.Logic.{_⊎_, inl, inr, ⊎-elim}
 use Prim.Native.Nat.{ℕ, zero, suc, _-_, _^_, _≤_, _<_, min}
 use native.Mathlib.Nat.{eq-zero-or-pos, le-antisymm}
 use native.Mathlib.Omega.{arith}
-use Rattle.busset.specs.Deciding.{Decides}
+use Rattle.basics.specs.Deciding.{Decides}
 use Rattle.busset.specs.Sets.{Bus, bit, In, Out, Sub, Within, empty, add, meet, lack, less, upTo, Both, Minus, With, Without, All}
-use Rattle.busset.proofs.Tests.{below-or, same-or, decides-by}
+use Rattle.basics.proofs.Tests.{below-or, same-or, decides-by}
 use Rattle.busset.proofs.Digits.{bit-or, bit-and, bit-less, bit-zero, bit-mod, bit-mod-out, bit-one-same, bit-one-other, ext}
 
 -- ---- cases
@@ -115,11 +115,6 @@ upTo-out n s b l = bit-mod-out (suc n) s b l
 pub upTo-sub : (n s : ℕ) → Sub (upTo n s) s
 upTo-sub n s b =
     ⊎-elim (λ (l : n < b). omega (arith, upTo-out n s b l)) (λ (l : b ≤ n). omega (arith, upTo-in n s b l)) (below-or n b)
-
--- a set with no bus above n is its own part up to n
-pub upTo-whole : (n s : ℕ) → ((b : ℕ) → In s b → b ≤ n) → upTo n s ≡ s
-upTo-whole n s h =
-    sub-antisym (upTo n s) s (upTo-sub n s) (sub-of s (upTo n s) (λ b p. omega (arith, upTo-in n s b (h b p))))
 
 pub both-upTo : {n s a r : ℕ} → All n a → Out s 0 → Both s a r → r ≡ upTo n s
 both-upTo {n} {s} {a} {r} al z h = ext r (upTo n s) (λ b. ⊎-elim (in-it b) (past-it b) (below-or n b))

@@ -7,7 +7,7 @@ use native.Mathlib.Omega.{arith}
 use lib.Pow.{pow-mono}
 use lib.Count.{ones, ones-step, ones-ones}
 use Rattle.busset.specs.Sets.{Bus, bit, In, Out, Sub, Within, empty, add, lack, less, size}
-use Rattle.busset.proofs.Tests.{below-or, same-or}
+use Rattle.basics.proofs.Tests.{below-or, same-or}
 use Rattle.busset.proofs.Digits.{below-pow, bit-in, bit-suc, bit-ones, bit-one-same, bit-one-other, ext}
 use Rattle.busset.proofs.Sums.{sum, sum-le, sum-ap, sum-plus, sum-one, sum-two, sum-single, ones-sum}
 use Rattle.busset.proofs.Members.{out-of, sub-of, lack-at, add-here, add-there, less-here, less-there}

@@ -9,7 +9,7 @@ use lib.Arith.{lt-one}
 use lib.Pow.{pow-pos, shr-lt, split}
 use lib.Count.{ones, ones-cat}
 use Rattle.busset.specs.Sets.{bit}
-use Rattle.busset.proofs.Tests.{below-or}
+use Rattle.basics.proofs.Tests.{below-or}
 use Rattle.busset.proofs.Digits.{bit-mod}
 
 -- the sum of f below k
@@ -45,11 +45,6 @@ sum-two (suc k) f i j l h =
     (λ (l′ : j < k). omega (arith, sum-two k f i j l l′))
     (λ (l′ : k ≤ j). let e : j ≡ k = omega arith in omega (arith, sum-one k f i (omega arith), ap f e))
     (below-or j k)
-
-pub sum-most : (k : ℕ) (f : ℕ → ℕ) → ((i : ℕ) → f i ≤ 1) → sum k f ≤ k
-unfolding sum
-sum-most zero f h = zero-le
-sum-most (suc k) f h = omega (arith, sum-most k f h, h k)
 
 pub sum-none : (k : ℕ) {f : ℕ → ℕ} → ((i : ℕ) → i < k → f i ≡ 0) → sum k f ≡ 0
 unfolding sum

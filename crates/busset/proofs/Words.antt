@@ -9,9 +9,9 @@ use lib.Bits.{bitAnd, bitOr, and-mask}
 use lib.Count.{trailingZeros, under}
 use lib.Dec.{eqb}
 use lib.Pow.{pow-lt, pow-pos, ones-lt}
-use Rattle.busset.specs.Deciding.{Decides}
+use Rattle.basics.specs.Deciding.{Decides}
 use Rattle.busset.specs.Sets.{Bus, bit, In, Out, Sub, empty, size, setOf, Union, Both, Minus, With, Without, Lowest, All}
-use Rattle.busset.proofs.Tests.{decides-eq, decides-by}
+use Rattle.basics.proofs.Tests.{decides-eq, decides-by}
 use Rattle.busset.proofs.Digits.{bit-suc, bit-low, bit-or, bit-and, and-not, bit-in, bit-zero, bit-ones, bit-one-same, bit-one-other, half-lt}
 use Rattle.busset.proofs.Members.{empty-of}
 use Rattle.busset.proofs.Sizes.{one-more, size-double, size-most}

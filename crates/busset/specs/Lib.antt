@@ -1,4 +1,3 @@
-pub mod Deciding
 pub mod Sets
 pub mod Held
 pub mod Bytes

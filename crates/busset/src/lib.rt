@@ -2,8 +2,9 @@
 ghost use mathlib.Core.Path.{_≡_};
 ghost use Prim.Native.Nat.{_≤_, _<_};
 ghost use Rattle.busset.specs.Bytes.{byteOf};
-ghost use Rattle.busset.specs.Deciding.{Decides};
-ghost use Rattle.busset.specs.Sets.{Bus, In, Sub, Within, Union, Both, Minus, With, Without, Lowest, Counted, All, empty, upTo, width, setOf};
+ghost use Rattle.basics.specs.Deciding.{Decides};
+ghost use Rattle.busset.specs.Sets.{Bus, In, Sub, Within, empty, upTo, width, setOf};
+ghost use Rattle.busset.specs.Sets.{Union, Both, Minus, With, Without, Lowest, Counted, All};
 
 pub type BusSet = u64;
 

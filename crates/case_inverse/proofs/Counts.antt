@@ -17,7 +17,7 @@ use Rattle.case_line.specs.declared.Record.{Record}
 use Rattle.case_line.specs.declared.Record.the-variants.{Line}
 use Rattle.rules.specs.Grids.{total, lineCount}
 use Rattle.grid.specs.Cases.{Lines}
-use Rattle.case_read.specs.Writing.{has, members, lineRecords}
+use Rattle.case_line.specs.CaseText.{has, members, lineRecords}
 
 -- ---- one bus more at the top
 

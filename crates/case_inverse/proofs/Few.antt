@@ -7,7 +7,7 @@ use Prim.Native.Nat.{ℕ, suc, zero, _+_, _-_, _*_, _≤_, _<_}
 use native.Mathlib.Omega.{arith}
 use borrow.Author.Tests.{eqb-true}
 use lib.ListN.{length}
-use Rattle.busset.proofs.Tests.{below-or, same-or}
+use Rattle.basics.proofs.Tests.{below-or, same-or}
 use Rattle.grid.specs.Cases.{neighbours}
 use Rattle.case_line.specs.declared.Record.{Record}
 use Rattle.case_line.specs.declared.Record.the-variants.{Grid, Bus, Line, Pmu, End, Wrong}
@@ -15,7 +15,7 @@ use Rattle.case_judge.specs.Judging.{verdict}
 use Rattle.case_read.specs.Reading.{caseOf, Reader, next, start}
 use Rattle.case_inverse.specs.Grammar.{Reads}
 use Rattle.case_inverse.specs.Grammar.Reads.{ends, goes}
-use Rattle.case_read.specs.Writing.{has, members, lineRecords}
+use Rattle.case_line.specs.CaseText.{has, members, lineRecords}
 use Rattle.grid.specs.declared.Case.{Case}
 use Rattle.case_judge.specs.declared.Verdict.the-variants.{Next}
 use Rattle.case_judge.proofs.Judged.{fit-of}

@@ -13,7 +13,7 @@ use Rattle.grid.specs.declared.Case.{Case}
 use Rattle.rules.specs.Grids.{Proper as ProperGrid}
 use Rattle.case_read.specs.Reading.{start, got, readLines, readCase}
 use Rattle.case_inverse.specs.Grammar.{Reads}
-use Rattle.case_read.specs.Writing.{records, caseText, lineRecords}
+use Rattle.case_line.specs.CaseText.{records, caseText, lineRecords}
 use Rattle.case_read.proofs.Lengths.{lines-length, buses-length, members-length}
 use Rattle.case_inverse.proofs.Grammars.{read-reads}
 use Rattle.case_inverse.proofs.Counts.{line-records}

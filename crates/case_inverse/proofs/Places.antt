@@ -11,7 +11,7 @@ use lib.ListN.{length, getD, set, length-set}
 use lib.Seq.{getD-set-same, getD-set-other}
 use Rattle.busset.specs.Sets.{bit, add, setOf, width, Bus as IsBus}
 use Rattle.busset.specs.Held.{hold}
-use Rattle.busset.proofs.Tests.{same-or}
+use Rattle.basics.proofs.Tests.{same-or}
 use Rattle.busset.proofs.Members.{add-here, add-there}
 use Rattle.busset.proofs.Holding.{set-hold, hold-there, if-there}
 use Rattle.text_field.proofs.Tested.{both}

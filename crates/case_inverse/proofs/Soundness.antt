@@ -9,7 +9,7 @@ use lib.ListN.{length, getD}
 use lib.Seq.{ext-getD}
 use Rattle.busset.specs.Sets.{bit, In, Out, Within, setOf, width, Bus as IsBus}
 use Rattle.busset.specs.Held.{hold, holdIf}
-use Rattle.busset.proofs.Tests.{below-or, same-or}
+use Rattle.basics.proofs.Tests.{below-or, same-or}
 use Rattle.busset.proofs.Digits.{ext}
 use Rattle.busset.proofs.Members.{out-of}
 use Rattle.busset.proofs.Words.{set-zero, set-inj}

@@ -9,7 +9,7 @@ use borrow.Author.Tests.{lt-ltb, le-ltb, le-leb, eq-eqb, eqb-true, eqb-false}
 use lib.ListN.{length}
 use Rattle.busset.specs.Sets.{bit, setOf, width, Bus as IsBus}
 use Rattle.busset.specs.Held.{hold, holdIf}
-use Rattle.busset.proofs.Tests.{below-or, same-or}
+use Rattle.basics.proofs.Tests.{below-or, same-or}
 use Rattle.busset.proofs.Holding.{hold-here, if-here}
 use Rattle.grid.specs.Cases.{neighbours}
 use Rattle.case_judge.specs.declared.Place.{Place}
@@ -19,7 +19,7 @@ use Rattle.case_judge.specs.Judging.{isBus, isAfter, pastBuses, verdict}
 use Rattle.case_read.specs.Reading.{caseOf, Reader, next, start}
 use Rattle.case_inverse.specs.Grammar.{Reads}
 use Rattle.case_inverse.specs.Grammar.Reads.{ends, goes}
-use Rattle.case_read.specs.Writing.{has, busRecord, busRecords, members, lineRecords, linesText, records}
+use Rattle.case_line.specs.CaseText.{has, busRecord, busRecords, members, lineRecords, linesText, records}
 use Rattle.grid.specs.declared.Case.{Case}
 use Rattle.case_judge.specs.declared.Verdict.the-variants.{Next}
 use Rattle.case_judge.proofs.Judged.{accept}

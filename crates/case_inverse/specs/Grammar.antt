@@ -13,4 +13,5 @@ use Rattle.case_judge.specs.declared.Verdict.the-variants.{Next, Last}
 -- from where s stands, the text is read as the case c
 pub data Reads : Reader → List ℕ → Case → Type 0 where
   ends : {s : Reader} → verdict (s .place) End ≡ Last → Reads s (recordText End ++ 10 ∷ []) (caseOf s)
-  goes : {s : Reader} (r : Record) {x : List ℕ} {c : Case} → verdict (s .place) r ≡ Next → Reads (next s r) x c → Reads s (recordText r ++ 10 ∷ x) c
+  goes : {s : Reader} (r : Record) {x : List ℕ} {c : Case} → verdict (s .place) r ≡ Next → Reads (next s r) x c
+      → Reads s (recordText r ++ 10 ∷ x) c

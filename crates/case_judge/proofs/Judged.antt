@@ -3,8 +3,10 @@ use mathlib.Core.Path.{_≡_, refl, sym}
 use mathlib.Core.Bool.{Bool, true, false, cond, _&&_}
 use Prim.Native.Nat.{ℕ, _+_, _-_, _≤_, _<_}
 use native.Mathlib.Omega.{arith}
-use borrow.Author.Tests.{eq-eqb, ne-eqb, eqb-true, eqb-false, leb-true, ltb-true}
+use borrow.Author.Tests.{eq-eqb, ne-eqb, eqb-true, eqb-false, leb-true, ltb-true, le-leb}
 use lib.Dec.{eqb, ltb, leb}
+use Rattle.basics.specs.Deciding.{Decides}
+use Rattle.basics.proofs.Tests.{decides-same}
 use Rattle.busset.specs.Sets.{width, Bus as IsBus}
 use Rattle.busset.proofs.Members.{bus-more}
 use Rattle.text_field.proofs.Tested.{both}
@@ -74,6 +76,12 @@ module _ (s : Place) (r : Record) where
 pub inside : (n k : ℕ) → isBus n k ≡ true → IsBus n k
 unfolding isBus
 inside n k e = let p = both (leb 1 k) (leb k n) e in record { some = leb-true 1 k (p .0); most = leb-true k n (p .1) }
+
+-- what decides whether k is a bus number is the test isBus
+pub is-bus-by : {n k : ℕ} {r : Bool} → Decides (IsBus n k) r → r ≡ isBus n k
+unfolding isBus
+is-bus-by {n} {k} d =
+    decides-same d (record { yes = inside n k; no = λ b. rw (le-leb 1 k (b .some), le-leb k n (b .most)) })
 
 pub bounded : (n k : ℕ) → n ≤ mostBuses → isBus n k ≡ true → IsBus width k
 bounded n k h e = bus-more (inside n k e) h

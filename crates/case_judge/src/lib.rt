@@ -3,7 +3,9 @@ ghost use mathlib.Core.Path.{_≡_};
 ghost use mathlib.Core.Bool.{_&&_};
 ghost use Prim.Native.Nat.{_+_};
 ghost use lib.Dec.{eqb, ltb};
-ghost use Rattle.case_judge.specs.Judging.{isBus, isAfter, pastBuses, inPlace, inRange, inOrder, accepted, verdict, nextPlace, Fit};
+ghost use Rattle.case_judge.specs.Judging.{isAfter, pastBuses, inPlace, inRange, inOrder};
+ghost use Rattle.case_judge.specs.Judging.{accepted, verdict, nextPlace, Fit};
+use busset::is_bus;
 use case_line::Record;
 
 // The last bus, line and unit read of a grid of n buses, and how many lines.
@@ -23,13 +25,6 @@ pub enum Verdict {
     Form,
     Range,
     Order,
-}
-
-// Whether k is a number from 1 to n.
-pub fn is_bus(n: usize, k: usize) -> bool
-    ensures { λ r. ⌜ r ≡ isBus n k ⌝ }
-{
-    1 <= k && k <= n
 }
 
 // Whether line c d stands after line a b.

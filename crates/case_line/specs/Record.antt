@@ -1,4 +1,4 @@
--- A line of a case text, read as a record: `grid n`, `bus number class site`, `line a b`, `pmu number` or `end`, with fields parted by one tab.
+-- A line of a case text, read as a record: `grid n`, `bus number class site`, `line a b`, `pmu number` or `end`, one tab between fields.
 use mathlib.Core.Bool.{Bool, cond}
 use mathlib.Core.List.{List, [], _∷_}
 use Prim.Native.Nat.{ℕ, _<_}
@@ -10,7 +10,8 @@ use Rattle.case_line.specs.Fields.{letterZ, letterI, letterY, letterN, c
 use Rattle.case_line.specs.declared.Record.{Record}
 use Rattle.case_line.specs.declared.Record.the-variants.{Grid, Bus, Line, Pmu, End, Wrong}
 use Rattle.case_line.specs.declared.Word.{Word}
-use Rattle.case_line.specs.declared.Word.the-variants.{Grid as GridWord, Bus as BusWord, Line as LineWord, Pmu as PmuWord, End as EndWord, Other}
+use Rattle.case_line.specs.declared.Word.the-variants.{Grid as GridWord, Bus as BusWord, Line as LineWord}
+use Rattle.case_line.specs.declared.Word.the-variants.{Pmu as PmuWord, End as EndWord, Other}
 use Rattle.case_line.specs.declared.Mark.{Mark}
 use Rattle.case_line.specs.declared.Mark.the-variants.{Is as Letter, Neither}
 

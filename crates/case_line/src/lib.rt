@@ -2,7 +2,8 @@
 ghost use mathlib.Core.Path.{_≡_};
 ghost use Rattle.text_field.specs.Split.{after};
 ghost use Rattle.case_line.specs.Fields.{markOf, oneNumber, oneSite};
-ghost use Rattle.case_line.specs.Record.{wordOf, gridOf, busOf, lineOf, pmuOf, busFields, lineFields, noFields, recordOf};
+ghost use Rattle.case_line.specs.Record.{wordOf, gridOf, busOf, lineOf, pmuOf};
+ghost use Rattle.case_line.specs.Record.{busFields, lineFields, noFields, recordOf};
 use text_field::Numeral;
 
 // A record of a case text; `zero` says class Z, `site` says site Y.

@@ -8,7 +8,7 @@ use lib.ListN.{length, length-append}
 use Rattle.case_line.specs.declared.Record.{Record}
 use Rattle.case_line.specs.declared.Record.the-variants.{Line}
 use Rattle.case_line.proofs.Lengths.{record-length}
-use Rattle.case_read.specs.Writing.{has, busRecords, members, lineRecords, linesText}
+use Rattle.case_line.specs.CaseText.{has, busRecords, members, lineRecords, linesText}
 
 pub lines-length : (rs : List Record) → length (linesText rs) ≤ 15 * length rs
 unfolding linesText

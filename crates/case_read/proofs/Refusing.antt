@@ -67,8 +67,5 @@ case-placed text = go (ltb mostBytes (length text)) refl
 placed : (m : ℕ) {a : ReadAnswer} (q : Refusal) → PlacedBy m a → a ≡ Refused q → placeOf q ≤ m
 placed m q p e = subst (PlacedBy m) e p
 
-pub text-place : (k : ℕ) (text : List ℕ) (q : Refusal) → readText k text .answer ≡ Refused q → placeOf q ≤ k + length text
-text-place k text q e = placed (k + length text) q (text-placed (k + length text) k text (omega arith)) e
-
 pub read-place : (text : List ℕ) (q : Refusal) → readCase text .answer ≡ Refused q → placeOf q ≤ 1 + mostBytes
 read-place text q e = placed (1 + mostBytes) q (case-placed text) e

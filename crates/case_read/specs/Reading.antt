@@ -3,7 +3,7 @@ use mathlib.Core.Bool.{cond}
 use mathlib.Core.List.{List, [], _∷_}
 use Prim.Native.Nat.{ℕ, _+_}
 use lib.Dec.{ltb}
-use lib.ListN.{length}
+use lib.ListN.{length, drop}
 use Rattle.text_field.specs.Split.{split, lineFeed}
 use Rattle.case_line.specs.Record.{recordOf}
 use Rattle.case_line.specs.declared.Record.{Record}
@@ -51,6 +51,10 @@ abbrev pub closed : Case → ℕ → List ℕ → List (List ℕ) → CaseRead
 closed c k [] [] = got c
 closed c k [] (m ∷ ms) = refused (WrongForm k)
 closed c k (b ∷ l) ms = refused (WrongForm k)
+
+-- what is read where the line feed of `end` is at index e, and line k would follow
+abbrev pub closedAfter : Reader → ℕ → List ℕ → ℕ → CaseRead
+closedAfter s k text e = closed (caseOf s) k (split lineFeed (drop (e + 1) text) .first) (split lineFeed (drop (e + 1) text) .rest)
 
 -- what is said of line k
 abbrev pub said : Verdict → ℕ → CaseRead → CaseRead → CaseRead

@@ -1,10 +1,9 @@
 // The case text, line after line.
 ghost use mathlib.Core.Path.{_≡_};
-ghost use Prim.Native.Nat.{_+_, _<_, _≤_};
+ghost use Prim.Native.Nat.{_<_, _≤_};
 ghost use lib.ListN.{length, drop};
-ghost use Rattle.text_field.specs.Split.{split};
 ghost use Rattle.grid.specs.Cases.{mostBytes};
-ghost use Rattle.case_read.specs.Reading.{caseOf, refused, closed, readText, readCase};
+ghost use Rattle.case_read.specs.Reading.{refused, closedAfter, readText, readCase};
 use busset::BusSet;
 use case_build::Marks;
 use case_judge::Place;
@@ -44,7 +43,8 @@ pub fn refusal(r: Refusal) -> CaseRead
 // What was read, where the line feed of `end` stands at e and line k would follow.
 fn at_end(text: &[u8], e: usize, s: Place, rows: &[BusSet; 64], m: Marks, k: usize) -> CaseRead
     requires { ⌜ e < length (now text) ⌝ }
-    ensures { λ r. ⌜ r ≡ closed (caseOf (record { place = s; rows = now (rows .entry); marks = m })) k (split 10 (drop (e + 1) (now (text .entry))) .first) (split 10 (drop (e + 1) (now (text .entry))) .rest) ⌝ }
+    ensures { λ r. ⌜ r ≡ closedAfter (record { place = s; rows = now (rows .entry); marks = m })
+        k (now (text .entry)) e ⌝ }
 {
     if e + 1 < text.len() {
         return refusal(Refusal::WrongForm(k));

@@ -6,14 +6,14 @@ use Prim.Native.Nat.{ℕ, suc, _+_, _-_, _*_, _≤_, _<_}
 use native.Mathlib.Omega.{arith}
 use borrow.Author.Tests.{eq-eqb, ne-eqb}
 use lib.ListN.{length, length-append}
-use Rattle.busset.specs.Deciding.{Decides}
+use Rattle.basics.specs.Deciding.{Decides}
 use Rattle.busset.specs.Sets.{bit, In}
-use Rattle.busset.proofs.Tests.{refutes}
+use Rattle.basics.proofs.Tests.{refutes}
 use Rattle.case_line.specs.Record.{recordText}
 use Rattle.case_line.specs.declared.Record.{Record}
 use Rattle.case_line.specs.declared.Record.the-variants.{Line}
 use Rattle.case_line.proofs.Lengths.{record-length}
-use Rattle.case_read.specs.Writing.{has, busRecord, busRecords, members, lineRecords, linesText}
+use Rattle.case_line.specs.CaseText.{has, busRecord, busRecords, members, lineRecords, linesText}
 use Rattle.case_read.proofs.Lengths.{lines-length, members-length}
 use Rattle.text_put.specs.Put.{Put}
 use Rattle.case_write.specs.Lines.{lineText}

@@ -8,7 +8,7 @@ ghost use Rattle.case_line.specs.Record.{Formed};
 ghost use Rattle.case_line.specs.declared.Record.the-variants.{Line, Pmu};
 ghost use Rattle.grid.specs.Cases.{neighbours};
 ghost use lib.ListN.{length};
-ghost use Rattle.case_read.specs.Writing.{busRecord, busRecords, members, lineRecords, linesText, caseText};
+ghost use Rattle.case_line.specs.CaseText.{busRecord, busRecords, members, lineRecords, linesText, caseText};
 ghost use Rattle.text_put.specs.Put.{Put};
 ghost use Rattle.case_write.specs.Lines.{lineText};
 use busset::BusSet;
@@ -29,7 +29,9 @@ fn put_if(out: &mut [u8], at: usize, t: bool, r: Record) -> usize
 // The record of bus b.
 fn put_bus(out: &mut [u8], at: usize, zero: BusSet, site: BusSet, b: usize) -> usize
     requires { ⌜ (at < 2 ^ 29) × Bus width b ⌝ }
-    ensures { λ k. ⌜ Put (now (out .entry)) at (lineText (busRecord (setOf zero) (setOf site) b)) (now (out .exit)) k ⌝ }
+    ensures { λ k. ⌜ Put (now (out .entry)) at
+        (lineText (busRecord (setOf zero) (setOf site) b))
+        (now (out .exit)) k ⌝ }
 {
     let r = Record::Bus {
         number: b,
@@ -42,7 +44,9 @@ fn put_bus(out: &mut [u8], at: usize, zero: BusSet, site: BusSet, b: usize) -> u
 // The records of the buses 1 to n.
 fn put_buses(out: &mut [u8], at: usize, n: usize, zero: BusSet, site: BusSet) -> usize
     requires { ⌜ (at < 2 ^ 20) × (n ≤ width) ⌝ }
-    ensures { λ k. ⌜ Put (now (out .entry)) at (linesText (busRecords (setOf zero) (setOf site) 1 n)) (now (out .exit)) k ⌝ }
+    ensures { λ k. ⌜ Put (now (out .entry)) at
+        (linesText (busRecords (setOf zero) (setOf site) 1 n))
+        (now (out .exit)) k ⌝ }
 {
     let mut k = at;
     for b in 1..n + 1 {
@@ -54,7 +58,9 @@ fn put_buses(out: &mut [u8], at: usize, n: usize, zero: BusSet, site: BusSet) ->
 // The lines of bus a to the buses above it.
 fn put_row(out: &mut [u8], at: usize, n: usize, row: BusSet, a: usize) -> usize
     requires { ⌜ (at < 2 ^ 20) × (n ≤ width) × Bus n a ⌝ }
-    ensures { λ k. ⌜ Put (now (out .entry)) at (linesText (members (Line a) (setOf row) (a + 1) (n - a))) (now (out .exit)) k ⌝ }
+    ensures { λ k. ⌜ Put (now (out .entry)) at
+        (linesText (members (Line a) (setOf row) (a + 1) (n - a)))
+        (now (out .exit)) k ⌝ }
 {
     let mut k = at;
     for b in a + 1..n + 1 {
@@ -66,7 +72,9 @@ fn put_row(out: &mut [u8], at: usize, n: usize, row: BusSet, a: usize) -> usize
 // The lines of the buses 1 to n, each at its lower bus.
 fn put_lines(out: &mut [u8], at: usize, n: usize, nbr: &[BusSet; 64]) -> usize
     requires { ⌜ (at < 2 ^ 15) × (n ≤ width) ⌝ }
-    ensures { λ k. ⌜ Put (now (out .entry)) at (linesText (lineRecords (neighbours (now (nbr .entry))) 1 n)) (now (out .exit)) k ⌝ }
+    ensures { λ k. ⌜ Put (now (out .entry)) at
+        (linesText (lineRecords (neighbours (now (nbr .entry))) 1 n))
+        (now (out .exit)) k ⌝ }
 {
     let mut k = at;
     for a in 1..n + 1 {

@@ -15,8 +15,8 @@ use Rattle.ending.specs.declared.Replayed.{Replayed}
 use Rattle.ending.specs.declared.Replayed.the-variants as replayed
 use Rattle.ending.specs.declared.Wove.{Wove}
 use Rattle.ending.specs.declared.Wove.the-variants as wove
-use Rattle.text_put.specs.declared.Written.{Written}
-use Rattle.text_put.specs.declared.Written.the-variants as written
+use Rattle.refusals.specs.declared.Written.{Written}
+use Rattle.refusals.specs.declared.Written.the-variants as written
 use Rattle.observe_calls.specs.declared.Observed.{Observed}
 use Rattle.observe_calls.specs.declared.Observed.the-variants as observed
 use Rattle.observe_calls.specs.declared.Figured.{Figured}
@@ -43,21 +43,25 @@ use Rattle.demands.proofs.Turns.{replay-ordered, weave-ordered}
 -- ---- the grid
 
 pub observed-set : (c : Case) (r : Observed) → ObservedReply c r → NothingLent (observedChecks c) observed.Refused r
-observed-set c = reply-meets (ObservedReply c) (observedChecks c) observed.Refused tt (λ q p. (p, refl)) cases
+observed-set c = reply-meets (ObservedReply c) (observedChecks c) observed.Refused refl (λ q p. (p, refl)) cases
   where
     cases : (r : Observed) → ObservedReply c r → Passed (observedChecks c) ⊎ ((q : Refusal) × (r ≡ observed.Refused q))
     cases (observed.Set s) p = inl (p .0)
     cases (observed.Refused q) p = inr (q, refl)
 
 pub firing-figure : (c : Case) (s i j : ℕ) (r : Figured) → FigureReply c s i j r → NothingLent (figureChecks c i j) figured.Refused r
-firing-figure c s i j = reply-meets (FigureReply c s i j) (figureChecks c i j) figured.Refused (inl (lit< tt), (inl (lit< tt), tt)) (λ q p. (p, refl)) cases
+firing-figure c s i j =
+    reply-meets (FigureReply c s i j) (figureChecks c i j) figured.Refused
+    (refl, inl (lit< tt), (refl, inl (lit< tt), refl)) (λ q p. (p, refl)) cases
   where
     cases : (r : Figured) → FigureReply c s i j r → Passed (figureChecks c i j) ⊎ ((q : Refusal) × (r ≡ figured.Refused q))
     cases (figured.Figure z) p = inl (p .0)
     cases (figured.Refused q) p = inr (q, refl)
 
 pub test-step : (c : Case) (s : ℕ) (x : Step) (r : Tested) → StepReply c s x r → NothingLent (stepChecks c s x) tested.Refused r
-test-step c s x = reply-meets (StepReply c s x) (stepChecks c s x) tested.Refused (inl (lit< tt), (inr (refl, inr (refl, lit< tt)), (inr (refl, inr (refl, lit< tt)), tt))) (λ q p. (p, refl)) cases
+test-step c s x =
+    reply-meets (StepReply c s x) (stepChecks c s x) tested.Refused
+    (refl, inl (lit< tt), (refl, inr (refl, inr (refl, lit< tt)), (refl, inr (refl, inr (refl, lit< tt)), refl))) (λ q p. (p, refl)) cases
   where
     cases : (r : Tested) → StepReply c s x r → Passed (stepChecks c s x) ⊎ ((q : Refusal) × (r ≡ tested.Refused q))
     cases tested.Allowed p = inl p
@@ -66,7 +70,8 @@ test-step c s x = reply-meets (StepReply c s x) (stepChecks c s x) tested.Refuse
 -- ---- lists of steps
 
 pub derivation : (c : Case) (r : Derived) → DerivationReply c r → NothingLent (derivationChecks c) noDerivation r
-derivation c = reply-meets (DerivationReply c) (derivationChecks c) noDerivation tt (λ q p. (p .0, refl)) (λ r p. by-answer (r .answer) (r .list) p)
+derivation c =
+    reply-meets (DerivationReply c) (derivationChecks c) noDerivation refl (λ q p. (p .0, refl)) (λ r p. by-answer (r .answer) (r .list) p)
   where
     by-answer : (a : DerivationAnswer) (l : StepList) → DerivationAt c l a → Passed (derivationChecks c) ⊎ ((q : Refusal) × (_≡_ {A = Derived} (record { answer = a; list = l }) (noDerivation q)))
     by-answer derived.Found l p = inl (p .0)
@@ -89,21 +94,25 @@ weave c xs before after = reply-meets (WeaveReply c xs before after) (weaveCheck
 -- ---- placing units
 
 pub cross-validate : (c : Case) (r : Verdict) → VerdictReply c r → NothingLent (verdictChecks c) verdict.Refused r
-cross-validate c = reply-meets (VerdictReply c) (verdictChecks c) verdict.Refused tt (λ q p. (p, refl)) cases
+cross-validate c = reply-meets (VerdictReply c) (verdictChecks c) verdict.Refused refl (λ q p. (p, refl)) cases
   where
     cases : (r : Verdict) → VerdictReply c r → Passed (verdictChecks c) ⊎ ((q : Refusal) × (r ≡ verdict.Refused q))
     cases (verdict.Unconfirmed s) p = inl (p .0)
     cases (verdict.Refused q) p = inr (q, refl)
 
 pub place-greedy : (c : Case) (budget : ℕ) (entry exit : List ℕ) (r : Greedy) → GreedyReply c budget entry exit r → ByTable (greedyChecks c budget entry) (Refuses greedy.Refused r) entry exit
-place-greedy c budget entry exit = reply-meets (GreedyReply c budget entry exit) (greedyChecks c budget entry) greedy.Refused (inl (lit< tt), (inl (lit< tt), tt)) (λ q p. p) cases
+place-greedy c budget entry exit =
+    reply-meets (GreedyReply c budget entry exit) (greedyChecks c budget entry) greedy.Refused
+    (refl, inl (lit< tt), (refl, inl (lit< tt), refl)) (λ q p. p) cases
   where
     cases : (r : Greedy) → GreedyReply c budget entry exit r → Passed (greedyChecks c budget entry) ⊎ ((q : Refusal) × (r ≡ greedy.Refused q))
     cases (greedy.Added k) p = inl (p .0)
     cases (greedy.Refused q) p = inr (q, refl)
 
 pub place-fewest : (c : Case) (budget : ℕ) (r : Fewest) → FewestReply c budget r → NothingLent (fewestChecks c budget) fewest.Refused r
-place-fewest c budget = reply-meets (FewestReply c budget) (fewestChecks c budget) fewest.Refused (inl (lit< tt), (inl (lit< tt), tt)) (λ q p. (p, refl)) cases
+place-fewest c budget =
+    reply-meets (FewestReply c budget) (fewestChecks c budget) fewest.Refused
+    (refl, inl (lit< tt), (refl, inl (lit< tt), refl)) (λ q p. (p, refl)) cases
   where
     cases : (r : Fewest) → FewestReply c budget r → Passed (fewestChecks c budget) ⊎ ((q : Refusal) × (r ≡ fewest.Refused q))
     cases (fewest.Sites s) p = inl (p .0)
@@ -112,7 +121,9 @@ place-fewest c budget = reply-meets (FewestReply c budget) (fewestChecks c budge
 -- ---- a case text written
 
 pub write-case : (c : Case) (lent left : List ℕ) (r : Written) → CaseWrittenReply c lent r left → ByTable (writeChecks c lent) (Refuses written.Refused r) lent left
-write-case c lent left = reply-meets (λ r. CaseWrittenReply c lent r left) (writeChecks c lent) written.Refused (inl (lit< tt), tt) (λ q p. p) cases
+write-case c lent left =
+    reply-meets (λ r. CaseWrittenReply c lent r left) (writeChecks c lent) written.Refused
+    (refl, inl (lit< tt), refl) (λ q p. p) cases
   where
     cases : (r : Written) → CaseWrittenReply c lent r left → Passed (writeChecks c lent) ⊎ ((q : Refusal) × (r ≡ written.Refused q))
     cases (written.Bytes k) p = inl (p .0)

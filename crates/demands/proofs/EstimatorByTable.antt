@@ -36,7 +36,7 @@ use Rattle.demands.specs.TextChecks.{caseChecks, stepTextChecks, withFif
 use Rattle.demands.specs.ByTable as asked
 use Rattle.demands.specs.ByTable.{Coded, TextRefuses, ByTable}
 use Rattle.demands.proofs.Firsts.{failed-first, Ends, met, ends-later, ends-sooner}
-use Rattle.demands.proofs.Turns.{TurnsBy, Follows, then-ordered, then-turn, turn-more, then-follows, replay-turn}
+use Rattle.demands.proofs.Turns.{TurnsBy, Follows, later-follows, then-ordered, then-turn, turn-more, then-follows, replay-turn}
 use Rattle.demands.proofs.TextTurns.{case-ordered, case-turn, fifty-text-turn}
 use Rattle.demands.proofs.Judging.{SaidBy, good, bad}
 use Rattle.demands.proofs.CaseTexts.{IsCase, case-judged}
@@ -124,7 +124,7 @@ answered text P checks fits inner lent left r p =
     order =
         let f = fits (readCase text .case) in
         then-ordered 1 (caseChecks text) (own ++ roomForSet lent) (case-ordered text) (case-turn text)
-        (then-follows 8 1 own (roomForSet lent) (f .0) (f .1) (lit≤ tt) (tt, λ q h. (inl (omega (arith, h)), tt)))
+        (then-follows 8 1 own (roomForSet lent) (f .0) (f .1) (lit≤ tt) (later-follows 8 (roomForSet lent) (lit≤ tt) (lit< tt) refl))
 
 -- ---- the four
 
@@ -141,7 +141,8 @@ observed-ends c = said (ObservedReply c) ofObserved (observedChecks c) go
     go (observed.Refused q) h = refused-ends (observedChecks c) q h
 
 pub wz-observed : (text lent left : List ℕ) (r : ℕ) → Answered (OfText text ObservedFor) lent left r → ByTable (estimatorChecks text observedChecks lent) (Coded r) lent left
-wz-observed text = answered text ObservedFor observedChecks (λ c. ((tt, λ q h. (inl (omega (arith, h)), tt)), (lit≤ tt, tt))) observed-ends
+wz-observed text =
+    answered text ObservedFor observedChecks (λ c. (later-follows 1 (observedChecks c) (lit≤ tt) (lit< tt) refl, (lit≤ tt, tt))) observed-ends
 
 unconfirmed-ends : (c : Case) (a : Answer) → UnconfirmedFor c a → Ends (verdictChecks c) (AnswerRefuses a)
 unconfirmed-ends c = said (VerdictReply c) ofVerdict (verdictChecks c) go
@@ -151,7 +152,8 @@ unconfirmed-ends c = said (VerdictReply c) ofVerdict (verdictChecks c) go
     go (verdict.Refused q) h = refused-ends (verdictChecks c) q h
 
 pub wz-unconfirmed : (text lent left : List ℕ) (r : ℕ) → Answered (OfText text UnconfirmedFor) lent left r → ByTable (estimatorChecks text verdictChecks lent) (Coded r) lent left
-wz-unconfirmed text = answered text UnconfirmedFor verdictChecks (λ c. ((tt, λ q h. (inl (omega (arith, h)), tt)), (lit≤ tt, tt))) unconfirmed-ends
+wz-unconfirmed text =
+    answered text UnconfirmedFor verdictChecks (λ c. (later-follows 1 (verdictChecks c) (lit≤ tt) (lit< tt) refl, (lit≤ tt, tt))) unconfirmed-ends
 
 -- what fewest checks, with a budget
 abbrev fewestAt : ℕ → Case → List Check
@@ -168,7 +170,7 @@ pub wz-fewest : (text : List ℕ) (budget : ℕ) (lent left : List ℕ) (r : ℕ
 wz-fewest text budget = answered text (FewestFor budget) (fewestAt budget) (λ c. (o c, (lit≤ tt, (lit≤ tt, (lit≤ tt, tt))))) (fewest-ends budget)
   where
     o : (c : Case) → Follows 1 (fewestAt budget c)
-    o c = ((inl (lit< tt), (inl (lit< tt), tt)), λ q h. (inl (omega (arith, h)), (inl (lit< tt), (inl (lit< tt), tt))))
+    o c = later-follows 1 (fewestAt budget c) (lit≤ tt) (lit< tt) (refl, inl (lit< tt), (refl, inl (lit< tt), refl))
 
 -- what replaying a step text checks
 abbrev replayOf : List ℕ → Case → List Check

@@ -97,3 +97,13 @@ ends-later ps qs Refused a (inr (n, k, f, h, one)) = inr (n, k, first-later ps q
 -- the first list ends with a refusal
 pub ends-sooner : (ps qs : List Check) (Refused : ℕ → ℕ → Type 0) (n k : ℕ) → FirstFails ps n k → Refused n k → ((m o : ℕ) → Refused m o → (n ≡ m) × (k ≡ o)) → Ends (ps ++ qs) Refused
 ends-sooner ps qs Refused n k f h one = inr (n, k, first-sooner ps qs n k f, h, one)
+
+-- the first that fails is in the first list, or the first list passes
+pub first-in : (ps qs : List Check) (n k : ℕ) → FirstFails (ps ++ qs) n k → FirstFails ps n k ⊎ (Passed ps × FirstFails qs n k)
+first-in [] qs n k f = inr (tt, f)
+first-in (p ∷ ps) qs n k (inl f) = inl (inl f)
+first-in (p ∷ ps) qs n k (inr f) = go (first-in ps qs n k (f .1))
+  where
+    go : FirstFails ps n k ⊎ (Passed ps × FirstFails qs n k) → FirstFails (p ∷ ps) n k ⊎ (Passed (p ∷ ps) × FirstFails qs n k)
+    go (inl g) = inl (inr (f .0, g))
+    go (inr g) = inr ((f .0, g .0), g .1)

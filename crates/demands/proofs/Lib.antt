@@ -15,7 +15,9 @@ pub mod CallsByTable
 pub mod TextsByTable
 pub mod EstimatorByTable
 pub mod ReportsByTable
+pub mod EstimatorResults
 pub mod Demand1
 pub mod Demand2
 pub mod Demand3
-pub mod FiringFigure
+pub mod Document01
+pub mod Programs

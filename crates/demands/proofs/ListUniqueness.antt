@@ -3,7 +3,7 @@ use mathlib.Core.Path.{_≡_, sym, ap, _∙_}
 use mathlib.Core.List.{List}
 use lib.ListN.{length}
 use Prim.Native.Nat.{ℕ}
-use Rattle.busset.proofs.Tests.{decides-same}
+use Rattle.basics.proofs.Tests.{decides-same}
 use Rattle.busset.proofs.Words.{set-inj}
 use Rattle.step.specs.declared.Step.{Step}
 use Rattle.rules.specs.Grids.{Grid}

@@ -2,7 +2,7 @@
 use mathlib.Core.Path.{_≡_, ap}
 use mathlib.Core.List.{List}
 use Prim.Native.Nat.{ℕ}
-use Rattle.text_put.specs.declared.Written.{Written}
+use Rattle.refusals.specs.declared.Written.{Written}
 use Rattle.report_lines.specs.Printing.{PrintedReply}
 use Rattle.report_lines.proofs.Printed.{PrintReply, printed-unique}
 use Rattle.report_day.specs.Day.{Day}

@@ -5,7 +5,7 @@ use mathlib.Core.List.{List, [], _∷_, _++_}
 use mathlib.Core.Logic.{_⊎_, inl, inr}
 use Prim.Native.Nat.{ℕ, _≤_}
 use native.Mathlib.Omega.{arith}
-use lib.Dec.{T, lit<, ltb, ltb→lt, nltb→le}
+use lib.Dec.{T, lit<, lit≤, ltb, ltb→lt, nltb→le}
 use lib.ListN.{length}
 use Rattle.text_field.specs.Split.{split, lineFeed}
 use Rattle.text_field.specs.declared.Numeral.{Numeral}
@@ -19,18 +19,18 @@ use Rattle.grid.specs.Cases.{mostBytes}
 use Rattle.case_read.specs.Reading.{start, refused, readLines, readCase}
 use Rattle.case_read.specs.declared.CaseRead.{CaseRead}
 use Rattle.report_lines.specs.Printing.{RefusedText, PrintedReply}
-use Rattle.text_put.specs.declared.Written.{Written}
-use Rattle.text_put.specs.declared.Written.the-variants as written
+use Rattle.refusals.specs.declared.Written.{Written}
+use Rattle.refusals.specs.declared.Written.the-variants as written
 use Rattle.report_day.specs.Day.{DayReport, DayFor, Day}
 use Rattle.report_day.proofs.Days.{day-unique}
 use Rattle.plan_input.specs.Asking.{budgetOf, unasked, askedWith, planLines, readPlan}
 use Rattle.report_plan.specs.Plan.{planChecks, PlanReport, found, none, PlanFor, Plan}
 use Rattle.report_plan.proofs.Unique.{plan-unique}
-use Rattle.demands.specs.Order.{turn, InOrder}
+use Rattle.demands.specs.Order.{InOrder}
 use Rattle.demands.specs.TextChecks.{IsNumber, planLineChecks, inputChecks, caseChecks, lineChecks, printChecks}
 use Rattle.demands.specs.ByTable.{Refuses, ByTable, PrintedByTable, FewestPrinted}
 use Rattle.demands.proofs.Firsts.{passed-then, reply-meets}
-use Rattle.demands.proofs.Turns.{then-ordered}
+use Rattle.demands.proofs.Turns.{Follows, later-follows, then-ordered}
 use Rattle.demands.proofs.TextTurns.{case-ordered, input-ordered, input-turn}
 use Rattle.demands.proofs.Judging.{good, bad, passing, failing}
 use Rattle.demands.proofs.CaseTexts.{ReadBy, lines-judged, case-judged}
@@ -38,7 +38,9 @@ use Rattle.demands.proofs.CaseTexts.{ReadBy, lines-judged, case-judged}
 -- ---- the reply: 6 where what is asked for has no room
 
 print-meets : (P : List ℕ → Type 0) → ((s t : List ℕ) → P s → P t → s ≡ t) → (lent left : List ℕ) (r : Written) → PrintedReply P lent left r → ByTable (printChecks P lent) (Refuses written.Refused r) lent left
-print-meets P one lent left = reply-meets (PrintedReply P lent left) (printChecks P lent) written.Refused tt (λ q p. (inl (λ h. omega (arith, h (p .text) (p .asked), p .more), p .refusal), p .kept)) cases
+print-meets P one lent left =
+    reply-meets (PrintedReply P lent left) (printChecks P lent) written.Refused refl
+    (λ q p. (inl (λ h. omega (arith, h (p .text) (p .asked), p .more), p .refusal), p .kept)) cases
   where
     cases : (r : Written) → PrintedReply P lent left r → Passed (printChecks P lent) ⊎ ((q : Refusal) × (r ≡ written.Refused q))
     cases (written.Bytes k) p = inl (λ t a. omega (arith, p .room, ap length (one t (p .text) a (p .asked))), tt)
@@ -122,8 +124,8 @@ plan-printed input t p = printed-met (inputChecks input ++ rest) (then-ordered 1
     rest : List Check
     rest = planChecks c budget
 
-    follows : InOrder rest × ((q : Check) → turn q ≤ 1 → InOrder (q ∷ rest))
-    follows = ((inl (lit< tt), tt), λ q h. (inl (omega (arith, h)), (inl (lit< tt), tt)))
+    follows : Follows 1 rest
+    follows = later-follows 1 rest (lit≤ tt) (lit< tt) (refl, inl (lit< tt), refl)
 
     by : CaseRead → Type 0
     by x = PlanFor (x .answer) (x .case) budget t

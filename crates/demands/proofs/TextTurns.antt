@@ -20,7 +20,7 @@ use Rattle.case_judge.specs.Judging.{inOrder}
 use Rattle.grid.specs.Cases.{mostBytes}
 use Rattle.case_read.specs.Reading.{Reader, start, next}
 use Rattle.demands.specs.Order.{turnOf12, turn, Precedes, InOrder}
-use Rattle.demands.proofs.Turns.{Ahead, ahead-first, TurnsBy, Follows}
+use Rattle.demands.proofs.Turns.{in-table, Ahead, ahead-most, ahead-first, TurnsBy, Follows, later-follows}
 use Rattle.demands.specs.TextChecks.{NothingFollows, afterRecord, lineChecks, caseChecks, HasTurn, afterStep, stepLineChecks, stepTextChecks, withFifty, planLineChecks, inputChecks}
 
 -- ---- the lines of a case text
@@ -39,12 +39,15 @@ after-record P End end on p q = p
 after-record P Wrong end on p q = q
 
 lines-ordered : (s : Reader) (k : ℕ) (l : List ℕ) (ms : List (List ℕ)) (p : Check) → Ahead lineTurn k p → InOrder (p ∷ lineChecks s k l ms)
-lines-ordered s k l [] p before = (ahead-first p 2 before refl, tt)
+lines-ordered s k l [] p before = (in-table p (omega (arith, ahead-most p before)), ahead-first p 2 before refl, refl)
 lines-ordered s k l (m ∷ ms) p before =
     let fourth = check (inOrder (s .place) (recordOf l) ≡ true) 4 k in
     let on = lines-ordered (next s (recordOf l)) (k + 1) m ms fourth (inr (refl, omega arith)) in
-    let after = after-record (λ qs. InOrder (fourth ∷ qs)) (recordOf l) (check (NothingFollows m ms) 2 (k + 1) ∷ []) (lineChecks (next s (recordOf l)) (k + 1) m ms) (inr (refl, inl (omega arith)), tt) on in
-    (ahead-first p 2 before refl, (inr (refl, inr (refl, lit< tt)), (inr (refl, inr (refl, lit< tt)), after)))
+    let after = after-record (λ qs. InOrder (fourth ∷ qs)) (recordOf l) (check (NothingFollows m ms) 2 (k + 1) ∷ []) (lineChecks (next s (recordOf l)) (k + 1) m ms) (refl, inr (refl, inl (omega arith)), refl) on in (
+      in-table p (omega (arith, ahead-most p before)),
+      ahead-first p 2 before refl,
+      (refl, inr (refl, inr (refl, lit< tt)), (refl, inr (refl, inr (refl, lit< tt)), after)),
+    )
 
 lines-turn : (s : Reader) (k : ℕ) (l : List ℕ) (ms : List (List ℕ)) → TurnsBy lineTurn (lineChecks s k l ms)
 lines-turn s k l [] = (lit≤ tt, tt)
@@ -66,8 +69,8 @@ pub input-ordered : (input : List ℕ) → InOrder (inputChecks input)
 input-ordered input = go (split lineFeed input .first) (split lineFeed input .rest)
   where
     go : (l : List ℕ) (ms : List (List ℕ)) → InOrder (check (length input ≤ mostBytes) 1 0 ∷ planLineChecks l ms)
-    go l [] = (inl (lit< tt), tt)
-    go l (m ∷ ms) = (inl (lit< tt), lines-ordered start 2 m ms _ (inr (refl, lit< tt)))
+    go l [] = (refl, inl (lit< tt), refl)
+    go l (m ∷ ms) = (refl, inl (lit< tt), lines-ordered start 2 m ms _ (inr (refl, lit< tt)))
 
 pub input-turn : (input : List ℕ) → TurnsBy lineTurn (inputChecks input)
 input-turn input = go (split lineFeed input .first) (split lineFeed input .rest)
@@ -89,13 +92,16 @@ after-step P line.End end on p q = p
 after-step P line.Wrong end on p q = q
 
 step-lines-ordered : (k : ℕ) (l : List ℕ) (ms : List (List ℕ)) (p : Check) → 1 ≤ k → Ahead lineTurn k p → InOrder (p ∷ stepLineChecks k l ms)
-step-lines-ordered k l [] p some before = (ahead-first p 2 before refl, tt)
+step-lines-ordered k l [] p some before = (in-table p (omega (arith, ahead-most p before)), ahead-first p 2 before refl, refl)
 step-lines-ordered k l (m ∷ ms) p some before =
     let e = twelve-at-a-line k some in
     let twelfth = check (HasTurn (stepLineOf l) k) 12 k in
     let on = step-lines-ordered (k + 1) m ms twelfth (omega arith) (inr (e, omega arith)) in
-    let after = after-step (λ qs. InOrder (twelfth ∷ qs)) (stepLineOf l) (check (NothingFollows m ms) 2 (k + 1) ∷ []) (stepLineChecks (k + 1) m ms) (inr (e, inl (omega arith)), tt) on in
-    (ahead-first p 2 before refl, (inr (refl, inr (refl, lit< tt)), (inr (sym e, inr (refl, lit< tt)), after)))
+    let after = after-step (λ qs. InOrder (twelfth ∷ qs)) (stepLineOf l) (check (NothingFollows m ms) 2 (k + 1) ∷ []) (stepLineChecks (k + 1) m ms) (refl, inr (e, inl (omega arith)), refl) on in (
+      in-table p (omega (arith, ahead-most p before)),
+      ahead-first p 2 before refl,
+      (refl, inr (refl, inr (refl, lit< tt)), (refl, inr (sym e, inr (refl, lit< tt)), after)),
+    )
 
 -- a check of a text keeps its turn among the others where 50 is added
 abbrev Shifts : Check → Type 0
@@ -129,8 +135,12 @@ fifty-precedes p q a b (inr (e, inr (f, h))) = inr (a .1 ∙ omega (arith, e) �
 
 fifty-ordered : (qs : List Check) → AllShift qs → InOrder qs → InOrder (withFifty qs)
 fifty-ordered [] a o = tt
-fifty-ordered (q ∷ []) a o = tt
-fifty-ordered (p ∷ q ∷ qs) a o = (fifty-precedes p q (a .0) (a .1 .0) (o .0), fifty-ordered (q ∷ qs) (a .1) (o .1))
+fifty-ordered (q ∷ []) a o = in-table (check (q .wants) (q .number + 50) (q .place)) (omega (arith, a .0 .0, a .0 .1))
+fifty-ordered (p ∷ q ∷ qs) a o = (
+  in-table (check (p .wants) (p .number + 50) (p .place)) (omega (arith, a .0 .0, a .0 .1)),
+  fifty-precedes p q (a .0) (a .1 .0) (o .1),
+  fifty-ordered (q ∷ qs) (a .1) (o .2),
+)
 
 fifty-turn : (qs : List Check) → AllShift qs → TurnsBy 3 (withFifty qs)
 fifty-turn [] a = tt
@@ -147,10 +157,9 @@ step-text-turn text = shift-turn (stepTextChecks text) (step-text-shift text)
 
 -- a step text read beside a case text comes after it
 pub fifty-follows : (text : List ℕ) → Follows lineTurn (withFifty (stepTextChecks text))
-fifty-follows text = (o, λ q h. (inl (omega (arith, h)), o))
-  where
-    o : InOrder (withFifty (stepTextChecks text))
-    o = fifty-ordered (stepTextChecks text) (step-text-shift text) (step-text-ordered text)
+fifty-follows text =
+    later-follows lineTurn (withFifty (stepTextChecks text)) (lit≤ tt) (lit< tt)
+    (fifty-ordered (stepTextChecks text) (step-text-shift text) (step-text-ordered text))
 
 pub fifty-text-turn : (text : List ℕ) → TurnsBy 3 (withFifty (stepTextChecks text))
 fifty-text-turn text = fifty-turn (stepTextChecks text) (step-text-shift text)

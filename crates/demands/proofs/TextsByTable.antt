@@ -5,7 +5,7 @@ use mathlib.Core.List.{List, [], _∷_, _++_}
 use mathlib.Core.Logic.{inl, inr}
 use Prim.Native.Nat.{ℕ, _+_, _≤_}
 use native.Mathlib.Omega.{arith}
-use lib.Dec.{T, lit≤, ltb, ltb→lt, nltb→le}
+use lib.Dec.{T, lit<, lit≤, ltb, ltb→lt, nltb→le}
 use lib.ListN.{length}
 use Rattle.step.specs.declared.Step.{Step}
 use Rattle.grid.specs.declared.Case.{Case}
@@ -18,7 +18,7 @@ use Rattle.case_read.specs.Reading.{got, refused}
 use Rattle.case_read.specs.declared.CaseRead.{CaseRead}
 use Rattle.case_read.specs.declared.ReadAnswer.the-variants as read
 use Rattle.step_text.specs.Steps.{readSteps, stepsOf}
-use Rattle.taking.specs.Taking.{withRoom, leaves, StepsReadReply}
+use Rattle.step_text.specs.Taking.{withRoom, leaves, StepsReadReply}
 use Rattle.step_text.specs.declared.StepsRead.{StepsRead}
 use Rattle.step_text.specs.declared.StepsRead.the-variants.{Steps, Refused}
 use Rattle.step_text.proofs.Found.{steps-count}
@@ -30,7 +30,7 @@ use Rattle.demands.specs.Order.{FirstFails}
 use Rattle.demands.specs.TextChecks.{caseChecks, stepTextChecks, withFifty, stepsReadChecks, textReplayChecks}
 use Rattle.demands.specs.ByTable.{Refuses, Unread, TextRefuses, ByTable}
 use Rattle.demands.proofs.Firsts.{failed-first, Ends, met, ends-later, ends-sooner}
-use Rattle.demands.proofs.Turns.{Follows, then-ordered, then-follows, replay-follows}
+use Rattle.demands.proofs.Turns.{Follows, then-ordered, then-follows, later-follows, replay-follows}
 use Rattle.demands.proofs.TextTurns.{case-ordered, step-text-ordered, step-text-turn, fifty-follows, fifty-text-turn}
 use Rattle.demands.proofs.Judging.{SaidBy, good, bad, failing}
 use Rattle.demands.proofs.CaseTexts.{IsCase, case-judged}
@@ -106,7 +106,8 @@ pub read-steps : (text : List ℕ) (before after : List Step) (r : StepsRead) �
     → ByTable (stepsReadChecks text (length before)) (Refuses Refused r) before after
 read-steps text before after r p =
     met (stepsReadChecks text (length before)) (Refuses Refused r)
-    (then-ordered 1 (stepTextChecks text) (hasRoom text (length before)) (step-text-ordered text) (step-text-turn text) (tt, λ q h. (inl (omega (arith, h)), tt)))
+    (then-ordered 1 (stepTextChecks text) (hasRoom text (length before)) (step-text-ordered text) (step-text-turn text)
+    (later-follows 1 (hasRoom text (length before)) (lit≤ tt) (lit< tt) refl))
     (λ n k h. p .1 ∙ ap (λ (x : StepsRead). leaves x (stepsOf text) before) (h .1))
     (subst⁻¹ (λ (x : StepsRead). Ends (stepsReadChecks text (length before)) (Refuses Refused x)) (p .0) (room-judged text (length before) (readSteps text) refl (steps-judged text)))
 

@@ -8,12 +8,12 @@ use Rattle.ending.specs.Replies.{ReplayReply, WeaveReply}
 use Rattle.ending.specs.declared.Replayed.{Replayed}
 use Rattle.ending.specs.declared.Wove.{Wove}
 use Rattle.case_read.specs.declared.CaseRead.{CaseRead}
-use Rattle.taking.specs.Taking.{StepsReadReply}
+use Rattle.step_text.specs.Taking.{StepsReadReply}
 use Rattle.step_text.specs.declared.StepsRead.{StepsRead}
 use Rattle.step_replay.specs.Replying.{TextReplayReply}
 use Rattle.step_replay.specs.declared.TextReplayed.{TextReplayed}
 use Rattle.report_lines.specs.Printing.{PrintedReply}
-use Rattle.text_put.specs.declared.Written.{Written}
+use Rattle.refusals.specs.declared.Written.{Written}
 use Rattle.report_day.specs.Day.{Day}
 use Rattle.report_plan.specs.Plan.{Plan}
 use Rattle.observe_calls.specs.declared.Observed.{Observed}

@@ -1,6 +1,6 @@
 -- Document 01's order of refusals: which of a call's checks comes before which, and the first that fails.
 use mathlib.Core.Path.{_≡_}
-use mathlib.Core.Bool.{Bool, false, cond, _||_}
+use mathlib.Core.Bool.{Bool, true, false, cond, _||_}
 use mathlib.Core.List.{List, [], _∷_}
 use mathlib.Core.Logic.{_⊎_}
 use Prim.Native.Nat.{ℕ, zero, suc, _<_}
@@ -9,17 +9,24 @@ use Rattle.refusals.specs.Refusals.{Check}
 
 -- ---- turns
 
--- 1; a bad line; those of a step text beside a case text, which is read after it, with 50 added; 5; 10 or 12; 7, 8, 9 at a bad step; 13; 11; 6
+-- 1; a bad line; those of a step text read after a case text, with 50 added; 5; 10 or 12; 7, 8, 9 at a bad step; 13; 11; 6
 abbrev pub order : List (List ℕ)
 order =
-    (1 ∷ []) ∷ (2 ∷ 3 ∷ 4 ∷ []) ∷ (51 ∷ []) ∷ (52 ∷ 53 ∷ 62 ∷ []) ∷ (5 ∷ []) ∷ (10 ∷ 12 ∷ []) ∷ (7 ∷ 8 ∷ 9 ∷ []) ∷ (13 ∷ []) ∷ (11 ∷ []) ∷ (6 ∷ []) ∷ []
+    (1 ∷ []) ∷ (2 ∷ 3 ∷ 4 ∷ [])
+    ∷ (51 ∷ []) ∷ (52 ∷ 53 ∷ 62 ∷ [])
+    ∷ (5 ∷ []) ∷ (10 ∷ 12 ∷ []) ∷ (7 ∷ 8 ∷ 9 ∷ []) ∷ (13 ∷ []) ∷ (11 ∷ []) ∷ (6 ∷ []) ∷ []
 
 -- whether k is one of these
 abbrev pub isOf : List ℕ → ℕ → Bool
 isOf [] k = false
 isOf (x ∷ xs) k = eqb x k || isOf xs k
 
--- how many groups stand before the one that has k
+-- whether one of these groups has k
+abbrev pub isIn : List (List ℕ) → ℕ → Bool
+isIn [] k = false
+isIn (g ∷ gs) k = isOf g k || isIn gs k
+
+-- how many groups are before the one that has k
 abbrev pub groupOf : List (List ℕ) → ℕ → ℕ
 groupOf [] k = 0
 groupOf (g ∷ gs) k = cond (isOf g k) 0 (suc (groupOf gs k))
@@ -33,6 +40,10 @@ turnOf12 (suc line) = groupOf order 2
 abbrev pub turn : Check → ℕ
 turn q = cond (eqb (q .number) 12) (turnOf12 (q .place)) (groupOf order (q .number))
 
+-- the table has the check's number
+abbrev pub InTable : Check → Type 0
+InTable q = isIn order (q .number) ≡ true
+
 -- ---- one before another
 
 -- p comes before q: in an earlier turn; in the same turn at an earlier line or step; and there with a lower number
@@ -40,11 +51,11 @@ abbrev pub Precedes : Check → Check → Type 0
 Precedes p q =
     (turn p < turn q) ⊎ ((turn p ≡ turn q) × ((p .place < q .place) ⊎ ((p .place ≡ q .place) × (p .number < q .number))))
 
--- each check comes before the next
+-- the table has each check's number, and each check comes before the next
 abbrev pub InOrder : List Check → Type 0
 InOrder [] = Unit {0}
-InOrder (p ∷ []) = Unit {0}
-InOrder (p ∷ q ∷ qs) = Precedes p q × InOrder (q ∷ qs)
+InOrder (p ∷ []) = InTable p
+InOrder (p ∷ q ∷ qs) = InTable p × Precedes p q × InOrder (q ∷ qs)
 
 -- ---- the first that fails
 

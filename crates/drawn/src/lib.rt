@@ -67,7 +67,8 @@ fn with_unit(case: Case, b: usize) -> Case {
     c
 }
 
-// What a line draws at the case. n: so many buses. z, y, u: a Z bus, a Y site, a unit. l, h: a line, and half of one, seen from a alone.
+// What a line draws at the case. n: so many buses. z, y, u: a Z bus, a Y site, a unit.
+// l, h: a line, and half of one, seen from a alone.
 pub fn drawn(case: Case, letter: u8, a: usize, b: usize) -> Case {
     match letter {
         b'n' => blank(a),

@@ -4,9 +4,9 @@ use mathlib.Core.Bool.{Bool, false}
 use mathlib.Core.Logic.{inl}
 use Prim.Native.Nat.{ℕ, _≤_, _<_}
 use native.Mathlib.Omega.{arith}
-use Rattle.busset.specs.Deciding.{Decides}
+use Rattle.basics.specs.Deciding.{Decides}
 use Rattle.busset.specs.Sets.{Sub, setOf}
-use Rattle.busset.proofs.Tests.{decides-by, decides-no}
+use Rattle.basics.proofs.Tests.{decides-by, decides-no}
 use Rattle.busset.proofs.Members.{sub-of, sub-antisym}
 use Rattle.rules.specs.Grids.{Grid}
 use Rattle.rules.specs.Observation.{Closed}
@@ -26,13 +26,13 @@ use Rattle.ending.specs.declared.Wove.the-variants as wove
 
 -- ---- finished is closed: it has what O1 gives, and a sweep of O2 changes nothing
 
-started-in : {g : Grid} {s o : ℕ} → Started (g .nbr) (g .units) o → Closed g s → Sub o s
+started-in : {g : Grid} {s o : ℕ} → Started (g .neighbours) (g .units) o → Closed g s → Sub o s
 started-in {g} {s} st cl = st .sound s (sub-of (g .units) s (cl .o1 .own)) (cl .o1 .near)
 
-pub finished-unless-started : {g : Grid} {s o : ℕ} → Started (g .nbr) (g .units) o → (Sub o s → ⊥) → Decides (Finished g s) false
+pub finished-unless-started : {g : Grid} {s o : ℕ} → Started (g .neighbours) (g .units) o → (Sub o s → ⊥) → Decides (Finished g s) false
 finished-unless-started {g} {s} st f = decides-no (λ fin. f (started-in {g = g} st (finished-closed g s fin)))
 
-pub finished-test : {g : Grid} {s o r : ℕ} {b : Bool} → Started (g .nbr) (g .units) o → Sub o s → Swept (g .nbr) (g .zero) s r → Decides (r ≡ s) b → Decides (Finished g s) b
+pub finished-test : {g : Grid} {s o r : ℕ} {b : Bool} → Started (g .neighbours) (g .units) o → Sub o s → Swept (g .neighbours) (g .zeros) s r → Decides (r ≡ s) b → Decides (Finished g s) b
 finished-test {g} {s} {o} {r} st sub sw d =
     decides-by
     (λ e. closed-finished g s (record { o1 = record { own = λ b h. omega (arith, st .own b, sub b); near = λ b h a. omega (arith, st .near b h a, sub a) }; o2 = sw .settled e }))

@@ -3,7 +3,7 @@ use mathlib.Core.Path.{_≡_}
 use mathlib.Core.List.{List, [], _∷_}
 use Prim.Native.Nat.{ℕ, _≤_}
 use lib.ListN.{length}
-use Rattle.busset.specs.Deciding.{Decides}
+use Rattle.basics.specs.Deciding.{Decides}
 use Rattle.busset.specs.Sets.{empty, setOf}
 use Rattle.step.specs.Records.{written, putFirst}
 use Rattle.step.specs.declared.Step.{Step}

@@ -1,6 +1,6 @@
 // How a list that was followed ends: what replay and weaving answer.
 ghost use mathlib.Core.Path.{_≡_};
-ghost use Rattle.busset.specs.Deciding.{Decides};
+ghost use Rattle.basics.specs.Deciding.{Decides};
 ghost use Rattle.busset.specs.Sets.{setOf};
 ghost use Rattle.rules.specs.Steps.{Finished};
 ghost use Rattle.grid.specs.Cases.{gridOf};

@@ -1,6 +1,7 @@
 // What each question comes to. The case text is read first.
 ghost use mathlib.Core.Path.{_≡_};
-ghost use Rattle.estimator.specs.Answers.{ofObserved, ofVerdict, ofFewest, ofReplay, OfText, ObservedFor, UnconfirmedFor, FewestFor, ReplayFor};
+ghost use Rattle.estimator.specs.Answers.{ofObserved, ofVerdict, ofFewest, ofReplay};
+ghost use Rattle.estimator.specs.Answers.{OfText, ObservedFor, UnconfirmedFor, FewestFor, ReplayFor};
 use estimator_reply::Answer;
 use wozgrzyt::Fewest;
 use wozgrzyt::Observed;

@@ -1,4 +1,5 @@
-// The state estimator's functions, for C. Each is given the case as its text and fills the set into the first eight bytes lent.
+// The state estimator's functions, for C.
+// Each is given the case as its text and fills the set into the first eight bytes lent.
 ghost use Rattle.estimator.specs.Answers.{OfText, ObservedFor, UnconfirmedFor, FewestFor, ReplayFor};
 ghost use Rattle.estimator_reply.specs.Results.{Answered};
 
@@ -33,7 +34,8 @@ pub extern "C" fn wz_fewest(text: &[u8], budget: usize, set: &mut [u8]) -> u32
 // The set that the step text reaches.
 #[no_mangle]
 pub extern "C" fn wz_replay(text: &[u8], steps: &[u8], set: &mut [u8]) -> u32
-    ensures { λ r. ⌜ Answered (OfText (now (text .entry)) (ReplayFor (now (steps .entry)))) (now (set .entry)) (now (set .exit)) r ⌝ }
+    ensures { λ r. ⌜ Answered (OfText (now (text .entry)) (ReplayFor (now (steps .entry))))
+        (now (set .entry)) (now (set .exit)) r ⌝ }
 {
     reply(answers::replay(text, steps), set)
 }

@@ -17,7 +17,7 @@ use Rattle.estimator_reply.specs.declared.Answer.the-variants.{Set, Refu
 abbrev pub codeOf : Refusal → ℕ
 codeOf q = 100 * placeOf q + numberOf q
 
--- the result, where `room` bytes are lent: 0, or a refusal, with 50 added in reading the step text; fewer than eight bytes are 6, after every other refusal
+-- the result if `room` bytes are lent: 0, or a refusal, plus 50 in reading the step text; fewer than eight bytes are 6, after all others
 abbrev pub resultOf : Answer → ℕ → ℕ
 resultOf (Set s) room = cond (ltb room 8) (codeOf NoRoom) 0
 resultOf (Refused q) room = codeOf q

@@ -4,9 +4,9 @@ use mathlib.Core.Bool.{Bool}
 use mathlib.Core.Logic.{⊎-elim}
 use Prim.Native.Nat.{ℕ, zero, _+_, _≤_, _<_}
 use native.Mathlib.Omega.{arith}
-use Rattle.busset.specs.Deciding.{Decides}
+use Rattle.basics.specs.Deciding.{Decides}
 use Rattle.busset.specs.Sets.{Bus, bit, In, Out, Sub, Within, empty, setOf, Without}
-use Rattle.busset.proofs.Tests.{below-or, decides-by}
+use Rattle.basics.proofs.Tests.{below-or, decides-by}
 use Rattle.busset.proofs.Digits.{bit-zero}
 use Rattle.busset.proofs.Members.{without-of, without-sub}
 use Rattle.rules.specs.Grids.{Line, lineCount}

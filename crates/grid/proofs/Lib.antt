@@ -1,4 +1,3 @@
 pub mod Rows
 pub mod Checking
 pub mod Summing
-pub mod Drawn

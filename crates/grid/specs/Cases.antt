@@ -20,6 +20,14 @@ mostLines = 256
 abbrev pub mostSteps : ℕ
 mostSteps = 1024
 
+-- new units of the fewest
+abbrev pub mostBudget : ℕ
+mostBudget = 8
+
+-- new units of greedy
+abbrev pub mostGreedyBudget : ℕ
+mostGreedyBudget = 64
+
 -- bytes of a case text
 abbrev pub mostBytes : ℕ
 mostBytes = 8192
@@ -36,7 +44,7 @@ neighbours rows b = setOf (getD (0 ∷ rows) b 0)
 
 -- the grid that n, the rows, the Z buses, the Y sites and the units say
 abbrev pub gridWith : ℕ → List ℕ → ℕ → ℕ → ℕ → Grid
-gridWith n rows zeros sites units = record { n = n; nbr = neighbours rows; zero = setOf zeros; site = setOf sites; units = setOf units }
+gridWith n rows zeros sites units = record { n = n; neighbours = neighbours rows; zeros = setOf zeros; sites = setOf sites; units = setOf units }
 
 -- the grid that a case value says
 abbrev pub gridOf : Case → Grid

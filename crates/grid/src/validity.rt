@@ -2,7 +2,7 @@
 ghost use mathlib.Core.Path.{_≡_};
 ghost use Prim.Native.Nat.{_≤_};
 ghost use lib.ListN.{length};
-ghost use Rattle.busset.specs.Deciding.{Decides};
+ghost use Rattle.basics.specs.Deciding.{Decides};
 ghost use Rattle.busset.specs.Sets.{Bus, width};
 ghost use Rattle.rules.specs.Grids.{Line, lineCount};
 ghost use Rattle.grid.specs.Cases.{neighbours, Valid, Lines, LinesAt};

@@ -40,7 +40,7 @@ use Rattle.list_follow.proofs.Task.Laws as K′
 use Rattle.list_follow.proofs.begin as begin
 use Rattle.list_follow.proofs.begin.Symbol.{name as #list_follow·begin}
 use Rattle.list_calls.proofs.Rows.{case-made, following-made, task-made, task-is}
-use Rattle.walking.proofs.Calling.{calls-lent, calls-plain}
+use Rattle.step.proofs.Calling.{calls-lent, calls-plain}
 use Rattle.list_calls.proofs.follow as follow
 use Rattle.list_calls.proofs.follow.Symbol.{name as #list_calls·follow}
 

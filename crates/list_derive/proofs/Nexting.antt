@@ -4,7 +4,7 @@ use mathlib.Core.Logic.{⊎-elim}
 use Prim.Native.Nat.{ℕ, _+_, _≤_, _<_}
 use native.Mathlib.Omega.{arith}
 use Rattle.busset.specs.Sets.{In, Out}
-use Rattle.busset.proofs.Tests.{same-or, below-or}
+use Rattle.basics.proofs.Tests.{same-or, below-or}
 use Rattle.step.specs.declared.Reason.{Reason}
 use Rattle.step.specs.declared.Reason.the-variants.{OwnUnit, NeighbourOf, ZeroInjection}
 use Rattle.step.specs.declared.Step.{Step}
@@ -28,10 +28,10 @@ pub lacks-first : {P : ℕ → Type 0} {k : ℕ} → Lacks P k → (q : ℕ) →
 lacks-first {P} {k} h q u = ⊎-elim (λ (l : q < k). absurd (h .below q l u)) (λ (l : k ≤ q). l) (below-or q k)
 
 -- 0 is no bus
-pub no-unit-zero : {g : Grid} (b : ℕ) → Proper g → Lacks (ByUnit (g .nbr) (g .units) b) 1
+pub no-unit-zero : {g : Grid} (b : ℕ) → Proper g → Lacks (ByUnit (g .neighbours) (g .units) b) 1
 no-unit-zero {g} b v = record { below = λ q l u. let s = v .units q (u .unit) .some in omega arith }
 
-pub no-zero-zero : {g : Grid} (s b : ℕ) → Proper g → Lacks (ByZero (g .nbr) (g .zero) s b) 1
+pub no-zero-zero : {g : Grid} (s b : ℕ) → Proper g → Lacks (ByZero (g .neighbours) (g .zeros) s b) 1
 no-zero-zero {g} s b v = record { below = λ q l u. let p = v .zeros q (u .class) .some in omega arith }
 
 -- ---- the buses passed
@@ -52,7 +52,7 @@ clear-more {g} {s} {b} h n = record {
 }
 
 -- every reason fails
-pub none-holds : {g : Grid} {s b p w : ℕ} → Proper g → (In (g .units) b → ⊥) → g .n + 1 ≤ p → Lacks (ByUnit (g .nbr) (g .units) b) p → g .n + 1 ≤ w → Lacks (ByZero (g .nbr) (g .zero) s b) w
+pub none-holds : {g : Grid} {s b p w : ℕ} → Proper g → (In (g .units) b → ⊥) → g .n + 1 ≤ p → Lacks (ByUnit (g .neighbours) (g .units) b) p → g .n + 1 ≤ w → Lacks (ByZero (g .neighbours) (g .zeros) s b) w
     → (r : Reason) → Holds g s b r → ⊥
 none-holds v own lp u lw z OwnUnit h = own h
 none-holds v own lp u lw z (NeighbourOf q) h = let m = v .units q (h .unit) .most in u .below q (omega arith) h
@@ -73,12 +73,12 @@ next-by {g} {s} {b} r c n h f = record {
 pub first-own : (g : Grid) (s b : ℕ) (q : Reason) → Holds g s b q → TakenFirst OwnUnit q
 first-own g s b q h = tt
 
-pub first-near : (g : Grid) (s : ℕ) {b p : ℕ} → (In (g .units) b → ⊥) → Lacks (ByUnit (g .nbr) (g .units) b) p → (q : Reason) → Holds g s b q → TakenFirst (NeighbourOf p) q
+pub first-near : (g : Grid) (s : ℕ) {b p : ℕ} → (In (g .units) b → ⊥) → Lacks (ByUnit (g .neighbours) (g .units) b) p → (q : Reason) → Holds g s b q → TakenFirst (NeighbourOf p) q
 first-near g s own u OwnUnit h = own h
 first-near g s own u (NeighbourOf q) h = lacks-first u q h
 first-near g s own u (ZeroInjection w) h = tt
 
-pub first-zero : {g : Grid} {s b p w : ℕ} → Proper g → (In (g .units) b → ⊥) → g .n + 1 ≤ p → Lacks (ByUnit (g .nbr) (g .units) b) p → Lacks (ByZero (g .nbr) (g .zero) s b) w
+pub first-zero : {g : Grid} {s b p w : ℕ} → Proper g → (In (g .units) b → ⊥) → g .n + 1 ≤ p → Lacks (ByUnit (g .neighbours) (g .units) b) p → Lacks (ByZero (g .neighbours) (g .zeros) s b) w
     → (q : Reason) → Holds g s b q → TakenFirst (ZeroInjection w) q
 first-zero v own lp u z OwnUnit h = own h
 first-zero v own lp u z (NeighbourOf q) h = let m = v .units q (h .unit) .most in u .below q (omega arith) h

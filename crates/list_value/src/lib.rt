@@ -1,4 +1,5 @@
-// A list of at most 64 steps, by value: no list that replay accepts or weaving writes is longer than the grid has buses.
+// A list of at most 64 steps, by value.
+// No list that replay accepts or weaving writes is longer than the grid has buses.
 ghost use mathlib.Core.Path.{_≡_};
 ghost use mathlib.Core.List.{[]};
 ghost use Prim.Native.Nat.{_<_};

@@ -7,7 +7,7 @@ use Rattle.busset.specs.Sets.{bit, In, Out, Sub, empty, Union, Both, Without}
 use Rattle.busset.proofs.Digits.{bit-zero, ext}
 use Rattle.busset.proofs.Members.{sub-of, without-of, without-sub}
 use Rattle.rules.specs.Grids.{Grid}
-use Rattle.rules.specs.Observation.{Least, Fired}
+use Rattle.rules.specs.Observation.{ObservedSet, Fired}
 use Rattle.observe.specs.Passes.{Started, Fires, AllFired, Swept}
 
 -- ---- O1, unit after unit
@@ -97,7 +97,7 @@ reaching-more inv sw = record {
 }
 
 -- where a sweep changes nothing, that is the observed set of every grid with these lines, Z buses and units
-pub reaching-all : {g : Grid} {s r : ℕ} → Reaching (g .nbr) (g .zero) (g .units) s → Swept (g .nbr) (g .zero) s r → r ≡ s → Least g s
+pub reaching-all : {g : Grid} {s r : ℕ} → Reaching (g .neighbours) (g .zeros) (g .units) s → Swept (g .neighbours) (g .zeros) s r → r ≡ s → ObservedSet g s
 reaching-all {g} {s} inv sw e = record {
   closed = record { o1 = record { own = λ b h. omega (arith, inv .own b); near = inv .near }; o2 = sw .settled e };
   least = λ t cl. inv .sound t (sub-of (g .units) t (cl .o1 .own)) (cl .o1 .near) (cl .o2);

@@ -2,7 +2,7 @@
 ghost use mathlib.Core.Path.{_≡_};
 ghost use Prim.Native.Nat.{ℕ, _≤_};
 ghost use Rattle.busset.specs.Sets.{lack, size, setOf};
-ghost use Rattle.rules.specs.Observation.{Least};
+ghost use Rattle.rules.specs.Observation.{ObservedSet};
 ghost use Rattle.grid.specs.Cases.{neighbours, gridWith};
 ghost use Rattle.observe.specs.Passes.{Started, Fires, Swept};
 use busset::BusSet;
@@ -62,7 +62,7 @@ pub fn sweep(nbr: &[BusSet; 64], zero: BusSet, s: BusSet) -> BusSet
 
 // The observed set, whatever n and the sites are: no rule reads them.
 pub fn observed(nbr: &[BusSet; 64], zero: BusSet, units: BusSet) -> BusSet
-    ensures { λ r. ⌜ ((n sites : ℕ) → Least (gridWith n (now (nbr .entry)) zero sites units) (setOf r)) ⌝ }
+    ensures { λ r. ⌜ ((n sites : ℕ) → ObservedSet (gridWith n (now (nbr .entry)) zero sites units) (setOf r)) ⌝ }
 {
     let mut s = start(nbr, units);
     loop {

@@ -4,7 +4,7 @@ use mathlib.Core.List.{List, [], _∷_}
 use Prim.Native.Nat.{ℕ}
 use Rattle.busset.specs.Sets.{Bus, In, Out, upTo, setOf}
 use Rattle.step.specs.declared.Step.{Step}
-use Rattle.rules.specs.Observation.{Least}
+use Rattle.rules.specs.Observation.{ObservedSet}
 use Rattle.rules.specs.Steps.{Holds, Names}
 use Rattle.rules.specs.Figures.{figure}
 use Rattle.grid.specs.declared.Case.{Case}
@@ -29,18 +29,18 @@ observedChecks c = check (Valid c) 5 0 ∷ []
 
 -- the least set that satisfies both rules
 abbrev pub ObservedReply : Case → Observed → Type 0
-ObservedReply c (observed.Set s) = Passed (observedChecks c) × Least (gridOf c) (setOf s)
+ObservedReply c (observed.Set s) = Passed (observedChecks c) × ObservedSet (gridOf c) (setOf s)
 ObservedReply c (observed.Refused r) = Failed (observedChecks c) r
 
 -- ---- the firing figure of bus i towards j
 
 -- 5; i and j are 1 to n, or 7; they are joined, or 13
 abbrev pub figureChecks : Case → ℕ → ℕ → List Check
-figureChecks c i j = check (Valid c) 5 0 ∷ check (Bus (c .n) i × Bus (c .n) j) 7 0 ∷ check (In (gridOf c .nbr i) j) 13 0 ∷ []
+figureChecks c i j = check (Valid c) 5 0 ∷ check (Bus (c .n) i × Bus (c .n) j) 7 0 ∷ check (In (gridOf c .neighbours i) j) 13 0 ∷ []
 
 -- the figure in the stated set
 abbrev pub FigureReply : Case → ℕ → ℕ → ℕ → Figured → Type 0
-FigureReply c s i j (figured.Figure z) = Passed (figureChecks c i j) × (z ≡ figure (gridOf c .nbr) (stated c s) i j)
+FigureReply c s i j (figured.Figure z) = Passed (figureChecks c i j) × (z ≡ figure (gridOf c .neighbours) (stated c s) i j)
 FigureReply c s i j (figured.Refused r) = Failed (figureChecks c i j) r
 
 -- ---- the test of one step, which is step 1

@@ -8,7 +8,7 @@ use Rattle.rules.specs.Confirming.{UnconfirmedSet}
 use Rattle.rules.specs.Placing as placing
 use Rattle.rules.specs.Choosing as choosing
 use Rattle.grid.specs.declared.Case.{Case}
-use Rattle.grid.specs.Cases.{gridOf, Valid}
+use Rattle.grid.specs.Cases.{mostBudget, mostGreedyBudget, gridOf, Valid}
 use Rattle.refusals.specs.Refusals.{Check, check, Passed, Failed}
 use Rattle.place_calls.specs.declared.Verdict.{Verdict}
 use Rattle.place_calls.specs.declared.Verdict.the-variants as verdict
@@ -25,7 +25,7 @@ verdictChecks c = check (Valid c) 5 0 ∷ []
 
 -- the set of units that no other unit confirms
 abbrev pub VerdictReply : Case → Verdict → Type 0
-VerdictReply c (verdict.Unconfirmed s) = Passed (verdictChecks c) × UnconfirmedSet (gridOf c .nbr) (gridOf c .units) (setOf s)
+VerdictReply c (verdict.Unconfirmed s) = Passed (verdictChecks c) × UnconfirmedSet (gridOf c .neighbours) (gridOf c .units) (setOf s)
 VerdictReply c (verdict.Refused r) = Failed (verdictChecks c) r
 
 -- ---- greedy, into the room lent
@@ -36,7 +36,7 @@ HasRoom c budget room = (xs : List ℕ) → choosing.Greedy (gridOf c) budget xs
 
 -- 5; the budget is at most 64, or 10; the answer has room, or 6
 abbrev pub greedyChecks : Case → ℕ → List ℕ → List Check
-greedyChecks c budget room = check (Valid c) 5 0 ∷ check (budget ≤ 64) 10 0 ∷ check (HasRoom c budget room) 6 0 ∷ []
+greedyChecks c budget room = check (Valid c) 5 0 ∷ check (budget ≤ mostGreedyBudget) 10 0 ∷ check (HasRoom c budget room) 6 0 ∷ []
 
 -- k sites are added: they stand first in the room, in the order added, and the rest of it stays
 pub record GreedyWritten (c : Case) (budget : ℕ) (entry exit : List ℕ) (k : ℕ) : Type 0 where
@@ -54,7 +54,7 @@ GreedyReply c budget entry exit (greedy.Refused r) = Failed (greedyChecks c budg
 
 -- 5; the budget is at most 8, or 10; some addition within it covers, or 11
 abbrev pub fewestChecks : Case → ℕ → List Check
-fewestChecks c budget = check (Valid c) 5 0 ∷ check (budget ≤ 8) 10 0 ∷ check (placing.SomePlan (gridOf c) budget) 11 0 ∷ []
+fewestChecks c budget = check (Valid c) 5 0 ∷ check (budget ≤ mostBudget) 10 0 ∷ check (placing.SomePlan (gridOf c) budget) 11 0 ∷ []
 
 -- the set of the sites of the first of the smallest additions that cover
 abbrev pub FewestReply : Case → ℕ → Fewest → Type 0

@@ -4,9 +4,9 @@ use mathlib.Core.Bool.{Bool}
 use Prim.Native.Nat.{ℕ}
 use native.Mathlib.Omega.{arith}
 use native.Mathlib.Nat.{le-refl}
-use Rattle.busset.specs.Deciding.{Decides}
+use Rattle.basics.specs.Deciding.{Decides}
 use Rattle.busset.specs.Sets.{bit, In, Out, Sub, empty, less, Both, With, Without}
-use Rattle.busset.proofs.Tests.{decides-by}
+use Rattle.basics.proofs.Tests.{decides-by}
 use Rattle.busset.proofs.Digits.{bit-zero}
 use Rattle.busset.proofs.Members.{out-of, sub-of, empty-of, less-here, less-there, add-of, add-grows, with-add, without-of, without-sub}
 use Rattle.rules.specs.Confirming.{Confirm, joined, share, Unconfirmed, UnconfirmedSet}

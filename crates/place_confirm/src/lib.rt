@@ -1,5 +1,5 @@
 // Cross-validation: the units that no other unit confirms.
-ghost use Rattle.busset.specs.Deciding.{Decides};
+ghost use Rattle.basics.specs.Deciding.{Decides};
 ghost use Rattle.busset.specs.Sets.{In, setOf};
 ghost use Rattle.rules.specs.Confirming.{Unconfirmed, UnconfirmedSet};
 ghost use Rattle.grid.specs.Cases.{neighbours, Lines};

@@ -4,8 +4,8 @@ use Prim.Native.Nat.{ℕ, _-_, _<_}
 use Rattle.busset.specs.Sets.{Lowest, With, Without, add, setOf}
 use Rattle.busset.proofs.Members.{with-add}
 use Rattle.rules.specs.Grids.{Grid}
-use Rattle.rules.specs.Observation.{Least}
-use Rattle.rules.specs.Placing.{at}
+use Rattle.rules.specs.Observation.{ObservedSet}
+use Rattle.rules.specs.Placing.{withUnits}
 use Rattle.rules.specs.Ways.{FirstWay}
 use Rattle.rules.proofs.Searching.{Passed, first-take, passed-lowest}
 use Rattle.place_fewest.specs.declared.Found.{Found}
@@ -15,10 +15,10 @@ use Rattle.place_fewest.specs.Answers.{FoundIs}
 use Rattle.place_light.proofs.Lighting.{lit-least}
 
 module _ (g : Grid) {n sites x rest k s t : ℕ} (some : 0 < k) (low : Lowest n sites x) (w : Without sites x rest)
-    (l : Least g s) (lit : Lit (g .nbr) (g .zero) s x t)
-    (r : Found) (f : Least (at g (add (g .units) x)) t → FoundIs (at g (add (g .units) x)) rest (k - 1) r) where
-  found : (r′ : Found) → r ≡ r′ → FoundIs (at g (add (g .units) x)) rest (k - 1) r′
-  found r′ q = subst (FoundIs (at g (add (g .units) x)) rest (k - 1)) q (f (lit-least l lit))
+    (l : ObservedSet g s) (lit : Lit (g .neighbours) (g .zeros) s x t)
+    (r : Found) (f : ObservedSet (withUnits g (add (g .units) x)) t → FoundIs (withUnits g (add (g .units) x)) rest (k - 1) r) where
+  found : (r′ : Found) → r ≡ r′ → FoundIs (withUnits g (add (g .units) x)) rest (k - 1) r′
+  found r′ q = subst (FoundIs (withUnits g (add (g .units) x)) rest (k - 1)) q (f (lit-least l lit))
 
   pub found-take : (m : ℕ) {more : ℕ} → r ≡ Sites m → With (setOf m) x more → FirstWay g sites k more
   found-take m q more = subst⁻¹ (FirstWay g sites k) (with-add more) (first-take low w some (found (Sites m) q))

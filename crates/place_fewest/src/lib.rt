@@ -2,7 +2,7 @@
 ghost use Prim.Native.Nat.{_≤_};
 ghost use Rattle.busset.specs.Sets.{Within, width, setOf};
 ghost use Rattle.rules.specs.Grids.{Proper};
-ghost use Rattle.rules.specs.Observation.{Least};
+ghost use Rattle.rules.specs.Observation.{ObservedSet};
 ghost use Rattle.rules.specs.Ways.{Whatever};
 ghost use Rattle.grid.specs.Cases.{neighbours, gridWith, Lines};
 ghost use Rattle.place_fewest.specs.Answers.{FoundIs, FewestIs};
@@ -23,7 +23,8 @@ pub fn search(
     k: usize,
 ) -> Found
     requires { ⌜ (n ≤ width) × Lines n (neighbours (now nbr)) × Within n (setOf sites) ⌝ }
-    ensures { λ r. ⌜ Whatever n (neighbours (now (nbr .entry))) (setOf zero) (λ g. Least g (setOf s) → FoundIs g (setOf sites) k r) ⌝ }
+    ensures { λ r. ⌜ Whatever n (neighbours (now (nbr .entry))) (setOf zero)
+        (λ g. ObservedSet g (setOf s) → FoundIs g (setOf sites) k r) ⌝ }
 {
     if k == 0 {
         if place_light::is_full(n, s) {
@@ -33,7 +34,7 @@ pub fn search(
     }
     let mut left = sites;
     while !busset::is_none(left) {
-        if cuts::is_hopeless(n, nbr, zero, s, left, k) {
+        if place_bound::hopeless::is_hopeless(n, nbr, zero, s, left, k) {
             return Found::Nothing;
         }
         let x = busset::lowest(left);

@@ -10,8 +10,8 @@ use Rattle.busset.specs.Sets.{bit, In, Out, Minus, Lowest, Without, With, empty
 use Rattle.busset.proofs.Digits.{bit-zero}
 use Rattle.busset.proofs.Members.{without-of, without-sub}
 use Rattle.rules.specs.Grids.{Grid}
-use Rattle.rules.specs.Observation.{Least}
-use Rattle.rules.specs.Placing.{at, Free}
+use Rattle.rules.specs.Observation.{ObservedSet}
+use Rattle.rules.specs.Placing.{withUnits, Free}
 use Rattle.rules.specs.Choosing.{Greedy}
 use Rattle.rules.specs.Choosing as choosing
 use Rattle.rules.proofs.Leasts.{least-unique}
@@ -38,7 +38,7 @@ pub record Compared (g : Grid) (s left most site : ℕ) : Type 0 where
   pub passed : (y t : ℕ) → Out left y → choosing.With g y t → size t ≤ most
   pub best : SoFar g s most site
 
-pub compared-none : {g : Grid} {s left most : ℕ} → Minus (g .site) (g .units) left → most ≡ size s → Compared g s left most 0
+pub compared-none : {g : Grid} {s left most : ℕ} → Minus (g .sites) (g .units) left → most ≡ size s → Compared g s left most 0
 compared-none m e = record {
   free = λ y h. record { site = omega (arith, m .at y); bare = omega (arith, m .at y) };
   base = omega arith;
@@ -48,9 +48,9 @@ compared-none m e = record {
 
 -- one site more: x, with which t is observed
 module _ {g : Grid} {n s left most site x rest t m : ℕ} (c : Compared g s left most site) (low : Lowest n left x) (w : Without left x rest)
-    (l : Least (at g (add (g .units) x)) t) (e : m ≡ size t) where
+    (l : ObservedSet (withUnits g (add (g .units) x)) t) (e : m ≡ size t) where
   same : (v : ℕ) → choosing.With g x v → size v ≡ m
-  same v h = ap size (least-unique (at g (add (g .units) x)) v t (h .observed) l) ∙ sym e
+  same v h = ap size (least-unique (withUnits g (add (g .units) x)) v t (h .observed) l) ∙ sym e
 
   freed : (y : ℕ) → In rest y → Free g y
   freed y h = c .free y (omega (arith, without-sub w y))
@@ -75,7 +75,7 @@ module _ {g : Grid} {n s left most site x rest t m : ℕ} (c : Compared g s left
         lowest = λ y v h b. omega (arith, c .passed y v (low .below y (omega arith)) h);
       }
 
-pub compared-all : {g : Grid} {s left most : ℕ} (site : ℕ) → Compared g s left most site → left ≡ empty → Least g s → ChosenIs g site
+pub compared-all : {g : Grid} {s left most : ℕ} (site : ℕ) → Compared g s left most site → left ≡ empty → ObservedSet g s → ChosenIs g site
 compared-all {g} {s} {left} {most} zero c e l = λ y v t lv w.
     omega (arith, c .best, c .passed y t (gone left y e) w, ap size (least-unique g v s lv l))
   where
@@ -98,7 +98,7 @@ pub compared-to : {g : Grid} {s left most site most′ site′ : ℕ} → Compar
 compared-to {g} {s} {left} {most} {site} {most′} {site′} c p q = subst⁻¹ (λ (x : ℕ). Compared g s left most′ x) p (subst⁻¹ (λ (m : ℕ). Compared g s left m site) q c)
 
 -- the best site is a site
-pub chosen-site : (g : Grid) (x : ℕ) → ChosenIs g x → (x ≡ 0 → ⊥) → In (g .site) x
+pub chosen-site : (g : Grid) (x : ℕ) → ChosenIs g x → (x ≡ 0 → ⊥) → In (g .sites) x
 chosen-site g zero b ne = absurd (ne refl)
 chosen-site g (suc i) b ne = b .with .free .site
 
@@ -108,23 +108,23 @@ chosen-site g (suc i) b ne = b .with .free .site
 pub record Adding (g : Grid) (budget count u s : ℕ) (sites : List ℕ) : Type 0 where
   pub room : length sites ≡ 64
   pub most : count ≤ budget
-  pub least : Least (at g u) s
-  pub rest : (ys : List ℕ) → Greedy (at g u) (budget - count) ys → Greedy g budget (take count sites ++ ys)
+  pub least : ObservedSet (withUnits g u) s
+  pub rest : (ys : List ℕ) → Greedy (withUnits g u) (budget - count) ys → Greedy g budget (take count sites ++ ys)
 
-pub adding-none : {g : Grid} {s : ℕ} (budget : ℕ) {sites : List ℕ} → length sites ≡ 64 → Least g s → Adding g budget 0 (g .units) s sites
+pub adding-none : {g : Grid} {s : ℕ} (budget : ℕ) {sites : List ℕ} → length sites ≡ 64 → ObservedSet g s → Adding g budget 0 (g .units) s sites
 adding-none {g} budget r l = record { room = r; most = omega arith; least = l; rest = λ ys h. subst (λ (k : ℕ). Greedy g k ys) (whole budget) h }
   where
     whole : (budget : ℕ) → budget - 0 ≡ budget
     whole budget = omega arith
 
 pub adding-more : {g : Grid} {budget count u s v t : ℕ} {sites : List ℕ} (x : ℕ) → Adding g budget count u s sites → count < budget → count < 64
-    → (x ≡ 0 → ⊥) → ChosenIs (at g u) x → v ≡ add u x → Least (at g (add u x)) t → Adding g budget (count + 1) v t (set sites count x)
+    → (x ≡ 0 → ⊥) → ChosenIs (withUnits g u) x → v ≡ add u x → ObservedSet (withUnits g (add u x)) t → Adding g budget (count + 1) v t (set sites count x)
 adding-more zero a l r ne b e lt = absurd (ne refl)
 adding-more {g} {budget} {count} {u} {s} {v} {t} {sites} (suc i) a l r ne b e lt = record {
   room = simp length-set (a .room);
   most = omega arith;
-  least = subst⁻¹ (λ (w : ℕ). Least (at g w) t) e lt;
-  rest = λ ys h. subst (Greedy g budget) (moved ys) (a .rest (suc i ∷ ys) (subst⁻¹ (λ (k : ℕ). Greedy (at g u) k (suc i ∷ ys)) left (b, subst (λ (w : ℕ). Greedy (at g w) (budget - (count + 1)) ys) e h)));
+  least = subst⁻¹ (λ (w : ℕ). ObservedSet (withUnits g w) t) e lt;
+  rest = λ ys h. subst (Greedy g budget) (moved ys) (a .rest (suc i ∷ ys) (subst⁻¹ (λ (k : ℕ). Greedy (withUnits g u) k (suc i ∷ ys)) left (b, subst (λ (w : ℕ). Greedy (withUnits g w) (budget - (count + 1)) ys) e h)));
 }
   where
     left : budget - count ≡ suc (budget - (count + 1))
@@ -137,11 +137,11 @@ adding-more {g} {budget} {count} {u} {s} {v} {t} {sites} (suc i) a l r ne b e lt
         ∙ ap (λ (k : ℕ). take k (set sites count (suc i)) ++ ys) (sym (add-one count))
 
 -- it stops where no site adds a bus
-pub adding-stop : {g : Grid} {budget count u s : ℕ} {sites : List ℕ} (x : ℕ) → Adding g budget count u s sites → count < budget → x ≡ 0 → ChosenIs (at g u) x → Listed g budget count sites
+pub adding-stop : {g : Grid} {budget count u s : ℕ} {sites : List ℕ} (x : ℕ) → Adding g budget count u s sites → count < budget → x ≡ 0 → ChosenIs (withUnits g u) x → Listed g budget count sites
 adding-stop {g} {budget} {count} {u} {s} {sites} zero a l e none = record {
   room = a .room;
   most = a .most;
-  greedy = subst (Greedy g budget) (append-nil (take count sites)) (a .rest [] (subst⁻¹ (λ (k : ℕ). Greedy (at g u) k []) left none));
+  greedy = subst (Greedy g budget) (append-nil (take count sites)) (a .rest [] (subst⁻¹ (λ (k : ℕ). Greedy (withUnits g u) k []) left none));
 }
   where
     left : budget - count ≡ suc (budget - (count + 1))
@@ -153,7 +153,7 @@ pub adding-all : {g : Grid} {budget count u s : ℕ} {sites : List ℕ} → Addi
 adding-all {g} {budget} {count} {u} {s} {sites} a l = record {
   room = a .room;
   most = a .most;
-  greedy = subst (Greedy g budget) (append-nil (take count sites)) (a .rest [] (subst⁻¹ (λ (k : ℕ). Greedy (at g u) k []) spent tt));
+  greedy = subst (Greedy g budget) (append-nil (take count sites)) (a .rest [] (subst⁻¹ (λ (k : ℕ). Greedy (withUnits g u) k []) spent tt));
 }
   where
     spent : budget - count ≡ 0

@@ -3,11 +3,9 @@ ghost use Prim.Native.Nat.{ℕ, _≤_};
 ghost use mathlib.Core.Path.{_≡_};
 ghost use mathlib.Core.List.{_++_};
 ghost use lib.ListN.{length, take, drop};
-ghost use Rattle.busset.specs.Sets.{Minus, setOf};
-ghost use Rattle.rules.specs.Observation.{Least};
-ghost use Rattle.rules.specs.Ways.{Whatever};
+ghost use Rattle.busset.specs.Sets.{setOf};
 ghost use Rattle.grid.specs.Cases.{neighbours, gridWith};
-ghost use Rattle.place_greedy.specs.Choices.{ChosenIs, Listed};
+ghost use Rattle.place_greedy.specs.Choices.{Chooses, Listed};
 use busset::BusSet;
 
 // Sites in the order added: the first `count` of `sites`.
@@ -16,9 +14,10 @@ pub struct Order {
     pub sites: [usize; 64],
 }
 
-// The free site that makes the observed set largest where s is observed, the lowest number on a tie; 0 where none adds a bus.
+// The free site that makes the observed set largest where s is observed, the lowest number on a tie;
+// 0 where none adds a bus.
 pub fn best(nbr: &[BusSet; 64], zero: BusSet, s: BusSet, free: BusSet) -> usize
-    ensures { λ r. ⌜ ((n : ℕ) → Whatever n (neighbours (now (nbr .entry))) (setOf zero) (λ g. Minus (g .site) (g .units) (setOf free) → Least g (setOf s) → ChosenIs g r)) ⌝ }
+    ensures { λ r. ⌜ Chooses (neighbours (now (nbr .entry))) (setOf zero) (setOf s) (setOf free) r ⌝ }
 {
     let mut site: usize = 0;
     let mut most = busset::count(s);

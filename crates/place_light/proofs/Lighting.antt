@@ -4,13 +4,13 @@ use mathlib.Core.Bool.{Bool}
 use Prim.Native.Nat.{ℕ, _≤_}
 use native.Mathlib.Omega.{arith}
 use native.Mathlib.Nat.{le-refl}
-use Rattle.busset.specs.Deciding.{Decides}
+use Rattle.basics.specs.Deciding.{Decides}
 use Rattle.busset.specs.Sets.{bit, In, Sub, All, Union, With, add}
-use Rattle.busset.proofs.Tests.{decides-by}
+use Rattle.basics.proofs.Tests.{decides-by}
 use Rattle.busset.proofs.Members.{sub-of, add-of, add-sub, add-here, add-grows, with-add}
 use Rattle.rules.specs.Grids.{Grid}
-use Rattle.rules.specs.Observation.{Closed, Least}
-use Rattle.rules.specs.Placing.{at, Full}
+use Rattle.rules.specs.Observation.{Closed, ObservedSet}
+use Rattle.rules.specs.Placing.{withUnits, Full}
 use Rattle.rules.specs.Blocking.{Idle}
 use Rattle.rules.proofs.Covering.{closed-fewer}
 use Rattle.observe.specs.Passes.{Started, AllFired, Swept}
@@ -57,20 +57,20 @@ lit-by {nbr} {zeros} {s} {x} {m} {here} {t} {r} e w j sp = record {
         subst⁻¹ (λ (y : ℕ). Sub y v) (with-add w) (add-sub m v x (λ b. omega (arith, near b, ap (λ (y : ℕ). bit y b) e)) own)
 
 -- where s is observed, what is lit is observed with the new unit
-pub lit-least : {g : Grid} {s x r : ℕ} → Least g s → Lit (g .nbr) (g .zero) s x r → Least (at g (add (g .units) x)) r
+pub lit-least : {g : Grid} {s x r : ℕ} → ObservedSet g s → Lit (g .neighbours) (g .zeros) s x r → ObservedSet (withUnits g (add (g .units) x)) r
 lit-least {g} {s} {x} {r} l li = record {
   closed = record { o1 = record { own = λ b h. both b h .own; near = λ b h. both b h .near }; o2 = li .fired };
   least = λ t cl. li .least t (l .least t (closed-fewer g (add-grows (g .units) x) cl))
       (cl .o1 .own x (add-here (g .units) x)) (cl .o1 .near x (add-here (g .units) x)) (cl .o2);
 }
   where
-    both : (b : ℕ) → In (add (g .units) x) b → Idle (g .nbr) r b
-    both = add-of {P = Idle (g .nbr) r} (g .units) x (record { own = li .own; near = li .near })
+    both : (b : ℕ) → In (add (g .units) x) b → Idle (g .neighbours) r b
+    both = add-of {P = Idle (g .neighbours) r} (g .units) x (record { own = li .own; near = li .near })
         (λ b h. record { own = omega (arith, l .closed .o1 .own b h, li .grows b); near = λ a. omega (arith, l .closed .o1 .near b h a, li .grows a) })
 
 -- a set that satisfies the rules, and in which a unit at y is idle, holds what is lit from y: where that holds what is lit from x, x is idle in it too
-pub lit-gives : {g : Grid} {s x y a b : ℕ} → Least g s → Lit (g .nbr) (g .zero) s x a → Lit (g .nbr) (g .zero) s y b → Sub a b
-    → (t : ℕ) → Closed g t → Idle (g .nbr) t y → Idle (g .nbr) t x
+pub lit-gives : {g : Grid} {s x y a b : ℕ} → ObservedSet g s → Lit (g .neighbours) (g .zeros) s x a → Lit (g .neighbours) (g .zeros) s y b → Sub a b
+    → (t : ℕ) → Closed g t → Idle (g .neighbours) t y → Idle (g .neighbours) t x
 lit-gives {g} {s} {x} {y} {a} {b} l lx ly sub t cl i = record { own = omega (arith, holds x, lx .own); near = λ c. omega (arith, holds c, lx .near c) }
   where
     holds : Sub a t
@@ -87,7 +87,7 @@ lit-all-by {nbr} {zeros} {s} {u} {v} {t} {r} st j sp = record {
 }
 
 -- what is lit satisfies the rules for the units that are there
-pub lit-all-closed : {g : Grid} {s u r : ℕ} → Closed g s → LitAll (g .nbr) (g .zero) s u r → Closed g r
+pub lit-all-closed : {g : Grid} {s u r : ℕ} → Closed g s → LitAll (g .neighbours) (g .zeros) s u r → Closed g r
 lit-all-closed {g} {s} {u} {r} cl l = record {
   o1 = record {
     own = λ b h. omega (arith, cl .o1 .own b h, l .grows b);

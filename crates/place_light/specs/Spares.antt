@@ -1,10 +1,10 @@
 -- Sites that are not needed.
 use Prim.Native.Nat.{ℕ}
 use Rattle.busset.specs.Sets.{Sub}
-use Rattle.rules.specs.Observation.{Least}
+use Rattle.rules.specs.Observation.{ObservedSet}
 use Rattle.rules.specs.Ways.{Whatever, Spared}
 
 -- r is some of the sites, and where s is observed the others are not needed for a cover of at most k
 pub record Spares (n : ℕ) (nbr : ℕ → ℕ) (zeros s sites k r : ℕ) : Type 0 where
   pub of : Sub r sites
-  pub spared : Whatever n nbr zeros (λ g. Least g s → Spared g sites k r)
+  pub spared : Whatever n nbr zeros (λ g. ObservedSet g s → Spared g sites k r)

@@ -1,6 +1,6 @@
 // Observed sets made from one another, and whether one has all buses.
 ghost use Prim.Native.Nat.{_≤_};
-ghost use Rattle.busset.specs.Deciding.{Decides};
+ghost use Rattle.basics.specs.Deciding.{Decides};
 ghost use Rattle.busset.specs.Sets.{Bus, width, setOf};
 ghost use Rattle.rules.specs.Placing.{Full};
 ghost use Rattle.grid.specs.Cases.{neighbours};

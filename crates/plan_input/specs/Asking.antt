@@ -10,16 +10,12 @@ use Rattle.text_field.specs.declared.Numeral.{Numeral}
 use Rattle.text_field.specs.declared.Numeral.the-variants.{Is, Wrong}
 use Rattle.refusals.specs.declared.Refusal.{Refusal}
 use Rattle.refusals.specs.declared.Refusal.the-variants.{TextTooLong, WrongForm}
-use Rattle.grid.specs.Cases.{mostBytes}
+use Rattle.grid.specs.Cases.{mostBudget, mostBytes}
 use Rattle.case_read.specs.Reading.{start, refused, readLines}
 use Rattle.case_read.specs.declared.CaseRead.{CaseRead}
 use Rattle.plan_input.specs.declared.Asked.{Asked}
 
--- the budget where the line says none, and the most
-abbrev pub mostBudget : ℕ
-mostBudget = 8
-
--- what follows the word `plan`
+-- what follows the word `plan`: nothing stands for the most
 unfoldable pub planFields : List (List ℕ) → Numeral
 planFields [] = Is mostBudget
 planFields (f ∷ []) = numberOf f
@@ -38,7 +34,7 @@ abbrev pub askedWith : Numeral → CaseRead → Asked
 askedWith (Is budget) read = record { budget = budget; read = read }
 askedWith Wrong read = unasked (WrongForm 1)
 
--- the first line, and the pieces after its line feed, which are the case text's lines from line 2 on; where there are none, its line feed is lacking
+-- the first line, and the pieces after its line feed, the case text's lines from line 2 on; if there are none, its line feed is missing
 unfoldable pub planLines : List ℕ → List (List ℕ) → Asked
 planLines l [] = unasked (WrongForm 1)
 planLines l (m ∷ ms) = askedWith (budgetOf l) (readLines start 2 m ms)

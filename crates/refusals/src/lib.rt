@@ -18,6 +18,12 @@ pub enum Refusal {
     NotJoined,
 }
 
+// What a call that writes bytes answers: how many it wrote, or a refusal.
+pub enum Written {
+    Bytes(usize),
+    Refused(Refusal),
+}
+
 pub fn number(r: Refusal) -> u32
     ensures { λ k. ⌜ k ≡ numberOf r ⌝ }
 {

@@ -8,7 +8,7 @@ use Rattle.busset.specs.Sets.{size, width}
 use Rattle.busset.proofs.Sizes.{size-most}
 use Rattle.step.specs.declared.Step.{Step}
 use Rattle.rules.specs.Steps.{Names}
-use Rattle.rules.specs.Weaving.{Each}
+use Rattle.basics.specs.Lists.{Each}
 use Rattle.rules.proofs.Leasts.{least-unique}
 use Rattle.rules.proofs.Lists.{finished-length}
 use Rattle.rules.proofs.Derivations.{derived-unique, derived-accepted}

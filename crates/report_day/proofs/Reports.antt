@@ -10,9 +10,9 @@ use Rattle.busset.proofs.Sizes.{size-most}
 use Rattle.busset.proofs.Words.{all-law}
 use Rattle.step.specs.declared.Step.{Step}
 use Rattle.rules.specs.Grids.{Grid, Proper}
-use Rattle.rules.specs.Observation.{Least}
+use Rattle.rules.specs.Observation.{ObservedSet}
 use Rattle.rules.specs.Steps.{Names, reached}
-use Rattle.rules.specs.Weaving.{Each}
+use Rattle.basics.specs.Lists.{Each}
 use Rattle.rules.specs.Derivation.{Derivation}
 use Rattle.rules.specs.Confirming.{UnconfirmedSet}
 use Rattle.rules.proofs.Reasons.{names-more}
@@ -39,7 +39,7 @@ use Rattle.report_day.specs.Listing.{Named}
 -- ---- the derivation
 
 -- the observed set has at most n buses
-pub observed-few : {g : Grid} {s : ℕ} → Proper g → Least g s → size s ≤ g .n
+pub observed-few : {g : Grid} {s : ℕ} → Proper g → ObservedSet g s → size s ≤ g .n
 observed-few {g} {s} v l = size-most (g .n) s (least-bus v (all-law (g .n)) l)
 
 each-more : {n m : ℕ} → n ≤ m → (xs : List Step) → Each (Names n) xs → Each (Names m) xs

@@ -9,7 +9,7 @@ use lib.Seq.{drop-cons, getD-take, length-take-le, append-snoc}
 use Rattle.busset.specs.Sets.{width}
 use Rattle.step.specs.declared.Step.{Step}
 use Rattle.rules.specs.Steps.{Names}
-use Rattle.rules.specs.Weaving.{Each}
+use Rattle.basics.specs.Lists.{Each}
 use Rattle.text_field.specs.Split.{join, bytes, lineFeed}
 use Rattle.text_field.specs.Number.{numberText}
 use Rattle.text_field.proofs.Digits.{text-length, text-two}
@@ -20,7 +20,7 @@ use Rattle.list_value.specs.declared.StepList.{StepList}
 use Rattle.list_value.proofs.Listing.{nth-in}
 use Rattle.text_put.specs.Put.{Put}
 use Rattle.report_lines.specs.Printing.{printed}
-use Rattle.report_lines.proofs.StepLines.{step-length}
+use Rattle.step_line.proofs.StepLines.{step-length}
 use Rattle.report_day.specs.Day.{stepsText, verdictFields}
 use Rattle.report_day.specs.Listing.{Named}
 

@@ -4,7 +4,7 @@ use mathlib.Core.List.{List, [], _∷_, _++_}
 use Prim.Native.Nat.{ℕ, zero, suc}
 use Rattle.busset.specs.Sets.{size}
 use Rattle.step.specs.declared.Step.{Step}
-use Rattle.rules.specs.Observation.{Least}
+use Rattle.rules.specs.Observation.{ObservedSet}
 use Rattle.rules.specs.Derivation.{Derivation}
 use Rattle.rules.specs.Confirming.{UnconfirmedSet}
 use Rattle.text_field.specs.Split.{bytes, lineFeed}
@@ -46,11 +46,11 @@ IsDay count n steps alone t = t ≡ dayText count n steps alone
 -- t is the report of the case c
 pub record DayReport (c : Case) (t : List ℕ) : Type 0 where
   pub observed : ℕ
-  pub least : Least (gridOf c) observed
+  pub least : ObservedSet (gridOf c) observed
   pub steps : List Step
   pub derived : Derivation (gridOf c) steps
   pub unconfirmed : ℕ
-  pub verdict : UnconfirmedSet (gridOf c .nbr) (gridOf c .units) unconfirmed
+  pub verdict : UnconfirmedSet (gridOf c .neighbours) (gridOf c .units) unconfirmed
   pub is : t ≡ dayText (size observed) (c .n) steps (size unconfirmed)
 
 -- by what reading says: the report of the case, or the refusal

@@ -4,7 +4,7 @@ use Prim.Native.Nat.{_≤_}
 use lib.ListN.{length}
 use Rattle.busset.specs.Sets.{width}
 use Rattle.rules.specs.Steps.{Names}
-use Rattle.rules.specs.Weaving.{Each}
+use Rattle.basics.specs.Lists.{Each}
 use Rattle.list_value.specs.Lists.{listed}
 use Rattle.list_value.specs.declared.StepList.{StepList}
 

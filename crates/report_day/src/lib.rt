@@ -3,7 +3,7 @@ ghost use Prim.Native.Nat.{_≤_};
 ghost use Rattle.busset.specs.Sets.{width};
 ghost use Rattle.grid.specs.Cases.{Valid};
 ghost use Rattle.list_value.specs.Lists.{listed};
-ghost use Rattle.report_lines.specs.Printing.{PrintedReply};
+ghost use Rattle.report_lines.specs.Printing.{Printed, PrintedReply};
 ghost use Rattle.report_day.specs.Day.{IsDay, DayReport, Day};
 ghost use Rattle.report_day.specs.Listing.{Named};
 
@@ -14,7 +14,7 @@ use grid::Case;
 use lines::put_day;
 use list_value::StepList;
 use refusals::Refusal;
-use text_put::Written;
+use refusals::Written;
 
 // The report of these steps, in the bytes lent.
 fn print_day(out: &mut [u8], n: usize, list: StepList, alone: usize) -> Written
@@ -53,5 +53,16 @@ pub fn day_report(text: &[u8], out: &mut [u8]) -> Written
             report(case, out)
         }
         ReadAnswer::Refused(q) => report_lines::print_refused(out, q),
+    }
+}
+
+// What the program prints, in the bytes that it lends, and its length: no report is longer than they are.
+pub fn program_report(text: &[u8], out: &mut [u8; 1024]) -> usize
+    ensures { λ k. ⌜ Printed (Day (now (text .entry))) (now (out .entry)) (now (out .exit)) k ⌝ }
+{
+    let r = day_report(text, out);
+    match r {
+        Written::Bytes(count) => count,
+        Written::Refused(_) => 0,
     }
 }

@@ -14,7 +14,9 @@ use list_value::StepList;
 // `observed count n`.
 fn put_observed(out: &mut [u8], count: usize, n: usize) -> usize
     requires { ⌜ (count ≤ width) × (n ≤ width) ⌝ }
-    ensures { λ k. ⌜ Put (now (out .entry)) 0 (printed (bytes "observed") (numberText count ∷ numberText n ∷ [])) (now (out .exit)) k ⌝ }
+    ensures { λ k. ⌜ Put (now (out .entry)) 0
+        (printed (bytes "observed") (numberText count ∷ numberText n ∷ []))
+        (now (out .exit)) k ⌝ }
 {
     text_put::put_pair(out, 0, b"observed\t", count, b"\t", n)
 }
@@ -26,7 +28,7 @@ fn put_steps(out: &mut [u8], at: usize, list: StepList) -> usize
 {
     let mut k = at;
     for i in 0..list.n {
-        k = report_lines::steps::put_step(out, k, list_value::nth(list, i));
+        k = step_line::put::put_step(out, k, list_value::nth(list, i));
     }
     k
 }

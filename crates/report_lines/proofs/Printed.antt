@@ -10,8 +10,8 @@ use Rattle.refusals.specs.Refusals.{numberOf, placeOf}
 use Rattle.refusals.specs.declared.Refusal.{Refusal}
 use Rattle.refusals.specs.declared.Refusal.the-variants.{NoRoom}
 use Rattle.refusals.proofs.Orders.{itself, refusal-unique}
-use Rattle.text_put.specs.declared.Written.{Written}
-use Rattle.text_put.specs.declared.Written.the-variants.{Bytes, Refused}
+use Rattle.refusals.specs.declared.Written.{Written}
+use Rattle.refusals.specs.declared.Written.the-variants.{Bytes, Refused}
 use Rattle.text_put.specs.Put.{Put}
 use Rattle.report_lines.specs.Printing.{refusedText, Printed, NotPrinted, PrintedReply}
 use Rattle.text_put.proofs.Whole.{put-whole, put-count}

@@ -7,8 +7,8 @@ use Rattle.text_field.specs.Split.{join, bytes, tab, lineFeed}
 use Rattle.text_field.specs.Number.{numberText}
 use Rattle.refusals.specs.Refusals.{numberOf, placeOf, Is}
 use Rattle.refusals.specs.declared.Refusal.{Refusal}
-use Rattle.text_put.specs.declared.Written.{Written}
-use Rattle.text_put.specs.declared.Written.the-variants.{Bytes, Refused}
+use Rattle.refusals.specs.declared.Written.{Written}
+use Rattle.refusals.specs.declared.Written.the-variants.{Bytes, Refused}
 
 -- ---- lines
 

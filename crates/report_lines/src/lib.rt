@@ -1,13 +1,10 @@
-// Lines that the programs print: of a refusal here, which both do, and of a step in `steps`.
+// What both programs print: the line of a refusal, and a text printed into the bytes lent.
 ghost use Prim.Native.Nat.{_<_, _^_};
 ghost use Rattle.refusals.specs.Refusals.{placeOf};
 ghost use Rattle.text_put.specs.Put.{Put};
 ghost use Rattle.report_lines.specs.Printing.{refusedText, RefusedText, PrintedReply};
-
-pub mod steps;
-
 use refusals::Refusal;
-use text_put::Written;
+use refusals::Written;
 
 // `refused number place`.
 pub fn put_refused(out: &mut [u8], at: usize, q: Refusal) -> usize

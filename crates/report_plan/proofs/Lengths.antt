@@ -17,7 +17,7 @@ use Rattle.case_line.specs.declared.Record.{Record}
 use Rattle.case_line.specs.declared.Record.the-variants.{Pmu}
 use Rattle.grid.specs.Cases.{Valid}
 use Rattle.grid.specs.declared.Case.{Case}
-use Rattle.case_read.specs.Writing.{has, members, linesText}
+use Rattle.case_line.specs.CaseText.{has, members, linesText}
 use Rattle.case_read.specs.declared.ReadAnswer.{ReadAnswer}
 use Rattle.case_read.specs.declared.ReadAnswer.the-variants.{Read, Refused}
 use Rattle.case_inverse.proofs.Counts.{members-few}

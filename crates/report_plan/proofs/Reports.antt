@@ -16,7 +16,7 @@ use Rattle.refusals.proofs.Orders.{itself}
 use Rattle.place_fewest.specs.Answers.{FewestIs}
 use Rattle.place_fewest.specs.declared.Found.{Found}
 use Rattle.place_fewest.specs.declared.Found.the-variants.{Sites, Nothing}
-use Rattle.case_read.specs.Writing.{members, linesText}
+use Rattle.case_line.specs.CaseText.{members, linesText}
 use Rattle.case_read.specs.declared.ReadAnswer.{ReadAnswer}
 use Rattle.plan_input.specs.Asking.{readPlan}
 use Rattle.plan_input.specs.declared.Asked.{Asked}

@@ -9,13 +9,13 @@ use Rattle.text_field.specs.Number.{numberText}
 use Rattle.case_line.specs.declared.Record.the-variants.{Pmu}
 use Rattle.grid.specs.declared.Case.{Case}
 use Rattle.refusals.specs.declared.Refusal.{Refusal}
-use Rattle.grid.specs.Cases.{gridOf}
+use Rattle.grid.specs.Cases.{mostBudget, gridOf}
 use Rattle.refusals.specs.Refusals.{Check, check, Passed, Failed}
-use Rattle.case_read.specs.Writing.{members, linesText}
+use Rattle.case_line.specs.CaseText.{members, linesText}
 use Rattle.case_read.specs.declared.ReadAnswer.{ReadAnswer}
 use Rattle.case_read.specs.declared.ReadAnswer.the-variants.{Read, Refused}
 use Rattle.report_lines.specs.Printing.{printed, RefusedText}
-use Rattle.plan_input.specs.Asking.{mostBudget, readPlan}
+use Rattle.plan_input.specs.Asking.{readPlan}
 
 -- the budget is at most 8, or 10 at line 1; some addition within it covers, or 11
 abbrev pub planChecks : Case → ℕ → List Check
@@ -23,7 +23,8 @@ planChecks c budget = check (budget ≤ mostBudget) 10 1 ∷ check (SomePlan (gr
 
 -- `fewest count`, one `pmu` line for each added site, and `end`
 abbrev pub planText : ℕ → ℕ → List ℕ
-planText n sites = printed (bytes "fewest") (numberText (size sites) ∷ []) ++ (linesText (members Pmu sites 1 n) ++ printed (bytes "end") [])
+planText n sites =
+    printed (bytes "fewest") (numberText (size sites) ∷ []) ++ (linesText (members Pmu sites 1 n) ++ printed (bytes "end") [])
 
 -- t is that text
 abbrev pub PlanText : ℕ → ℕ → List ℕ → Type 0

@@ -1,6 +1,6 @@
 // The planning program's reply to an input.
 ghost use Rattle.grid.specs.Cases.{Valid};
-ghost use Rattle.report_lines.specs.Printing.{PrintedReply};
+ghost use Rattle.report_lines.specs.Printing.{Printed, PrintedReply};
 ghost use Rattle.report_plan.specs.Plan.{PlanReport, Plan};
 
 mod printing;
@@ -10,8 +10,8 @@ use grid::Case;
 use place_fewest::Found;
 use place_fewest::fewest;
 use refusals::Refusal;
+use refusals::Written;
 use report_lines::print_refused;
-use text_put::Written;
 
 // The fewest of a case within the budget, or the line of the refusal.
 fn report(case: Case, budget: usize, out: &mut [u8]) -> Written
@@ -43,5 +43,16 @@ pub fn plan_report(input: &[u8], out: &mut [u8]) -> Written
             report(case, asked.budget, out)
         }
         ReadAnswer::Refused(q) => print_refused(out, q),
+    }
+}
+
+// What the program prints, in the bytes that it lends, and its length: no report is longer than they are.
+pub fn program_report(input: &[u8], out: &mut [u8; 69]) -> usize
+    ensures { λ k. ⌜ Printed (Plan (now (input .entry))) (now (out .entry)) (now (out .exit)) k ⌝ }
+{
+    let r = plan_report(input, out);
+    match r {
+        Written::Bytes(count) => count,
+        Written::Refused(_) => 0,
     }
 }

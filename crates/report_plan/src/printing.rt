@@ -6,7 +6,7 @@ ghost use Rattle.report_lines.specs.Printing.{PrintedReply};
 ghost use Rattle.report_plan.specs.Plan.{planText, PlanText};
 use busset::BusSet;
 use refusals::Refusal;
-use text_put::Written;
+use refusals::Written;
 
 // `fewest count`, one `pmu` line for each site, and `end`, from the first byte on.
 fn put_plan(out: &mut [u8], n: usize, sites: BusSet) -> usize

@@ -1,64 +1,33 @@
--- Blocking sets: a bus is unobserved exactly when one holds it; each takes a site of its own from every cover, so that groups of sites bound the covers from below.
+-- Covers: units that are idle in a set, groups of sites that bound every cover from below, and one site in a cover or out of it.
 use mathlib.Core.Path.{_≡_, ap, _∙_, subst⁻¹}
 use mathlib.Core.Logic.{⊎-elim}
 use mathlib.Core.List.{List, [], _∷_}
 use Prim.Native.Nat.{ℕ, suc, _+_, _-_, _≤_, _<_, zero-le}
 use native.Mathlib.Omega.{arith}
 use lib.ListN.{length}
-use Rattle.busset.specs.Sets.{Bus, bit, In, Out, Sub, Within, All, empty, add, lack, less, meet, size, Union}
-use Rattle.busset.proofs.Tests.{below-or, same-or}
+use Rattle.busset.specs.Sets.{bit, In, Out, Sub, empty, add, less, meet, size, Union}
+use Rattle.basics.proofs.Tests.{below-or, same-or}
 use Rattle.busset.proofs.Digits.{bit-zero}
-use Rattle.busset.proofs.Members.{in-or, out-of, sub-of, lack-at, less-there, meet-at, add-here, add-grows, add-again}
+use Rattle.busset.proofs.Members.{in-or, sub-of, less-there, meet-at, add-here, add-grows, add-again}
 use Rattle.busset.proofs.Sizes.{size-empty, size-le, size-same, size-add, size-less}
-use Rattle.rules.specs.Grids.{Grid, Proper}
-use Rattle.rules.specs.Observation.{Closed, Least}
-use Rattle.rules.specs.Placing.{at, Full, placed}
+use Rattle.rules.specs.Grids.{Grid}
+use Rattle.rules.specs.Observation.{Closed}
+use Rattle.rules.specs.Placing.{withUnits, Full, placed}
 use Rattle.rules.specs.Ways.{Way, NoWay, Cover, NoCover, Spared}
-use Rattle.rules.specs.Blocking.{Misses, Blocking, Idle, Group}
+use Rattle.rules.specs.Blocking.{Idle, Group}
 use Rattle.rules.proofs.Covering.{closed-fewer, placed-of, placed-max}
-
--- ---- a bus is unobserved exactly when a blocking set holds it
-
-module _ {g : Grid} {a : ℕ} (all : All (g .n) a) where
-  -- what a set that satisfies the rules lacks is a blocking set
-  pub closed-blocks : (v : Proper g) {s : ℕ} → Closed g s → Blocking g (lack a s)
-  closed-blocks v {s} cl = record {
-    units = λ x u. record { own = omega (arith, lack-at a s x, cl .o1 .own x u); near = λ b j. omega (arith, lack-at a s b, cl .o1 .near x u b) };
-    edge = λ w b z o j d others. let seen = cl .o2 w z (has w (v .zeros w z) o) b j (λ c k ne. has c (v .lines w c k .to) (others c k ne)) in omega (arith, lack-at a s b);
-  }
-    where
-      has : (b : ℕ) → Bus (g .n) b → Out (lack a s) b → In s b
-      has b bus o = ⊎-elim (λ (p : In s b). p) (λ (p : Out s b). absurd (omega (arith, lack-at a s b, all .has b bus))) (in-or s b)
-
-  -- and what a blocking set leaves satisfies the rules
-  pub blocks-closed : (v : Proper g) {d : ℕ} → Blocking g d → Closed g (lack a d)
-  blocks-closed v {d} bl = record {
-    o1 = record {
-      own = λ b u. omega (arith, lack-at a d b, all .has b (v .units b u), bl .units b u .own);
-      near = λ x u. sub-of (g .nbr x) (lack a d) (λ b j. omega (arith, lack-at a d b, all .has b (v .lines x b j .to), bl .units x u .near b j));
-    };
-    o2 = λ w z o b j rest. ⊎-elim
-        (λ (p : In d b). absurd (bl .edge w b z (omega (arith, lack-at a d w)) j p (λ c k ne. let h = rest c k ne in omega (arith, lack-at a d c))))
-        (λ (p : Out d b). omega (arith, lack-at a d b, all .has b (v .lines w b j .to)))
-        (in-or d b);
-  }
-
-  -- so a bus of a blocking set is not observed, and the unobserved buses are a blocking set
-  pub blocked-unobserved : (v : Proper g) {s d : ℕ} → Least g s → Blocking g d → (b : ℕ) → In d b → Out s b
-  blocked-unobserved v {s} {d} l bl b h =
-      out-of s b (λ p. omega (arith, l .least (lack a d) (blocks-closed v bl) b, lack-at a d b))
 
 -- ---- idle units
 
 -- units that are placed are idle in a set that satisfies the rules for them
-pub closed-idle : {g : Grid} {c x : ℕ} → Closed g c → In (g .units) x → Idle (g .nbr) c x
+pub closed-idle : {g : Grid} {c x : ℕ} → Closed g c → In (g .units) x → Idle (g .neighbours) c x
 closed-idle {g} {c} {x} cl h = record { own = cl .o1 .own x h; near = cl .o1 .near x h }
 
 idle-more : {nbr : ℕ → ℕ} {c d x : ℕ} → Sub c d → Idle nbr c x → Idle nbr d x
 idle-more {nbr} {c} {d} {x} sub i = record { own = omega (arith, sub x, i .own); near = λ b. omega (arith, sub b, i .near b) }
 
 -- every cover has a site from which a unit observes directly some bus that c lacks
-pub cover-not-idle : {g : Grid} {sites k v c : ℕ} → Cover g sites k v → Closed g c → (Full (g .n) c → ⊥) → ((x : ℕ) → In v x → Idle (g .nbr) c x) → ⊥
+pub cover-not-idle : {g : Grid} {sites k v c : ℕ} → Cover g sites k v → Closed g c → (Full (g .n) c → ⊥) → ((x : ℕ) → In v x → Idle (g .neighbours) c x) → ⊥
 cover-not-idle {c = c} v cl lacks idle = lacks (v .full c cl idle)
 
 -- ---- ways are covers
@@ -78,7 +47,7 @@ way-cover {g} {sites} {k} {xs} w = record {
   full = λ s cl idle. w .covers s (record { o1 = record { own = λ b h. all s cl idle b h .own; near = λ b h. all s cl idle b h .near }; o2 = cl .o2 });
 }
   where
-    all : (s : ℕ) → Closed g s → ((x : ℕ) → In (placed empty xs) x → Idle (g .nbr) s x) → (b : ℕ) → In (placed (g .units) xs) b → Idle (g .nbr) s b
+    all : (s : ℕ) → Closed g s → ((x : ℕ) → In (placed empty xs) x → Idle (g .neighbours) s x) → (b : ℕ) → In (placed (g .units) xs) b → Idle (g .neighbours) s b
     all s cl idle b h =
         ⊎-elim (λ (p : In (g .units) b). closed-idle cl p) (λ (p : Out (g .units) b). idle b (omega (arith, placed-max xs (g .units) b))) (in-or (g .units) b)
 
@@ -90,7 +59,7 @@ no-cover-way n xs w = n (placed empty xs) (way-cover w)
 -- q is the sites of m groups: every cover has at least m sites in it, and all of them are idle in lit, which satisfies the rules
 pub record Grouped (g : Grid) (sites q lit m : ℕ) : Type 0 where
   pub closed : Closed g lit
-  pub idle : (x : ℕ) → In q x → Idle (g .nbr) lit x
+  pub idle : (x : ℕ) → In q x → Idle (g .neighbours) lit x
   pub least : (k v : ℕ) → Cover g sites k v → m ≤ size (meet q v)
 
 pub grouped-none : {g : Grid} {q lit : ℕ} (sites : ℕ) → q ≡ empty → Closed g lit → Grouped g sites q lit 0
@@ -102,7 +71,7 @@ grouped-none {g} {q} sites e cl = record {
 
 -- a set that satisfies the rules, holds lit and lacks a bus takes one site more of every cover from those that are not idle in it
 module _ {g : Grid} {sites q lit m c group r : ℕ} (gr : Grouped g sites q lit m) (cl : Closed g c) (holds : Sub lit c) (lacks : Full (g .n) c → ⊥)
-    (d : Group (g .nbr) sites c group) (u : Union q group r) where
+    (d : Group (g .neighbours) sites c group) (u : Union q group r) where
   one-more : (k v : ℕ) → Cover g sites k v → size (meet q v) < size (meet r v)
   one-more k v w =
       ⊎-elim (λ (l : size (meet q v) < size (meet r v)). l)
@@ -112,14 +81,14 @@ module _ {g : Grid} {sites q lit m c group r : ℕ} (gr : Grouped g sites q lit 
       grows : Sub (meet q v) (meet r v)
       grows b = omega (arith, meet-at q v b, meet-at r v b, u .at b)
 
-      idle : meet q v ≡ meet r v → (x : ℕ) → In v x → Idle (g .nbr) c x
+      idle : meet q v ≡ meet r v → (x : ℕ) → In v x → Idle (g .neighbours) c x
       idle e x h =
           ⊎-elim
           (λ (p : In q x). idle-more holds (gr .idle x p))
           (λ (p : Out q x). d .rest x (omega (arith, w .of x)) (omega (arith, meet-at q v x, meet-at r v x, ap (λ (s : ℕ). bit s x) e, u .at x)))
           (in-or q x)
 
-  pub grouped-more : {lit′ : ℕ} → Closed g lit′ → Sub lit lit′ → ((x : ℕ) → In group x → Idle (g .nbr) lit′ x) → Grouped g sites r lit′ (m + 1)
+  pub grouped-more : {lit′ : ℕ} → Closed g lit′ → Sub lit lit′ → ((x : ℕ) → In group x → Idle (g .neighbours) lit′ x) → Grouped g sites r lit′ (m + 1)
   grouped-more {lit′} cl′ grows idle = record {
     closed = cl′;
     idle = λ x h. ⊎-elim (λ (p : In q x). idle-more grows (gr .idle x p)) (λ (p : Out q x). idle x (omega (arith, u .at x))) (in-or q x);
@@ -150,39 +119,26 @@ grouped-lacks gr lacks v w = cover-not-idle w (gr .closed) lacks (λ x h. gr .id
 -- ---- one site, in a cover or not
 
 -- a cover that has x is, without it, a cover of what is left to place once x has a unit
-pub cover-less : {g : Grid} {sites rest k v : ℕ} (x : ℕ) → Cover g sites k v → In v x → Sub (less v x) rest → 0 < k → Cover (at g (add (g .units) x)) rest (k - 1) (less v x)
+pub cover-less : {g : Grid} {sites rest k v : ℕ} (x : ℕ) → Cover g sites k v → In v x → Sub (less v x) rest → 0 < k → Cover (withUnits g (add (g .units) x)) rest (k - 1) (less v x)
 cover-less {g} {sites} {rest} {k} {v} x w h sub p = record {
   of = sub;
   few = omega (arith, size-less v x h, w .few);
   full = λ s cl idle. w .full s (closed-fewer g (add-grows (g .units) x) cl)
       (λ y i. ⊎-elim
-      (λ (e : y ≡ x). subst⁻¹ (Idle (g .nbr) s) e (record { own = cl .o1 .own x (add-here (g .units) x); near = cl .o1 .near x (add-here (g .units) x) }))
+      (λ (e : y ≡ x). subst⁻¹ (Idle (g .neighbours) s) e (record { own = cl .o1 .own x (add-here (g .units) x); near = cl .o1 .near x (add-here (g .units) x) }))
       (λ (ne : y ≡ x → ⊥). idle y (less-there v x y ne ∙ i))
       (same-or y x));
 }
 
 -- x may give way to y, where a unit at y leaves nothing to one at x
 pub cover-other : {g : Grid} {sites rest k v : ℕ} (x y : ℕ) → Cover g sites k v → In v x → Sub (add (less v x) y) rest
-    → ((s : ℕ) → Closed g s → Idle (g .nbr) s y → Idle (g .nbr) s x) → Cover g rest k (add (less v x) y)
+    → ((s : ℕ) → Closed g s → Idle (g .neighbours) s y → Idle (g .neighbours) s x) → Cover g rest k (add (less v x) y)
 cover-other {g} {sites} {rest} {k} {v} x y w h sub gives = record {
   of = sub;
   few = omega (arith, size-less v x h, w .few, size-add-most (less v x) y);
   full = λ s cl idle. w .full s cl
       (λ z i. ⊎-elim
-      (λ (e : z ≡ x). subst⁻¹ (Idle (g .nbr) s) e (gives s cl (idle y (add-here (less v x) y))))
+      (λ (e : z ≡ x). subst⁻¹ (Idle (g .neighbours) s) e (gives s cl (idle y (add-here (less v x) y))))
       (λ (ne : z ≡ x → ⊥). idle z (omega (arith, add-grows (less v x) y z, less-there v x z ne)))
       (same-or z x));
 }
-
--- ---- every cover has a unit that observes directly some bus of a blocking set
-
-pub cover-meets : {g : Grid} {a d sites k v b : ℕ} → Proper g → All (g .n) a → Blocking g d → Bus (g .n) b → In d b → Cover g sites k v → Within (g .n) sites
-    → ((x : ℕ) → In v x → Misses (g .nbr) d x) → ⊥
-cover-meets {g} {a} {d} {sites} {k} {v} {b} p all bl bus h c within misses =
-    cover-not-idle c (blocks-closed all p bl) (λ full. omega (arith, full b bus, lack-at a d b)) idle
-  where
-    idle : (x : ℕ) → In v x → Idle (g .nbr) (lack a d) x
-    idle x i = record {
-      own = omega (arith, lack-at a d x, all .has x (within x (let sub = c .of x in omega arith)), misses x i .own);
-      near = sub-of (g .nbr x) (lack a d) (λ y j. omega (arith, lack-at a d y, all .has y (p .lines x y j .to), misses x i .near y j));
-    }

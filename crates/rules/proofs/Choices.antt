@@ -5,10 +5,10 @@ use mathlib.Core.List.{List, [], _∷_}
 use Prim.Native.Nat.{ℕ, zero, suc, _≤_, _<_}
 use native.Mathlib.Omega.{arith}
 use Rattle.busset.specs.Sets.{add}
-use Rattle.busset.proofs.Tests.{below-or}
+use Rattle.basics.proofs.Tests.{below-or}
 use Rattle.busset.proofs.Members.{sub-of, sub-antisym}
 use Rattle.rules.specs.Grids.{Grid}
-use Rattle.rules.specs.Placing.{at}
+use Rattle.rules.specs.Placing.{withUnits}
 use Rattle.rules.specs.Choosing.{Best, NoneAdds, Greedy}
 use Rattle.rules.specs.Confirming.{UnconfirmedSet}
 
@@ -40,4 +40,4 @@ greedy-unique g (suc k) (x ∷ xs) [] p q = absurd (best-adds (p .0) q)
 greedy-unique g (suc k) (x ∷ xs) (y ∷ ys) p q =
     let e = best-unique (p .0) (q .0) in
     ap₂ (λ (z : ℕ) (zs : List ℕ). z ∷ zs) e
-    (greedy-unique (at g (add (g .units) x)) k xs ys (p .1) (subst⁻¹ (λ (z : ℕ). Greedy (at g (add (g .units) z)) k ys) e (q .1)))
+    (greedy-unique (withUnits g (add (g .units) x)) k xs ys (p .1) (subst⁻¹ (λ (z : ℕ). Greedy (withUnits g (add (g .units) z)) k ys) e (q .1)))

@@ -7,27 +7,23 @@ use Rattle.busset.specs.Sets.{bit, In, Sub, empty, add}
 use Rattle.busset.proofs.Digits.{bit-or, bit-zero, ext}
 use Rattle.busset.proofs.Members.{add-of}
 use Rattle.rules.specs.Grids.{Grid}
-use Rattle.rules.specs.Observation.{Closed, Least}
-use Rattle.rules.specs.Placing.{at, Full, Covers, Rising, placed}
+use Rattle.rules.specs.Observation.{Closed, ObservedSet}
+use Rattle.rules.specs.Placing.{withUnits, Full, Covers, Rising, placed}
 
 -- ---- more units
 
 -- a set that satisfies the rules for more units satisfies them for fewer
-pub closed-fewer : (g : Grid) {u v s : ℕ} → Sub u v → Closed (at g v) s → Closed (at g u) s
+pub closed-fewer : (g : Grid) {u v s : ℕ} → Sub u v → Closed (withUnits g v) s → Closed (withUnits g u) s
 closed-fewer g {u} {v} {s} sub cl = record {
   o1 = record { own = λ b h. cl .o1 .own b (omega (arith, sub b)); near = λ b h. cl .o1 .near b (omega (arith, sub b)) };
   o2 = cl .o2;
 }
 
--- more units never observe less
-pub covers-more : (g : Grid) {u v : ℕ} → Sub u v → Covers g u → Covers g v
-covers-more g sub c s cl = c s (closed-fewer g sub cl)
-
 -- units cover exactly when the observed set has all buses
-pub covers-full : (g : Grid) {u s : ℕ} → Least (at g u) s → Covers g u → Full (g .n) s
+pub covers-full : (g : Grid) {u s : ℕ} → ObservedSet (withUnits g u) s → Covers g u → Full (g .n) s
 covers-full g {u} {s} l c = c s (l .closed)
 
-pub full-covers : (g : Grid) {u s : ℕ} → Least (at g u) s → Full (g .n) s → Covers g u
+pub full-covers : (g : Grid) {u s : ℕ} → ObservedSet (withUnits g u) s → Full (g .n) s → Covers g u
 full-covers g l full t cl b bus = omega (arith, l .least t cl b, full b bus)
 
 -- ---- rising lists

@@ -9,7 +9,7 @@ use Rattle.step.specs.declared.Reason.{Reason}
 use Rattle.step.specs.declared.Reason.the-variants.{OwnUnit, NeighbourOf, ZeroInjection}
 use Rattle.step.specs.declared.Step.{Step}
 use Rattle.rules.specs.Grids.{Grid}
-use Rattle.rules.specs.Observation.{Least}
+use Rattle.rules.specs.Observation.{ObservedSet}
 use Rattle.rules.specs.Steps.{reachedFrom, AcceptedFrom, reached, Finished}
 use Rattle.rules.specs.Derivation.{TakenFirst, NextIs, DerivedFrom, finished, next, Derivation}
 use Rattle.rules.proofs.Lists.{finished-least, accepted-length}
@@ -51,7 +51,7 @@ derived-accepted (finished f) = (tt, f)
 derived-accepted (next n d) = let r = derived-accepted d in ((n .allowed, r .0), r .1)
 
 -- demand 2 of the derivation
-pub derivation-least : (g : Grid) (xs : List Step) → Derivation g xs → Least g (reached xs)
+pub derivation-least : (g : Grid) (xs : List Step) → Derivation g xs → ObservedSet g (reached xs)
 derivation-least g xs d = let r = derived-accepted d in finished-least g xs (r .0) (r .1)
 
 pub derivation-length : (g : Grid) (xs : List Step) → Derivation g xs → length xs ≡ size (reached xs)

@@ -9,7 +9,7 @@ use lib.Dec.{le→leb}
 use lib.IntN.{ℤ, pos, negℤ, _+ℤ_, _-ℤ_, +ℤ-assoc, +ℤ-comm, +ℤ-idl, +ℤ-invr, negℤ-+ℤ, pos-+ℤ-pos}
 use lib.Signed.{_≤ℤ_}
 use Rattle.busset.specs.Sets.{Bus, bit, In, Out, Within, add, size, less, meet, lack}
-use Rattle.busset.proofs.Tests.{same-or}
+use Rattle.basics.proofs.Tests.{same-or}
 use Rattle.busset.proofs.Members.{in-or, out-of, add-of, add-there, less-here, less-there, lack-at, meet-at, empty-of}
 use Rattle.busset.proofs.Sizes.{size-empty, size-less, size-parts, size-most, size-some, size-add}
 use Rattle.rules.specs.Grids.{Grid, Line, Proper}
@@ -86,36 +86,36 @@ runs-told k l (one e) = runs-one k
 runs-told k l (minus m h) = runs-minus k m (omega arith)
 
 -- the other neighbours are buses other than i and j
-other-neighbours : (g : Grid) (k s i j : ℕ) → Proper g → g .n ≤ k + 2 → In (g .nbr i) j → unknown (g .nbr) s i j ≤ k
+other-neighbours : (g : Grid) (k s i j : ℕ) → Proper g → g .n ≤ k + 2 → In (g .neighbours i) j → unknown (g .neighbours) s i j ≤ k
 other-neighbours g k s i j v most joined =
-    let u = lack (less (g .nbr i) j) s in
+    let u = lack (less (g .neighbours i) j) s in
     omega (arith, size-add u i no-i, size-add (add u i) j no-j, size-most (g .n) (add (add u i) j) within)
   where
-    line : Line (g .n) (g .nbr) i j
+    line : Line (g .n) (g .neighbours) i j
     line = v .lines i j joined
 
-    neighbour : (b : ℕ) → In (lack (less (g .nbr i) j) s) b → In (g .nbr i) b × (b ≡ j → ⊥)
+    neighbour : (b : ℕ) → In (lack (less (g .neighbours i) j) s) b → In (g .neighbours i) b × (b ≡ j → ⊥)
     neighbour b h =
-        let m : In (less (g .nbr i) j) b = omega (arith, lack-at (less (g .nbr i) j) s b) in
-        let ne : b ≡ j → ⊥ = λ e. let o : Out (less (g .nbr i) j) b = subst⁻¹ (Out (less (g .nbr i) j)) e (less-here (g .nbr i) j) in omega arith in
-        (omega (arith, less-there (g .nbr i) j b ne), ne)
+        let m : In (less (g .neighbours i) j) b = omega (arith, lack-at (less (g .neighbours i) j) s b) in
+        let ne : b ≡ j → ⊥ = λ e. let o : Out (less (g .neighbours i) j) b = subst⁻¹ (Out (less (g .neighbours i) j)) e (less-here (g .neighbours i) j) in omega arith in
+        (omega (arith, less-there (g .neighbours i) j b ne), ne)
 
-    no-i : Out (lack (less (g .nbr i) j) s) i
-    no-i = out-of (lack (less (g .nbr i) j) s) i (λ h. v .lines i i (neighbour i h .0) .differ refl)
+    no-i : Out (lack (less (g .neighbours i) j) s) i
+    no-i = out-of (lack (less (g .neighbours i) j) s) i (λ h. v .lines i i (neighbour i h .0) .differ refl)
 
-    no-j : Out (add (lack (less (g .nbr i) j) s) i) j
+    no-j : Out (add (lack (less (g .neighbours i) j) s) i) j
     no-j =
-        omega (arith, add-there (lack (less (g .nbr i) j) s) i j (λ e. line .differ (sym e)), lack-at (less (g .nbr i) j) s j, less-here (g .nbr i) j)
+        omega (arith, add-there (lack (less (g .neighbours i) j) s) i j (λ e. line .differ (sym e)), lack-at (less (g .neighbours i) j) s j, less-here (g .neighbours i) j)
 
-    within : Within (g .n) (add (add (lack (less (g .nbr i) j) s) i) j)
+    within : Within (g .n) (add (add (lack (less (g .neighbours i) j) s) i) j)
     within =
-        add-of {P = Bus (g .n)} (add (lack (less (g .nbr i) j) s) i) j (line .to)
-        (add-of {P = Bus (g .n)} (lack (less (g .nbr i) j) s) i (line .from) (λ b h. v .lines i b (neighbour b h .0) .to))
+        add-of {P = Bus (g .n)} (add (lack (less (g .neighbours i) j) s) i) j (line .to)
+        (add-of {P = Bus (g .n)} (lack (less (g .neighbours i) j) s) i (line .from) (λ b h. v .lines i b (neighbour b h .0) .to))
 
-pub figure-runs : (g : Grid) (k s i j : ℕ) → Proper g → g .n ≤ k + 2 → In (g .nbr i) j → Runs k (figure (g .nbr) s i j)
+pub figure-runs : (g : Grid) (k s i j : ℕ) → Proper g → g .n ≤ k + 2 → In (g .neighbours i) j → Runs k (figure (g .neighbours) s i j)
 figure-runs g k s i j v most joined =
-    subst⁻¹ (Runs k) (figure-is (g .nbr) s i j joined)
-    (runs-told k (other-neighbours g k s i j v most joined) (told (bit s i) (unknown (g .nbr) s i j) (omega arith)))
+    subst⁻¹ (Runs k) (figure-is (g .neighbours) s i j joined)
+    (runs-told k (other-neighbours g k s i j v most joined) (told (bit s i) (unknown (g .neighbours) s i j) (omega arith)))
 
 -- ---- when it is 1
 

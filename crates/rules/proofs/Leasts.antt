@@ -6,13 +6,13 @@ use Rattle.busset.specs.Sets.{Bus, bit, In, All, empty}
 use Rattle.busset.proofs.Digits.{bit-zero}
 use Rattle.busset.proofs.Members.{sub-of, sub-antisym, empty-sub}
 use Rattle.rules.specs.Grids.{Grid, Proper}
-use Rattle.rules.specs.Observation.{Closed, Least}
+use Rattle.rules.specs.Observation.{Closed, ObservedSet}
 
-pub least-unique : (g : Grid) (s t : ℕ) → Least g s → Least g t → s ≡ t
+pub least-unique : (g : Grid) (s t : ℕ) → ObservedSet g s → ObservedSet g t → s ≡ t
 least-unique g s t p q = sub-antisym s t (p .least t (q .closed)) (q .least s (p .closed))
 
 -- with no units the observed set is empty
-pub least-empty : (g : Grid) → g .units ≡ empty → Least g empty
+pub least-empty : (g : Grid) → g .units ≡ empty → ObservedSet g empty
 least-empty g e = record {
   closed = record {
     o1 = record { own = λ b h. absurd (bare b h); near = λ b h. absurd (bare b h) };
@@ -27,10 +27,10 @@ least-empty g e = record {
 -- the buses of the grid satisfy both rules
 pub all-closed : {g : Grid} {a : ℕ} → Proper g → All (g .n) a → Closed g a
 all-closed {g} {a} v all = record {
-  o1 = record { own = λ b h. all .has b (v .units b h); near = λ b h. sub-of (g .nbr b) a (λ c j. all .has c (v .lines b c j .to)) };
+  o1 = record { own = λ b h. all .has b (v .units b h); near = λ b h. sub-of (g .neighbours b) a (λ c j. all .has c (v .lines b c j .to)) };
   o2 = λ w z o b j rest. all .has b (v .lines w b j .to);
 }
 
 -- so the observed set has buses of the grid alone
-pub least-bus : {g : Grid} {a s : ℕ} → Proper g → All (g .n) a → Least g s → (b : ℕ) → In s b → Bus (g .n) b
+pub least-bus : {g : Grid} {a s : ℕ} → Proper g → All (g .n) a → ObservedSet g s → (b : ℕ) → In s b → Bus (g .n) b
 least-bus {g} {a} v all l b h = all .only b (omega (arith, l .least a (all-closed v all) b))

@@ -10,5 +10,3 @@ pub mod Ordering
 pub mod Searching
 pub mod Blocks
 pub mod Choices
-pub mod Tests
-pub mod Sought

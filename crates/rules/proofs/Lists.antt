@@ -10,9 +10,9 @@ use Rattle.busset.proofs.Members.{in-or, empty-sub, add-sub, add-grows}
 use Rattle.busset.proofs.Sizes.{size-add, size-empty}
 use Rattle.step.specs.declared.Step.{Step}
 use Rattle.rules.specs.Grids.{Grid, Proper}
-use Rattle.rules.specs.Observation.{Closed, Least}
+use Rattle.rules.specs.Observation.{Closed, ObservedSet}
 use Rattle.rules.specs.Steps.{Names, reachedFrom, AcceptedFrom, reached, Accepted, Finished}
-use Rattle.rules.specs.Weaving.{Each}
+use Rattle.basics.specs.Lists.{Each}
 use Rattle.rules.proofs.Reasons.{holds-more, closed-reasoned, reasoned-closed, allowed-names}
 use Rattle.rules.proofs.Leasts.{least-unique}
 
@@ -49,7 +49,7 @@ pub closed-finished : (g : Grid) (s : ℕ) → Closed g s → Finished g s
 closed-finished g s cl x a = omega (arith, a .new, closed-reasoned g s cl (x .bus) (x .reason) (a .holds))
 
 -- a finished accepted list reaches the observed set
-pub finished-least : (g : Grid) (xs : List Step) → Accepted g xs → Finished g (reached xs) → Least g (reached xs)
+pub finished-least : (g : Grid) (xs : List Step) → Accepted g xs → Finished g (reached xs) → ObservedSet g (reached xs)
 finished-least g xs p f = record { closed = finished-closed g (reached xs) f; least = λ t cl. accepted-inside g t xs cl p }
 
 -- ---- counts
@@ -63,5 +63,5 @@ pub accepted-length : (g : Grid) (xs : List Step) → Accepted g xs → length x
 accepted-length g xs p = omega (arith, steps-reached g empty xs p, size-empty)
 
 -- a finished list has as many steps as the observed set has buses
-pub finished-length : (g : Grid) (xs : List Step) (s : ℕ) → Accepted g xs → Finished g (reached xs) → Least g s → length xs ≡ size s
+pub finished-length : (g : Grid) (xs : List Step) (s : ℕ) → Accepted g xs → Finished g (reached xs) → ObservedSet g s → length xs ≡ size s
 finished-length g xs s p f l = accepted-length g xs p ∙ ap size (least-unique g (reached xs) s (finished-least g xs p f) l)

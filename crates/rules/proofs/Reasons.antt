@@ -31,7 +31,7 @@ pub reasoned-closed : (g : Grid) (s : ℕ) → HasReasoned g s → Closed g s
 reasoned-closed g s has = record {
   o1 = record {
     own = λ b h. has b OwnUnit h;
-    near = λ p h. sub-of (g .nbr p) s (λ b j. has b (NeighbourOf p) (record { unit = h; joined = j }));
+    near = λ p h. sub-of (g .neighbours p) s (λ b j. has b (NeighbourOf p) (record { unit = h; joined = j }));
   };
   o2 = λ w z o b j rest. has b (ZeroInjection w) (record { class = z; observed = o; joined = j; others = rest });
 }

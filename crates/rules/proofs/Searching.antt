@@ -7,11 +7,11 @@ use native.Mathlib.Omega.{arith}
 use native.Mathlib.Nat.{le-refl}
 use lib.ListN.{length}
 use Rattle.busset.specs.Sets.{bit, In, Sub, empty, add, Lowest, Without, Minus}
-use Rattle.busset.proofs.Tests.{same-or, below-or}
+use Rattle.basics.proofs.Tests.{same-or, below-or}
 use Rattle.busset.proofs.Digits.{bit-zero}
 use Rattle.busset.proofs.Members.{without-sub}
 use Rattle.rules.specs.Grids.{Grid}
-use Rattle.rules.specs.Placing.{at, Covers, Rising, Plan, Before, Earlier, Fewest, SomePlan}
+use Rattle.rules.specs.Placing.{withUnits, Covers, Rising, Plan, Before, Earlier, Fewest, SomePlan}
 use Rattle.rules.specs.Ways.{Way, NoWay, FirstWay}
 use Rattle.rules.proofs.Covering.{rising-to, rising-above, placed-last}
 
@@ -82,14 +82,14 @@ module _ {n sites x rest : ℕ} (low : Lowest n sites x) (w : Without sites x re
 
   module _ {g : Grid} {k : ℕ} where
     -- a way that begins with x is a way of the sites above it once x has a unit, and the other way round
-    way-rest : {xs : List ℕ} → Way g sites k (x ∷ xs) → Way (at g (add (g .units) x)) rest (k - 1) xs
+    way-rest : {xs : List ℕ} → Way g sites k (x ∷ xs) → Way (withUnits g (add (g .units) x)) rest (k - 1) xs
     way-rest {xs} v = record { rising = later xs (v .rising .2); many = omega (arith, v .many); covers = v .covers }
 
-    way-with : {xs : List ℕ} → 0 < k → Way (at g (add (g .units) x)) rest (k - 1) xs → Way g sites k (x ∷ xs)
+    way-with : {xs : List ℕ} → 0 < k → Way (withUnits g (add (g .units) x)) rest (k - 1) xs → Way g sites k (x ∷ xs)
     way-with {xs} p v = record { rising = (low .bus .some, low .has, earlier xs (v .rising)); many = omega (arith, v .many); covers = v .covers }
 
     -- the first way with x is the first of all
-    pub first-take : {m : ℕ} → 0 < k → FirstWay (at g (add (g .units) x)) rest (k - 1) m → FirstWay g sites k (add m x)
+    pub first-take : {m : ℕ} → 0 < k → FirstWay (withUnits g (add (g .units) x)) rest (k - 1) m → FirstWay g sites k (add m x)
     first-take {m} p f = record {
       list = x ∷ f .list;
       set = ap (λ (s : ℕ). add s x) (f .set) ∙ sym (placed-last x (f .list));
@@ -106,10 +106,10 @@ module _ {n sites x rest : ℕ} (low : Lowest n sites x) (w : Without sites x re
             (same-or y x)
 
     -- where no way begins with x, the ways are those of the sites above it
-    pub passed-lowest : 0 < k → NoWay (at g (add (g .units) x)) rest (k - 1) → Passed g sites k rest
+    pub passed-lowest : 0 < k → NoWay (withUnits g (add (g .units) x)) rest (k - 1) → Passed g sites k rest
     passed-lowest p n = record { of = without-sub w; ways = past p n }
       where
-        past : 0 < k → NoWay (at g (add (g .units) x)) rest (k - 1) → (ys : List ℕ) → Way g sites k ys → Way g rest k ys
+        past : 0 < k → NoWay (withUnits g (add (g .units) x)) rest (k - 1) → (ys : List ℕ) → Way g sites k ys → Way g rest k ys
         past p n [] v = absurd (omega (arith, v .many))
         past p n (y ∷ ys) v =
             ⊎-elim
@@ -137,7 +137,7 @@ no-fewer-more {g} {free} {k} h n = record {
   low = λ j l. ⊎-elim (λ (m : j < k). h .low j m) (λ (m : k ≤ j). let e : j ≡ k = omega arith in subst⁻¹ (NoWay g free) e n) (below-or j k);
 }
 
-module _ {g : Grid} {free : ℕ} (m : Minus (g .site) (g .units) free) where
+module _ {g : Grid} {free : ℕ} (m : Minus (g .sites) (g .units) free) where
   -- a plan is a way of as many sites as it has
   plan-way : {budget : ℕ} {xs : List ℕ} → Plan g budget xs → Way g free (length xs) xs
   plan-way {xs = xs} p = record {

@@ -9,9 +9,10 @@ use Rattle.busset.proofs.Digits.{bit-zero}
 use Rattle.busset.proofs.Members.{sub-of, sub-antisym, add-of, add-here, add-grows, add-both, add-again}
 use Rattle.step.specs.declared.Step.{Step}
 use Rattle.rules.specs.Grids.{Grid}
-use Rattle.rules.specs.Observation.{Least}
+use Rattle.rules.specs.Observation.{ObservedSet}
 use Rattle.rules.specs.Steps.{Holds, reachedFrom, AcceptedFrom, reached, Accepted, Finished}
-use Rattle.rules.specs.Weaving.{unlessSeen, wovenFrom, WeavableFrom, woven, Weavable, Each, Some, Taken, here, there, Shuffle, none, next, Woven}
+use Rattle.basics.specs.Lists.{Each, Some}
+use Rattle.rules.specs.Weaving.{unlessSeen, wovenFrom, WeavableFrom, woven, Weavable, Taken, here, there, Shuffle, none, next, Woven}
 use Rattle.rules.proofs.Reasons.{holds-more}
 use Rattle.rules.proofs.Lists.{reached-grows, accepted-inside, accepted-length, finished-least}
 
@@ -174,8 +175,8 @@ weaving-shuffles g desks received ok sh = record {
         (reached-for empty b received (subst (λ (t : ℕ). In t b) (out .1) h))
 
     -- all stay inside what the finished desk reached
-    finished : (xs : List Step) → Accepted g xs → Sub (reached xs) (reached (woven received)) → Finished g (reached xs) → Least g (reached (woven received))
+    finished : (xs : List Step) → Accepted g xs → Sub (reached xs) (reached (woven received)) → Finished g (reached xs) → ObservedSet g (reached (woven received))
     finished xs p sub f =
         let l = finished-least g xs p f in
-        subst (Least g)
+        subst (ObservedSet g)
         (sub-antisym (reached xs) (reached (woven received)) sub (accepted-inside g (reached xs) (woven received) (l .closed) (out .0))) l

@@ -11,8 +11,8 @@ pub record Misses (nbr : ℕ → ℕ) (d x : ℕ) : Type 0 where
 
 -- d is a blocking set: no unit observes a bus of d directly, and no Z bus outside d has exactly one neighbour, b, in d
 pub record Blocking (g : Grid) (d : ℕ) : Type 0 where
-  pub units : (x : ℕ) → In (g .units) x → Misses (g .nbr) d x
-  pub edge : (w b : ℕ) → In (g .zero) w → Out d w → In (g .nbr w) b → In d b → ((a : ℕ) → In (g .nbr w) a → (a ≡ b → ⊥) → Out d a) → ⊥
+  pub units : (x : ℕ) → In (g .units) x → Misses (g .neighbours) d x
+  pub edge : (w b : ℕ) → In (g .zeros) w → Out d w → In (g .neighbours w) b → In d b → ((a : ℕ) → In (g .neighbours w) a → (a ≡ b → ⊥) → Out d a) → ⊥
 
 -- a unit at x observes no bus outside c directly
 pub record Idle (nbr : ℕ → ℕ) (c x : ℕ) : Type 0 where

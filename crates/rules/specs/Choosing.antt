@@ -3,19 +3,19 @@ use mathlib.Core.List.{List, [], _∷_}
 use Prim.Native.Nat.{ℕ, zero, suc, _≤_, _<_}
 use Rattle.busset.specs.Sets.{size, add}
 use Rattle.rules.specs.Grids.{Grid}
-use Rattle.rules.specs.Observation.{Least}
-use Rattle.rules.specs.Placing.{at, Free}
+use Rattle.rules.specs.Observation.{ObservedSet}
+use Rattle.rules.specs.Placing.{withUnits, Free}
 
 -- a new unit may go on x, and t is observed with it
 pub record With (g : Grid) (x t : ℕ) : Type 0 where
   pub free : Free g x
-  pub observed : Least (at g (add (g .units) x)) t
+  pub observed : ObservedSet (withUnits g (add (g .units) x)) t
 
 -- a new unit on x makes the observed set largest, and x has the lowest number on a tie; it adds a bus
 pub record Best (g : Grid) (x : ℕ) : Type 0 where
   pub before : ℕ
   pub after : ℕ
-  pub observed : Least g before
+  pub observed : ObservedSet g before
   pub with : With g x after
   pub adds : size before < size after
   pub largest : (y t : ℕ) → With g y t → size t ≤ size after
@@ -23,11 +23,11 @@ pub record Best (g : Grid) (x : ℕ) : Type 0 where
 
 -- no site adds a bus
 abbrev pub NoneAdds : Grid → Type 0
-NoneAdds g = (y s t : ℕ) → Least g s → With g y t → size t ≤ size s
+NoneAdds g = (y s t : ℕ) → ObservedSet g s → With g y t → size t ≤ size s
 
 -- xs is what greedy adds, in order: it stops when the budget is spent or no site adds a bus
 abbrev pub Greedy : Grid → ℕ → List ℕ → Type 0
 Greedy g zero [] = Unit {0}
 Greedy g zero (x ∷ xs) = ⊥
 Greedy g (suc budget) [] = NoneAdds g
-Greedy g (suc budget) (x ∷ xs) = Best g x × Greedy (at g (add (g .units) x)) budget xs
+Greedy g (suc budget) (x ∷ xs) = Best g x × Greedy (withUnits g (add (g .units) x)) budget xs

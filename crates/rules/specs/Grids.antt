@@ -6,9 +6,9 @@ use Rattle.busset.specs.Sets.{Bus, In, Within, size, upTo}
 -- n buses numbered from 1, the neighbours of each, the Z buses, the Y sites, and the buses with a unit
 pub record Grid : Type 0 where
   pub n : ℕ
-  pub nbr : ℕ → ℕ
-  pub zero : ℕ
-  pub site : ℕ
+  pub neighbours : ℕ → ℕ
+  pub zeros : ℕ
+  pub sites : ℕ
   pub units : ℕ
 
 -- a and b, joined as seen from a, have a line: they are two different buses, 1 to n, and it is the same seen from b
@@ -20,9 +20,9 @@ pub record Line (n : ℕ) (nbr : ℕ → ℕ) (a b : ℕ) : Type 0 where
 
 -- every line is one, and every Z bus, Y site and unit is at a bus 1 to n
 pub record Proper (g : Grid) : Type 0 where
-  pub lines : (a b : ℕ) → In (g .nbr a) b → Line (g .n) (g .nbr) a b
-  pub zeros : Within (g .n) (g .zero)
-  pub sites : Within (g .n) (g .site)
+  pub lines : (a b : ℕ) → In (g .neighbours a) b → Line (g .n) (g .neighbours) a b
+  pub zeros : Within (g .n) (g .zeros)
+  pub sites : Within (g .n) (g .sites)
   pub units : Within (g .n) (g .units)
 
 -- the sum of f over the buses 1 to n

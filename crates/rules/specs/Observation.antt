@@ -7,7 +7,7 @@ use Rattle.rules.specs.Grids.{Grid}
 -- O1: a bus with a unit, and each of its neighbours, is observed
 pub record O1 (g : Grid) (s : ℕ) : Type 0 where
   pub own : (b : ℕ) → In (g .units) b → In s b
-  pub near : (b : ℕ) → In (g .units) b → Sub (g .nbr b) s
+  pub near : (b : ℕ) → In (g .units) b → Sub (g .neighbours b) s
 
 -- of the buses m, all but b are in s
 abbrev pub AllBut : ℕ → ℕ → ℕ → Type 0
@@ -19,7 +19,7 @@ Fired m s = (b : ℕ) → In m b → AllBut m b s → In s b
 
 -- O2: if a Z bus is observed and all its neighbours but one are observed, that one is observed too
 abbrev pub O2 : Grid → ℕ → Type 0
-O2 g s = (w : ℕ) → In (g .zero) w → In s w → Fired (g .nbr w) s
+O2 g s = (w : ℕ) → In (g .zeros) w → In s w → Fired (g .neighbours w) s
 
 -- s satisfies both rules
 pub record Closed (g : Grid) (s : ℕ) : Type 0 where
@@ -27,6 +27,6 @@ pub record Closed (g : Grid) (s : ℕ) : Type 0 where
   pub o2 : O2 g s
 
 -- s is the observed set: it satisfies both rules and is contained in every set that does
-pub record Least (g : Grid) (s : ℕ) : Type 0 where
+pub record ObservedSet (g : Grid) (s : ℕ) : Type 0 where
   pub closed : Closed g s
   pub least : (t : ℕ) → Closed g t → Sub s t

@@ -25,8 +25,8 @@ pub record ByZero (nbr : ℕ → ℕ) (zeros s b w : ℕ) : Type 0 where
 -- the reason holds for bus b where s is observed
 abbrev pub Holds : Grid → ℕ → ℕ → Reason → Type 0
 Holds g s b OwnUnit = In (g .units) b
-Holds g s b (NeighbourOf p) = ByUnit (g .nbr) (g .units) b p
-Holds g s b (ZeroInjection w) = ByZero (g .nbr) (g .zero) s b w
+Holds g s b (NeighbourOf p) = ByUnit (g .neighbours) (g .units) b p
+Holds g s b (ZeroInjection w) = ByZero (g .neighbours) (g .zeros) s b w
 
 -- the step is allowed where s is observed: its bus is not yet observed, and the reason holds
 pub record Allowed (g : Grid) (s : ℕ) (x : Step) : Type 0 where

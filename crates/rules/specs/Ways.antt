@@ -31,7 +31,7 @@ pub record FirstWay (g : Grid) (sites k m : ℕ) : Type 0 where
 pub record Cover (g : Grid) (sites k v : ℕ) : Type 0 where
   pub of : Sub v sites
   pub few : size v ≤ k
-  pub full : (s : ℕ) → Closed g s → ((x : ℕ) → In v x → Idle (g .nbr) s x) → Full (g .n) s
+  pub full : (s : ℕ) → Closed g s → ((x : ℕ) → In v x → Idle (g .neighbours) s x) → Full (g .n) s
 
 -- there is no cover
 abbrev pub NoCover : Grid → ℕ → ℕ → Type 0
@@ -47,4 +47,4 @@ Spared g sites k rest = NoCover g rest k → NoCover g sites k
 
 -- P holds of every grid with these buses, lines and Z buses, whatever its sites and units
 abbrev pub Whatever : ℕ → (ℕ → ℕ) → ℕ → (Grid → Type 0) → Type 0
-Whatever n nbr zeros P = (sites units : ℕ) → P (record { n = n; nbr = nbr; zero = zeros; site = sites; units = units })
+Whatever n nbr zeros P = (sites units : ℕ) → P (record { n = n; neighbours = nbr; zeros = zeros; sites = sites; units = units })

@@ -1,13 +1,13 @@
 -- Weaving a received list, shuffles of the desks' lists, and what demand 3 says of weaving one.
 use mathlib.Core.Path.{_≡_}
 use mathlib.Core.List.{List, [], _∷_}
-use mathlib.Core.Logic.{_⊎_}
 use Prim.Native.Nat.{ℕ, zero, suc}
 use lib.ListN.{length}
+use Rattle.basics.specs.Lists.{Each, Some}
 use Rattle.busset.specs.Sets.{bit, In, Out, empty, add, size}
 use Rattle.step.specs.declared.Step.{Step}
 use Rattle.rules.specs.Grids.{Grid}
-use Rattle.rules.specs.Observation.{Least}
+use Rattle.rules.specs.Observation.{ObservedSet}
 use Rattle.rules.specs.Steps.{Holds, reached, Accepted, Finished}
 
 -- ---- weaving
@@ -37,16 +37,6 @@ Weavable g xs = WeavableFrom g empty xs
 
 -- ---- shuffles
 
--- P holds of each of a list
-abbrev pub Each {ℓ} : {A : Type ℓ} → (A → Type 0) → List A → Type 0
-Each P [] = Unit {0}
-Each P (x ∷ xs) = P x × Each P xs
-
--- P holds of at least one of a list
-abbrev pub Some {ℓ} : {A : Type ℓ} → (A → Type 0) → List A → Type 0
-Some P [] = ⊥
-Some P (x ∷ xs) = P x ⊎ Some P xs
-
 -- x is the first step of one of the lists, and the lists after it are those without it
 pub data Taken : Step → List (List Step) → List (List Step) → Type 0 where
   here : {x : Step} {xs : List Step} {xss : List (List Step)} → Taken x ((x ∷ xs) ∷ xss) (xs ∷ xss)
@@ -73,4 +63,4 @@ pub record Woven (g : Grid) (desks : List (List Step)) (received : List Step) : 
   -- with one step for each
   pub each-once : length (woven received) ≡ size (reached (woven received))
   -- if any desk had finished, that is the observed set
-  pub least : Some (λ xs. Finished g (reached xs)) desks → Least g (reached (woven received))
+  pub least : Some (λ xs. Finished g (reached xs)) desks → ObservedSet g (reached (woven received))

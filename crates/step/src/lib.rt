@@ -1,4 +1,5 @@
-// A step, as a desk's record holds it. Buses are numbered as the grid numbers them, and any number may stand in a record.
+// A step, as a desk's record holds it.
+// Buses are numbered as the grid numbers them, and any number may stand in a record.
 
 // Why a bus is observed.
 pub enum Reason {

@@ -1,7 +1,11 @@
 // One line of a step text, read as a step.
 ghost use mathlib.Core.Path.{_≡_};
 ghost use Rattle.text_field.specs.Split.{after};
-ghost use Rattle.step_line.specs.StepLine.{letterOf, stepWordOf, neighbourOf, zeroOf, ownFields, reasonFields, stepOf, stepFields, endFields, stepLineOf};
+ghost use Rattle.step_line.specs.StepLine.{letterOf, stepWordOf, neighbourOf, zeroOf, stepOf};
+ghost use Rattle.step_line.specs.StepLine.{ownFields, reasonFields, stepFields, endFields, stepLineOf};
+
+pub mod put;
+
 use step::Reason;
 use step::Step;
 use text_field::Numeral;

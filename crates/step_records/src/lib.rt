@@ -1,10 +1,10 @@
 // A step text read into lent records.
-ghost use Rattle.taking.specs.Taking.{StepsReadReply};
+ghost use Rattle.step_text.specs.Taking.{StepsReadReply};
 use step::Step;
 use step_text::StepsRead;
-use taking::check_room;
-use taking::count_of;
-use taking::take;
+use step_text::taking::check_room;
+use step_text::taking::count_of;
+use step_text::taking::take;
 
 // Writes the steps of the text, and answers how many.
 pub fn read_steps(text: &[u8], out: &mut [Step]) -> StepsRead

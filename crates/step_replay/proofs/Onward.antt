@@ -16,9 +16,9 @@ use Rattle.ending.specs.declared.Replayed.{Replayed}
 use Rattle.ending.specs.declared.Replayed.the-variants as replayed
 use Rattle.ending.proofs.Outcomes.{replay-law}
 use Rattle.step_text.specs.Steps.{readSteps, stepsFrom, stepsOf, StepHere}
-use Rattle.taking.specs.Taking.{StepAt}
-use Rattle.taking.specs.declared.NextStep.{NextStep}
-use Rattle.taking.specs.declared.NextStep.the-variants.{At, Nothing}
+use Rattle.step_text.specs.Taking.{StepAt}
+use Rattle.step_text.specs.declared.taking.NextStep.{NextStep}
+use Rattle.step_text.specs.declared.taking.NextStep.the-variants.{At, Nothing}
 use Rattle.step_text.specs.declared.StepsRead.{StepsRead}
 use Rattle.step_text.specs.declared.StepsRead.the-variants as read
 use Rattle.step_replay.specs.Replying.{TextReplayAt, TextReplayReply, Followed}

@@ -15,8 +15,8 @@ use list_follow::begin;
 use refusals::Refusal;
 use step_text::StepsRead;
 use step_text::check_steps;
-use taking::NextStep;
-use taking::step_at;
+use step_text::taking::NextStep;
+use step_text::taking::step_at;
 
 // The set reached and whether the list is finished; a refusal of the list; a refusal in reading its text.
 pub enum TextReplayed {

@@ -7,6 +7,7 @@ use native.Mathlib.Omega.{arith}
 use borrow.Author.Tests.{ltb-false}
 use lib.Dec.{ltb}
 use lib.ListN.{length}
+use Rattle.basics.specs.Lists.{Each}
 use Rattle.text_field.specs.Split.{split}
 use Rattle.text_field.proofs.Tested.{both}
 use Rattle.step.specs.declared.Reason.{Reason}
@@ -21,7 +22,7 @@ use Rattle.refusals.specs.declared.Refusal.{Refusal}
 use Rattle.refusals.specs.declared.Refusal.the-variants.{TextTooLong, OutOfRange, TooManySteps}
 use Rattle.case_judge.specs.Judging.{isBus}
 use Rattle.case_judge.proofs.Judged.{inside, apart}
-use Rattle.step_text.specs.Steps.{reasonInRange, stepInRange, ended, lineSaid, stepLines, readSteps, andSteps, stepsIn, stepsFrom, stepsOf, AllNamed}
+use Rattle.step_text.specs.Steps.{reasonInRange, stepInRange, ended, lineSaid, stepLines, readSteps, andSteps, stepsIn, stepsFrom, stepsOf}
 use Rattle.step_text.specs.declared.StepsRead.{StepsRead}
 use Rattle.step_text.specs.declared.StepsRead.the-variants.{Steps, Refused}
 
@@ -40,7 +41,7 @@ names x e =
 pub record Found (k n : ℕ) (xs : List Step) : Type 0 where
   pub count : length xs + k ≡ n + 1
   pub few : n ≤ mostSteps
-  pub named : AllNamed xs
+  pub named : Each (Names mostBuses) xs
 
 pub not-steps : {n : ℕ} (r : Refusal) → Refused r ≡ Steps n → ⊥
 not-steps r e = apart (cc)

@@ -1,3 +1,4 @@
 pub mod Stepping
 pub mod Found
 pub mod Refusing
+pub mod TakingLaws

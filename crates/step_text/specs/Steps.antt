@@ -14,7 +14,6 @@ use Rattle.step_line.specs.declared.StepLine.{StepLine}
 use Rattle.step_line.specs.declared.StepLine.the-variants.{Step as StepOf, End, Wrong}
 use Rattle.grid.specs.Cases.{mostBuses, mostSteps, mostStepBytes}
 use Rattle.refusals.specs.declared.Refusal.the-variants.{TextTooLong, WrongForm, OutOfRange, TooManySteps}
-use Rattle.rules.specs.Steps.{Names}
 use Rattle.case_judge.specs.Judging.{isBus}
 use Rattle.step_text.specs.declared.StepsRead.{StepsRead}
 use Rattle.step_text.specs.declared.StepsRead.the-variants.{Steps, Refused}
@@ -36,6 +35,10 @@ abbrev pub ended : ℕ → List ℕ → List (List ℕ) → StepsRead
 ended k [] [] = Steps (k - 1)
 ended k [] (m ∷ ms) = Refused (WrongForm (k + 1))
 ended k (b ∷ l) ms = Refused (WrongForm (k + 1))
+
+-- what is read where the line feed of `end`, on line k, is at index e
+abbrev pub endedAfter : ℕ → List ℕ → ℕ → StepsRead
+endedAfter k text e = ended k (split lineFeed (drop (e + 1) text) .first) (split lineFeed (drop (e + 1) text) .rest)
 
 -- what is said of line k, which holds step k: 2 before 3 before 12
 abbrev pub lineSaid : StepLine → ℕ → StepsRead → StepsRead → StepsRead
@@ -82,8 +85,3 @@ pub record StepHere (text : List ℕ) (a : ℕ) (x : Step) (e : ℕ) : Type 0 wh
   pub steps : stepsFrom text a ≡ x ∷ stepsFrom text e
   pub later : a < e
   pub high : e ≤ length text
-
--- each step, in its bus and its reason, names buses 1 to 64
-abbrev pub AllNamed : List Step → Type 0
-AllNamed [] = Unit {0}
-AllNamed (x ∷ xs) = Names mostBuses x × AllNamed xs

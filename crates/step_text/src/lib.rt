@@ -1,10 +1,12 @@
 // The step text, checked line after line.
 ghost use mathlib.Core.Path.{_≡_};
-ghost use Prim.Native.Nat.{_+_, _≤_, _<_};
-ghost use lib.ListN.{length, drop};
-ghost use Rattle.text_field.specs.Split.{split};
-ghost use Rattle.step_text.specs.Steps.{reasonInRange, stepInRange, ended, readSteps};
-use case_judge::is_bus;
+ghost use Prim.Native.Nat.{_≤_, _<_};
+ghost use lib.ListN.{length};
+ghost use Rattle.step_text.specs.Steps.{reasonInRange, stepInRange, endedAfter, readSteps};
+
+pub mod taking;
+
+use busset::is_bus;
 use refusals::Refusal;
 use step::Reason;
 use step::Step;
@@ -40,7 +42,7 @@ fn step_in_range(x: Step) -> bool
 // What was read, where the line feed of `end`, on line k, stands at e.
 fn at_end(text: &[u8], e: usize, k: usize) -> StepsRead
     requires { ⌜ (e < length (now text)) × (1 ≤ k) × (k ≤ 16385) ⌝ }
-    ensures { λ r. ⌜ r ≡ ended k (split 10 (drop (e + 1) (now (text .entry))) .first) (split 10 (drop (e + 1) (now (text .entry))) .rest) ⌝ }
+    ensures { λ r. ⌜ r ≡ endedAfter k (now (text .entry)) e ⌝ }
 {
     if e + 1 < text.len() {
         return StepsRead::Refused(Refusal::WrongForm(k + 1));

@@ -5,18 +5,18 @@ use Prim.Native.Nat.{ℕ}
 use lib.Count.{ones, onesIn}
 use Rattle.busset.specs.Sets.{add, lack, less, upTo, setOf}
 use Rattle.rules.specs.Grids.{total}
-use Rattle.rules.specs.Observation.{Least}
-use Rattle.rules.proofs.Tests.{gap, isOne, given, subTest, holdsTest, acceptedTest, closedTest, leastTest, least-passes}
-use Rattle.rules.proofs.Sought.{derived, pick, reasonFor, reasonAt, stepFor, passFrom, extended, derive}
+use Rattle.rules.specs.Observation.{ObservedSet}
+use Rattle.tables.proofs.Tests.{gap, isOne, given, subTest, holdsTest, acceptedTest, closedTest, leastTest, least-passes}
+use Rattle.tables.proofs.Sought.{derived, pick, reasonFor, reasonAt, stepFor, passFrom, extended, derive}
 use Rattle.grid.specs.Cases.{neighbours, Valid}
-use Rattle.grid.proofs.Drawn.{withinTest, rowTest, validTest, valid-passes}
-use Rattle.starred.specs.Table.{Drawing, caseOf, seven, path}
+use Rattle.tables.proofs.Drawn.{withinTest, rowTest, validTest, valid-passes}
+use Rattle.tables.specs.Starred.{Drawing, caseOf, seven, path}
 use Rattle.tables.specs.Drawings.{set, grid, pathWith, sweep, leaf, lone, ring}
 
 -- a valid case, and the set that is observed in it
 pub record Observed (d : Drawing) (s : ℕ) : Type 0 where
   pub valid : Valid (caseOf d)
-  pub least : Least (grid d) s
+  pub least : ObservedSet (grid d) s
 
 -- from two tests, where the list that derives the set is found
 observed : (d : Drawing) (s : ℕ) → validTest (caseOf d) ≡ 0 → leastTest (grid d) (derived (grid d)) s ≡ 0 → Observed d s

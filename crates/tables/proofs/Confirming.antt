@@ -11,11 +11,11 @@ use Rattle.busset.proofs.Words.{set-bus}
 use Rattle.rules.specs.Grids.{total}
 use Rattle.rules.specs.Confirming.{Confirm, joined, share, UnconfirmedSet}
 use Rattle.rules.proofs.Choices.{unconfirmed-unique}
-use Rattle.rules.proofs.Tests.{gap, given}
-use Rattle.rules.proofs.Sought.{confirmTest, aloneTest, unconfirmedTest, unconfirmed-passes}
+use Rattle.tables.proofs.Tests.{gap, given}
+use Rattle.tables.proofs.Sought.{confirmTest, aloneTest, unconfirmedTest, unconfirmed-passes}
 use Rattle.grid.specs.Cases.{neighbours}
-use Rattle.grid.proofs.Drawn.{withinTest, rowTest, validTest, valid-passes}
-use Rattle.starred.specs.Table.{Drawing, wordOf, caseOf, seven}
+use Rattle.tables.proofs.Drawn.{withinTest, rowTest, validTest, valid-passes}
+use Rattle.tables.specs.Starred.{Drawing, wordOf, caseOf, seven}
 use Rattle.tables.proofs.Rows.{_&_}
 use Rattle.tables.specs.Tables.{AllRight}
 use Rattle.tables.specs.Drawings.{set, grid, sevenGrid, apart}
@@ -33,22 +33,22 @@ confirm-right =
     & joined refl
     & share 3 refl refl
     & share 4 refl refl
-    & strangers (sevenGrid [] .nbr) 1 4 refl
-    & strangers (sevenGrid [] .nbr) 1 6 refl
-    & strangers (grid (apart []) .nbr) 1 3 refl
+    & strangers (sevenGrid [] .neighbours) 1 4 refl
+    & strangers (sevenGrid [] .neighbours) 1 6 refl
+    & strangers (grid (apart []) .neighbours) 1 3 refl
     & tt
 
 -- the units of a drawing that no other unit confirms
-alone : (d : Drawing) (s : ℕ) → validTest (caseOf d) ≡ 0 → withinTest (d .n) s ≡ 0 → unconfirmedTest (grid d) (setOf s) ≡ 0 → UnconfirmedSet (grid d .nbr) (grid d .units) (setOf s)
+alone : (d : Drawing) (s : ℕ) → validTest (caseOf d) ≡ 0 → withinTest (d .n) s ≡ 0 → unconfirmedTest (grid d) (setOf s) ≡ 0 → UnconfirmedSet (grid d .neighbours) (grid d .units) (setOf s)
 unfolding withinTest
 alone d s v w e = unconfirmed-passes (grid d) (valid-passes (caseOf d) v .proper) (setOf s) (λ b h. set-bus (d .n) b (omega arith) h) e
 
 -- no units, and a unit alone
-pub nobody : UnconfirmedSet (sevenGrid [] .nbr) (set []) (set [])
+pub nobody : UnconfirmedSet (sevenGrid [] .neighbours) (set []) (set [])
 unfolding validTest withinTest rowTest unconfirmedTest aloneTest confirmTest gap given total meet upTo neighbours setOf ones onesIn
 nobody = alone (seven []) (wordOf []) refl refl refl
 
-pub itself : UnconfirmedSet (sevenGrid [] .nbr) (set (3 ∷ [])) (set (3 ∷ []))
+pub itself : UnconfirmedSet (sevenGrid [] .neighbours) (set (3 ∷ [])) (set (3 ∷ []))
 unfolding validTest withinTest rowTest unconfirmedTest aloneTest confirmTest gap given total meet upTo neighbours setOf ones onesIn
 itself = alone (seven (3 ∷ [])) (wordOf (3 ∷ [])) refl refl refl
 
@@ -74,8 +74,8 @@ sets-right =
     & (λ h. omega (arith, unconfirmed-unique _ _ joined34 h))
     & tt
   where
-    joined34 : UnconfirmedSet (sevenGrid [] .nbr) (set (3 ∷ 4 ∷ [])) (set [])
+    joined34 : UnconfirmedSet (sevenGrid [] .neighbours) (set (3 ∷ 4 ∷ [])) (set [])
     joined34 = alone (seven (3 ∷ 4 ∷ [])) (wordOf []) refl refl refl
 
-    apart14 : UnconfirmedSet (sevenGrid [] .nbr) (set (1 ∷ 4 ∷ [])) (set (1 ∷ 4 ∷ []))
+    apart14 : UnconfirmedSet (sevenGrid [] .neighbours) (set (1 ∷ 4 ∷ [])) (set (1 ∷ 4 ∷ []))
     apart14 = alone (seven (1 ∷ 4 ∷ [])) (wordOf (1 ∷ 4 ∷ [])) refl refl refl

@@ -9,9 +9,9 @@ use Rattle.busset.specs.Sets.{upTo, size, setOf}
 use Rattle.busset.proofs.Digits.{half-lt}
 use Rattle.busset.proofs.Sizes.{size-empty}
 use Rattle.rules.specs.Grids.{total, lineCount}
-use Rattle.rules.proofs.Tests.{gap}
+use Rattle.tables.proofs.Tests.{gap}
 use Rattle.grid.specs.Cases.{mostBuses, neighbours}
-use Rattle.grid.proofs.Drawn.{withinTest, rowTest, validTest, valid-passes}
+use Rattle.tables.proofs.Drawn.{withinTest, rowTest, validTest, valid-passes}
 use Rattle.tables.proofs.Rows.{_&_}
 use Rattle.tables.specs.Tables.{AllRight}
 use Rattle.tables.specs.Grids.{crowd, most}

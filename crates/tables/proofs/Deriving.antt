@@ -5,7 +5,7 @@ use mathlib.Core.Logic.{⊎-elim}
 use Prim.Native.Nat.{ℕ, zero, suc, _+_, _-_, _≤_, _<_}
 use native.Mathlib.Omega.{arith}
 use Rattle.busset.specs.Sets.{Bus, bit, Out, add, lack, size}
-use Rattle.busset.proofs.Tests.{below-or}
+use Rattle.basics.proofs.Tests.{below-or}
 use Rattle.step.specs.declared.Reason.{Reason}
 use Rattle.step.specs.declared.Reason.the-variants.{OwnUnit, NeighbourOf, ZeroInjection}
 use Rattle.step.specs.declared.Step.{Step}
@@ -14,15 +14,15 @@ use Rattle.rules.specs.Steps.{Holds, Allowed, ReasonNames, Finished}
 use Rattle.rules.specs.Derivation.{TakenFirst, NextIs, DerivedFrom, finished, next}
 use Rattle.rules.proofs.Firing.{others-in}
 use Rattle.rules.proofs.Reasons.{holds-names, allowed-bus}
-use Rattle.rules.proofs.Tests.{total-none, gap, gap-none, given, holdsTest, holds-tests}
+use Rattle.tables.proofs.Tests.{total-none, gap, gap-none, given, holdsTest, holds-tests}
 
 -- ---- a step that is allowed
 
 -- the bus is not observed and the reason holds: of the neighbours of w, one alone is not observed
 unfoldable pub reasonTest : Grid → ℕ → ℕ → Reason → ℕ
 reasonTest g s b OwnUnit = 1 - bit (g .units) b
-reasonTest g s b (NeighbourOf p) = (1 - bit (g .units) p) + (1 - bit (g .nbr p) b)
-reasonTest g s b (ZeroInjection w) = (1 - bit (g .zero) w) + (1 - bit s w) + (1 - bit (g .nbr w) b) + gap (size (lack (g .nbr w) s)) 1
+reasonTest g s b (NeighbourOf p) = (1 - bit (g .units) p) + (1 - bit (g .neighbours p) b)
+reasonTest g s b (ZeroInjection w) = (1 - bit (g .zeros) w) + (1 - bit s w) + (1 - bit (g .neighbours w) b) + gap (size (lack (g .neighbours w) s)) 1
 
 unfoldable pub allowedTest : Grid → ℕ → Step → ℕ
 allowedTest g s x = bit s (x .bus) + reasonTest g s (x .bus) (x .reason)
@@ -35,7 +35,7 @@ reason-passes g s b (ZeroInjection w) o e = record {
   class = omega arith;
   observed = omega arith;
   joined = omega arith;
-  others = others-in (g .nbr w) s s b (gap-none (size (lack (g .nbr w) s)) 1 (omega arith)) (λ a. omega arith) (omega arith) o;
+  others = others-in (g .neighbours w) s s b (gap-none (size (lack (g .neighbours w) s)) 1 (omega arith)) (λ a. omega arith) (omega arith) o;
 }
 
 pub allowed-passes : (g : Grid) (s : ℕ) (x : Step) → allowedTest g s x ≡ 0 → Allowed g s x

@@ -7,15 +7,15 @@ use native.Mathlib.Omega.{arith}
 use lib.Count.{ones, onesIn}
 use Rattle.busset.specs.Sets.{setOf, upTo}
 use Rattle.rules.specs.Grids.{total}
-use Rattle.rules.proofs.Tests.{gap}
+use Rattle.tables.proofs.Tests.{gap}
 use Rattle.refusals.specs.declared.Refusal.{Refusal}
 use Rattle.refusals.specs.declared.Refusal.the-variants.{InvalidCase, OverBudget}
 use Rattle.grid.specs.Cases.{neighbours, Lines}
 use Rattle.refusals.specs.Refusals.{Check, check, Failed}
 use Rattle.refusals.proofs.Orders.{itself, failed-unique, failed-or-passed}
-use Rattle.grid.proofs.Drawn.{withinTest, rowTest, validTest, valid-passes}
+use Rattle.tables.proofs.Drawn.{withinTest, rowTest, validTest, valid-passes}
 use Rattle.estimator_reply.specs.Results.{codeOf}
-use Rattle.starred.specs.Table.{caseOf, seven, path}
+use Rattle.tables.specs.Starred.{caseOf, seven, path}
 use Rattle.tables.proofs.Rows.{_&_}
 use Rattle.tables.specs.Tables.{AllRight}
 use Rattle.tables.specs.Drawings.{value}

@@ -1,3 +1,6 @@
+pub mod Tests
+pub mod Sought
+pub mod Drawn
 pub mod Rows
 pub mod Texts
 pub mod Readings
@@ -15,3 +18,5 @@ pub mod Confirming
 pub mod Placing
 pub mod Replies
 pub mod Programs
+pub mod StarredSites
+pub mod StarredRows

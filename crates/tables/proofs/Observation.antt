@@ -7,11 +7,11 @@ use lib.Count.{ones, onesIn}
 use Rattle.busset.specs.Sets.{In, Out, lack, size, setOf}
 use Rattle.busset.proofs.Words.{all-law}
 use Rattle.rules.specs.Grids.{Grid}
-use Rattle.rules.specs.Observation.{AllBut, O2, Closed, Least}
+use Rattle.rules.specs.Observation.{AllBut, O2, Closed, ObservedSet}
 use Rattle.rules.proofs.Firing.{fired-by, others-in}
 use Rattle.rules.proofs.Leasts.{least-unique, all-closed}
 use Rattle.grid.specs.Cases.{neighbours}
-use Rattle.starred.specs.Table.{path}
+use Rattle.tables.specs.Starred.{path}
 use Rattle.tables.proofs.Rows.{_&_}
 use Rattle.tables.proofs.Computed.{known}
 use Rattle.tables.specs.Tables.{AllRight}
@@ -84,7 +84,7 @@ closed-right =
     & tt
 
 -- another set than the observed one is not it
-other : (g : Grid) (s t : ℕ) → Least g s → (s ≡ t → ⊥) → Least g t → ⊥
+other : (g : Grid) (s t : ℕ) → ObservedSet g s → (s ≡ t → ⊥) → ObservedSet g t → ⊥
 other g s t l ne h = ne (least-unique g s t l h)
 
 pub least-right : AllRight tables.least

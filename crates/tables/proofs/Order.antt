@@ -1,5 +1,6 @@
 -- The tables of the order of refusals, proved: of two refusals one comes before the other, and never both.
-use mathlib.Core.Path.{refl}
+use mathlib.Core.Path.{refl, sym}
+use mathlib.Core.Bool.{true≢false}
 use mathlib.Core.List.{[], _∷_}
 use mathlib.Core.Logic.{inl, inr}
 use native.Mathlib.Omega.{arith}
@@ -53,9 +54,11 @@ pairs-right =
 pub lists-right : AllRight lists
 lists-right =
     tt
-    & tt
-    & (inl (lit< tt), (inl (lit< tt), tt))
-    & (λ h. never-both (refusal 11 0) (refusal 10 0) (h .1 .0) (inl (lit< tt)))
+    & refl
+    & (refl, inl (lit< tt), (refl, inl (lit< tt), refl))
+    & (λ h. never-both (refusal 11 0) (refusal 10 0) (h .2 .1) (inl (lit< tt)))
+    & (λ h. true≢false (sym h))
+    & (λ h. true≢false (sym (h .2)))
     & inr (tt, inl (λ h. h, refl, refl))
     & (λ h. no-later h)
     & (λ h. no-first h)

@@ -16,12 +16,12 @@ use Rattle.rules.proofs.Choices.{best-unique, greedy-unique}
 use Rattle.rules.proofs.Covering.{covers-full, full-covers}
 use Rattle.rules.proofs.Leasts.{least-unique}
 use Rattle.rules.proofs.Ordering.{before-antisym, earlier-antisym, fewest-set-unique, fewest-some}
-use Rattle.rules.proofs.Tests.{gap, isOne, given, subTest, holdsTest, acceptedTest, closedTest, leastTest}
-use Rattle.rules.proofs.Sought.{Sought, PlanIs, pick, reasonFor, reasonAt, stepFor, passFrom, extended, derive, noBetter, bestTest, noneTest, greedyTest, greedy-passes, after, none, some, judged, judge, orElse, choose, seek, firstOf, smallest, fewest-passes}
+use Rattle.tables.proofs.Tests.{gap, isOne, given, subTest, holdsTest, acceptedTest, closedTest, leastTest}
+use Rattle.tables.proofs.Sought.{Sought, PlanIs, pick, reasonFor, reasonAt, stepFor, passFrom, extended, derive, noBetter, bestTest, noneTest, greedyTest, greedy-passes, after, none, some, judged, judge, orElse, choose, seek, firstOf, smallest, fewest-passes}
 use Rattle.grid.specs.declared.Case.{Case}
 use Rattle.grid.specs.Cases.{neighbours, gridOf}
-use Rattle.grid.proofs.Drawn.{withinTest, rowTest, validTest, valid-passes}
-use Rattle.starred.specs.Table.{caseOf, seven}
+use Rattle.tables.proofs.Drawn.{withinTest, rowTest, validTest, valid-passes}
+use Rattle.tables.specs.Starred.{caseOf, seven}
 use Rattle.tables.proofs.Rows.{_&_}
 use Rattle.tables.proofs.Computed.{known}
 use Rattle.tables.specs.Tables.{AllRight}
@@ -127,9 +127,9 @@ earlier-right =
 -- ---- the fewest and greedy, computed
 
 -- what the search finds on a valid case
-found : (c : Case) (budget : ℕ) (a : Sought) → validTest c ≡ 0 → smallest (gridOf c) (lack (gridOf c .site) (gridOf c .units)) (budget + 1) 0 ≡ a → PlanIs (gridOf c) budget a
+found : (c : Case) (budget : ℕ) (a : Sought) → validTest c ≡ 0 → smallest (gridOf c) (lack (gridOf c .sites) (gridOf c .units)) (budget + 1) 0 ≡ a → PlanIs (gridOf c) budget a
 found c budget a v e =
-    fewest-passes (gridOf c) (valid-passes c v .proper) (lack (gridOf c .site) (gridOf c .units)) (record { at = lack-at (gridOf c .site) (gridOf c .units) }) budget a e
+    fewest-passes (gridOf c) (valid-passes c v .proper) (lack (gridOf c .sites) (gridOf c .units)) (record { at = lack-at (gridOf c .sites) (gridOf c .units) }) budget a e
 
 -- what greedy adds on a valid case
 adds : (c : Case) (budget : ℕ) (xs : List ℕ) → validTest c ≡ 0 → greedyTest (gridOf c) budget xs ≡ 0 → Greedy (gridOf c) budget xs

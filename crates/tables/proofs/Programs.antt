@@ -19,7 +19,7 @@ use Rattle.step_line.specs.StepLine.{letterOf, stepWordOf, reasonFields, stepFi
 use Rattle.rules.proofs.Ordering.{fewest-some}
 use Rattle.refusals.specs.declared.Refusal.the-variants.{WrongForm, OutOfRange, ReasonFails, OverBudget, NoCover}
 use Rattle.refusals.proofs.Orders.{itself}
-use Rattle.case_read.specs.Writing.{members, linesText}
+use Rattle.case_line.specs.CaseText.{members, linesText}
 use Rattle.case_judge.specs.Judging.{isBus, isAfter, pastBuses, verdict}
 use Rattle.case_read.specs.Reading.{readLines, readText, readCase}
 use Rattle.report_lines.specs.Printing.{refusedText}

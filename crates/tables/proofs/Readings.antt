@@ -17,7 +17,7 @@ use Rattle.grid.specs.Cases.{neighbours}
 use Rattle.case_inverse.proofs.Grammars.{reads-read, not-got, read-reads}
 use Rattle.case_judge.specs.Judging.{isBus, isAfter, pastBuses, verdict}
 use Rattle.case_read.specs.Reading.{start, readLines, readText, readCase}
-use Rattle.case_read.specs.Writing.{busRecords, members, lineRecords, linesText}
+use Rattle.case_line.specs.CaseText.{busRecords, members, lineRecords, linesText}
 use Rattle.step_text.specs.Steps.{stepInRange, stepLines, readSteps, stepsIn, stepsFrom}
 use Rattle.case_write.specs.Lines.{lineText}
 use Rattle.report_lines.specs.Printing.{refusedText}

@@ -7,7 +7,7 @@ use lib.Count.{ones, onesIn}
 use lib.Signed.{mag}
 use lib.ListN.{length, getD}
 use Rattle.busset.specs.Sets.{Bus, add, meet, lack, less, upTo, setOf, empty}
-use Rattle.busset.proofs.Tests.{decides-yes, decides-no, refutes}
+use Rattle.basics.proofs.Tests.{decides-yes, decides-no, refutes}
 use Rattle.text_field.specs.Split.{split, join, same}
 use Rattle.text_field.specs.Number.{digits}
 use Rattle.step.specs.Records.{noStep}
@@ -22,18 +22,18 @@ use Rattle.rules.proofs.Derivations.{derived-accepted}
 use Rattle.rules.proofs.Leasts.{least-unique}
 use Rattle.rules.proofs.Lists.{closed-finished}
 use Rattle.rules.proofs.Ordering.{fewest-some}
-use Rattle.rules.proofs.Tests.{gap}
+use Rattle.tables.proofs.Tests.{gap}
 use Rattle.refusals.specs.declared.Refusal.the-variants.{InvalidCase, NoSuchBus, ReasonFails, OverBudget, NoCover}
 use Rattle.grid.specs.Cases.{neighbours, Valid}
 use Rattle.refusals.specs.Refusals.{Failed, numberOf}
 use Rattle.refusals.proofs.Orders.{itself, failed-or-passed, failed-unique}
-use Rattle.grid.proofs.Drawn.{withinTest, rowTest, validTest, valid-passes}
+use Rattle.tables.proofs.Drawn.{withinTest, rowTest, validTest, valid-passes}
 use Rattle.case_line.specs.Fields.{none}
 use Rattle.step_line.specs.StepLine.{stepWordOf, stepLineOf}
-use Rattle.taking.specs.Taking.{countOf}
+use Rattle.step_text.specs.Taking.{countOf}
 use Rattle.step_text.specs.Steps.{stepLines, readSteps}
 use Rattle.case_read.specs.Reading.{readLines, readText, readCase}
-use Rattle.case_read.specs.Writing.{busRecords, members, lineRecords, linesText}
+use Rattle.case_line.specs.CaseText.{busRecords, members, lineRecords, linesText}
 use Rattle.ending.specs.Replies.{replayChecks}
 use Rattle.observe_calls.specs.Replies.{observedChecks}
 use Rattle.place_calls.specs.Replies.{fewestChecks}
@@ -142,7 +142,7 @@ weaves-right =
     v : Valid (tables.case (3 ∷ []))
     v = known .at3 .valid
 
-    by3 : ByUnit (sevenGrid [] .nbr) (set (3 ∷ [])) 2 3
+    by3 : ByUnit (sevenGrid [] .neighbours) (set (3 ∷ [])) 2 3
     by3 = record { unit = refl; joined = refl }
 
 -- ---- whole cases

@@ -7,7 +7,7 @@ use lib.Count.{ones, onesIn}
 use Rattle.busset.specs.Sets.{Out, add, meet, lack, less, upTo, setOf}
 use Rattle.busset.specs.Held as held
 use Rattle.busset.specs.Bytes.{byteOf}
-use Rattle.busset.proofs.Tests.{decides-yes, decides-no}
+use Rattle.basics.proofs.Tests.{decides-yes, decides-no}
 use Rattle.busset.proofs.Members.{add-there, less-there}
 use Rattle.busset.proofs.Words.{set-bus, union-law, both-law, minus-law, all-law}
 use Rattle.tables.proofs.Rows.{_&_}

@@ -14,15 +14,16 @@ use Rattle.step.specs.Records.{noStep}
 use Rattle.step.specs.declared.Step.{Step}
 use Rattle.rules.specs.Grids.{total}
 use Rattle.rules.specs.Steps.{Names, reached, Accepted}
-use Rattle.rules.specs.Weaving.{Each, Taken, here, there, Shuffle, none, next}
+use Rattle.basics.specs.Lists.{Each}
+use Rattle.rules.specs.Weaving.{Taken, here, there, Shuffle, none, next}
 use Rattle.rules.specs.Figures.{figure}
-use Rattle.rules.proofs.Tests.{gap}
+use Rattle.tables.proofs.Tests.{gap}
 use Rattle.rules.proofs.Shuffles.{weaving-shuffles}
 use Rattle.grid.specs.Cases.{neighbours, gridOf}
-use Rattle.grid.proofs.Drawn.{withinTest, rowTest, validTest, valid-passes}
+use Rattle.tables.proofs.Drawn.{withinTest, rowTest, validTest, valid-passes}
 use Rattle.ending.specs.declared.Wove.the-variants as wove
 use Rattle.demands.proofs.Demand3.{demand-3}
-use Rattle.starred.specs.Table.{wordOf, caseOf, seven}
+use Rattle.tables.specs.Starred.{wordOf, caseOf, seven}
 use Rattle.tables.proofs.Crowded.{ones-in}
 use Rattle.tables.proofs.Computed.{known}
 use Rattle.tables.proofs.Rows.{_&_}
@@ -64,12 +65,12 @@ unfolding figure
 figure-from nbr s i j a b p q = ap₂ (λ (x y : ℕ). pos 1 -ℤ pos x +ℤ pos (bit s i) +ℤ pos y) p q
 
 -- the star's figure of 1 towards 2, with the digits counted
-star-figure : (s : ℕ) → less (meet (gridOf figures.star .nbr 1) s) 2 < 2 ^ 65
-    → figure (gridOf figures.star .nbr) s 1 2 ≡ pos 1 -ℤ pos 63 +ℤ pos (bit s 1) +ℤ pos (onesIn 65 (less (meet (gridOf figures.star .nbr 1) s) 2))
+star-figure : (s : ℕ) → less (meet (gridOf figures.star .neighbours 1) s) 2 < 2 ^ 65
+    → figure (gridOf figures.star .neighbours) s 1 2 ≡ pos 1 -ℤ pos 63 +ℤ pos (bit s 1) +ℤ pos (onesIn 65 (less (meet (gridOf figures.star .neighbours 1) s) 2))
 unfolding neighbours setOf onesIn
-star-figure s l = figure-from (gridOf figures.star .nbr) s 1 2 63 (onesIn 65 (less (meet (gridOf figures.star .nbr 1) s) 2)) (ones-in 65 (gridOf figures.star .nbr 1) (lit≤ tt)) (ones-in 65 (less (meet (gridOf figures.star .nbr 1) s) 2) l)
+star-figure s l = figure-from (gridOf figures.star .neighbours) s 1 2 63 (onesIn 65 (less (meet (gridOf figures.star .neighbours 1) s) 2)) (ones-in 65 (gridOf figures.star .neighbours 1) (lit≤ tt)) (ones-in 65 (less (meet (gridOf figures.star .neighbours 1) s) 2) l)
 
-star-ends : (figure (gridOf figures.star .nbr) (set []) 1 2 ≡ negsuc 61) × (figure (gridOf figures.star .nbr) (setOf (2 ^ 64 - 1)) 1 2 ≡ pos 1)
+star-ends : (figure (gridOf figures.star .neighbours) (set []) 1 2 ≡ negsuc 61) × (figure (gridOf figures.star .neighbours) (setOf (2 ^ 64 - 1)) 1 2 ≡ pos 1)
 unfolding meet less lack neighbours setOf onesIn
 star-ends = (star-figure (set []) (lit≤ tt), star-figure (setOf (2 ^ 64 - 1)) (lit≤ tt))
 
@@ -161,10 +162,16 @@ demand-right =
 pub calls-right : AllRight weaving.calls
 unfolding neighbours add setOf
 calls-right =
-    demand-3 (caseOf (seven (3 ∷ []))) weaving.desks (own 3 ∷ near 2 3 ∷ own 3 ∷ []) (own 7 ∷ own 8 ∷ own 9 ∷ []) (own 3 ∷ near 2 3 ∷ own 9 ∷ []) (wove.Written 2 (wordOf (2 ∷ 3 ∷ []))) (known .at3 .valid) accepted shuffled (omega arith) (omega arith)
+    demand-3 .weaves (caseOf (seven (3 ∷ []))) weaving.desks weaving.sent
+    (own 7 ∷ own 8 ∷ own 9 ∷ []) (own 3 ∷ near 2 3 ∷ own 9 ∷ []) (wove.Written 2 (wordOf (2 ∷ 3 ∷ [])))
+    (record { valid = known .at3 .valid; alone = accepted; shuffled = shuffled; few = omega arith; room = omega arith })
     ((known .at3 .valid, (omega arith, (named3, ((λ o. refl), (named23, ((λ o. record { unit = refl; joined = refl }), (named3, ((λ o. refl), (omega arith, tt))))))))), refl, refl, refl)
     & (λ h. let e = h .answers in let z : _≡_ {A = ℕ} 0 1 = cc in omega arith)
     & (λ h. omega (arith, ap (λ (xs : List Step). getD xs 0 noStep .bus) (h .records)))
+    & (λ h. let e = h .answers in let c : _≡_ {A = ℕ} 3 (h .count) = cc in omega (arith, c, h .counted))
+    & (λ h. let e = h .answers in
+    let s : _≡_ {A = ℕ} (wordOf (3 ∷ [])) (h .set) = cc in
+    omega (arith, ap (λ (w : ℕ). bit (setOf w) 2) s, ap (λ (t : ℕ). bit t 2) (h .reaches)))
     & tt
   where
     named3 : Names 7 (own 3)

@@ -12,14 +12,14 @@ use Rattle.case_build.specs.Building.{withLine}
 use Rattle.case_judge.specs.Judging.{verdict}
 use Rattle.case_read.specs.Reading.{start, readCase, got}
 use Rattle.case_inverse.specs.Grammar as grammar
-use Rattle.case_read.specs.Writing.{caseText}
+use Rattle.case_line.specs.CaseText.{caseText}
 use Rattle.case_read.specs.declared.CaseRead.{CaseRead}
 use Rattle.case_judge.specs.declared.Place.{Place}
 use Rattle.case_read.specs.declared.ReadAnswer.{ReadAnswer}
 use Rattle.case_read.specs.declared.ReadAnswer.the-variants.{Read, Refused}
 use Rattle.case_judge.specs.declared.Verdict.{Verdict}
 use Rattle.case_judge.specs.declared.Verdict.the-variants.{Next, Last, Form, Range, Order}
-use Rattle.starred.specs.Table.{caseOf, seven, path}
+use Rattle.tables.specs.Starred.{caseOf, seven, path}
 use Rattle.tables.specs.Tables.{Right, Reads, Row, holds, fails, block}
 use Rattle.tables.specs.Drawings.{value}
 

@@ -8,41 +8,41 @@ use Rattle.tables.specs.Drawings.{set, grid, sevenGrid, apart}
 abbrev pub confirm : List Row
 confirm =
     -- joined
-    holds (Confirm (sevenGrid [] .nbr) 3 4)
-    ∷ holds (Confirm (sevenGrid [] .nbr) 4 3)
+    holds (Confirm (sevenGrid [] .neighbours) 3 4)
+    ∷ holds (Confirm (sevenGrid [] .neighbours) 4 3)
     -- they share 3, which is Z, or 4, which is I
-    ∷ holds (Confirm (sevenGrid [] .nbr) 2 4)
-    ∷ holds (Confirm (sevenGrid [] .nbr) 3 5)
+    ∷ holds (Confirm (sevenGrid [] .neighbours) 2 4)
+    ∷ holds (Confirm (sevenGrid [] .neighbours) 3 5)
     -- neither
-    ∷ fails (Confirm (sevenGrid [] .nbr) 1 4)
-    ∷ fails (Confirm (sevenGrid [] .nbr) 1 6)
-    ∷ fails (Confirm (grid (apart []) .nbr) 1 3)
+    ∷ fails (Confirm (sevenGrid [] .neighbours) 1 4)
+    ∷ fails (Confirm (sevenGrid [] .neighbours) 1 6)
+    ∷ fails (Confirm (grid (apart []) .neighbours) 1 3)
     ∷ []
 
 -- the units of the seven, and one that no other unit confirms
 abbrev pub unconfirmed : List Row
 unconfirmed =
     -- a unit does not confirm itself
-    holds (Unconfirmed (sevenGrid [] .nbr) (set (3 ∷ [])) 3)
-    ∷ fails (Unconfirmed (sevenGrid [] .nbr) (set (3 ∷ 4 ∷ [])) 3)
+    holds (Unconfirmed (sevenGrid [] .neighbours) (set (3 ∷ [])) 3)
+    ∷ fails (Unconfirmed (sevenGrid [] .neighbours) (set (3 ∷ 4 ∷ [])) 3)
     -- there is no unit
-    ∷ fails (Unconfirmed (sevenGrid [] .nbr) (set (3 ∷ [])) 6)
+    ∷ fails (Unconfirmed (sevenGrid [] .neighbours) (set (3 ∷ [])) 6)
     ∷ []
 
 -- the units, and the set of all that no other unit confirms
 abbrev pub sets : List Row
 sets =
     -- no units
-    holds (UnconfirmedSet (sevenGrid [] .nbr) (set []) (set []))
-    ∷ holds (UnconfirmedSet (sevenGrid [] .nbr) (set (3 ∷ [])) (set (3 ∷ [])))
-    ∷ holds (UnconfirmedSet (sevenGrid [] .nbr) (set (3 ∷ 4 ∷ [])) (set []))
-    ∷ holds (UnconfirmedSet (sevenGrid [] .nbr) (set (2 ∷ 4 ∷ [])) (set []))
-    ∷ holds (UnconfirmedSet (sevenGrid [] .nbr) (set (1 ∷ 4 ∷ [])) (set (1 ∷ 4 ∷ [])))
+    holds (UnconfirmedSet (sevenGrid [] .neighbours) (set []) (set []))
+    ∷ holds (UnconfirmedSet (sevenGrid [] .neighbours) (set (3 ∷ [])) (set (3 ∷ [])))
+    ∷ holds (UnconfirmedSet (sevenGrid [] .neighbours) (set (3 ∷ 4 ∷ [])) (set []))
+    ∷ holds (UnconfirmedSet (sevenGrid [] .neighbours) (set (2 ∷ 4 ∷ [])) (set []))
+    ∷ holds (UnconfirmedSet (sevenGrid [] .neighbours) (set (1 ∷ 4 ∷ [])) (set (1 ∷ 4 ∷ [])))
     -- a unit at a bus with no lines, beside others
-    ∷ holds (UnconfirmedSet (grid (apart []) .nbr) (set (1 ∷ 2 ∷ 3 ∷ [])) (set (3 ∷ [])))
+    ∷ holds (UnconfirmedSet (grid (apart []) .neighbours) (set (1 ∷ 2 ∷ 3 ∷ [])) (set (3 ∷ [])))
     -- a unit would confirm itself
-    ∷ fails (UnconfirmedSet (sevenGrid [] .nbr) (set (3 ∷ [])) (set []))
+    ∷ fails (UnconfirmedSet (sevenGrid [] .neighbours) (set (3 ∷ [])) (set []))
     -- too few, too many
-    ∷ fails (UnconfirmedSet (sevenGrid [] .nbr) (set (1 ∷ 4 ∷ [])) (set (1 ∷ [])))
-    ∷ fails (UnconfirmedSet (sevenGrid [] .nbr) (set (3 ∷ 4 ∷ [])) (set (3 ∷ [])))
+    ∷ fails (UnconfirmedSet (sevenGrid [] .neighbours) (set (1 ∷ 4 ∷ [])) (set (1 ∷ [])))
+    ∷ fails (UnconfirmedSet (sevenGrid [] .neighbours) (set (3 ∷ 4 ∷ [])) (set (3 ∷ [])))
     ∷ []

@@ -8,7 +8,7 @@ use Rattle.step.specs.declared.Step.{Step}
 use Rattle.rules.specs.Grids.{Grid}
 use Rattle.grid.specs.declared.Case.{Case}
 use Rattle.grid.specs.Cases.{gridOf}
-use Rattle.starred.specs.Table.{Drawing, wordOf, caseOf, seven, path}
+use Rattle.tables.specs.Starred.{Drawing, wordOf, caseOf, seven, path}
 
 -- the set of the buses of a list without repeats
 abbrev pub set : List ℕ → ℕ

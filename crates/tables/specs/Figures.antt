@@ -8,7 +8,7 @@ use Rattle.busset.specs.Sets.{setOf}
 use Rattle.rules.specs.Figures.{figure, Runs}
 use Rattle.grid.specs.declared.Case.{Case}
 use Rattle.grid.specs.Cases.{gridOf, Valid}
-use Rattle.starred.specs.Table.{wordOf, caseOf, seven}
+use Rattle.tables.specs.Starred.{wordOf, caseOf, seven}
 use Rattle.observe_calls.specs.Replies.{stated}
 use Rattle.tables.specs.Tables.{Right, Row, holds, fails}
 use Rattle.tables.specs.Drawings.{set, sevenGrid}
@@ -35,7 +35,7 @@ figures =
 
 -- every row is right
 abbrev pub FiguresRight : Type 0
-FiguresRight = Right (λ q. figure (sevenGrid [] .nbr) (set (q .0)) (q .1) (q .2)) figures
+FiguresRight = Right (λ q. figure (sevenGrid [] .neighbours) (set (q .0)) (q .1) (q .2)) figures
 
 -- 64 buses, of which 1 is joined to every other
 abbrev pub star : Case
@@ -45,8 +45,8 @@ star = record { n = 64; nbr = (2 ^ 64 - 2) ∷ replicate 63 1; zero = 0; site = 
 abbrev pub ends : List Row
 ends =
     holds (Valid star)
-    ∷ holds (figure (gridOf star .nbr) (set []) 1 2 ≡ negsuc 61)
-    ∷ holds (figure (gridOf star .nbr) (setOf (2 ^ 64 - 1)) 1 2 ≡ pos 1)
+    ∷ holds (figure (gridOf star .neighbours) (set []) 1 2 ≡ negsuc 61)
+    ∷ holds (figure (gridOf star .neighbours) (setOf (2 ^ 64 - 1)) 1 2 ≡ pos 1)
     ∷ []
 
 -- where the figure runs: from -62 to 1

@@ -7,9 +7,8 @@ use lib.ListN.{replicate}
 use Rattle.busset.specs.Sets.{width}
 use Rattle.rules.specs.Grids.{Line, Proper, total, lineCount}
 use Rattle.grid.specs.declared.Case.{Case}
-use Rattle.grid.specs.Cases.{mostBuses, mostLines, mostSteps, neighbours, gridOf, LinesAt, Lines, Valid, mostBytes, mostStepBytes}
-use Rattle.plan_input.specs.Asking.{mostBudget}
-use Rattle.starred.specs.Table.{caseOf, seven, path}
+use Rattle.grid.specs.Cases.{mostBuses, mostLines, mostSteps, mostBudget, mostGreedyBudget, neighbours, gridOf, LinesAt, Lines, Valid, mostBytes, mostStepBytes}
+use Rattle.tables.specs.Starred.{caseOf, seven, path}
 use Rattle.tables.specs.Tables.{Right, Row, holds, fails}
 use Rattle.tables.specs.Drawings.{set, value, sevenGrid, grid}
 
@@ -25,6 +24,7 @@ limits =
     ∷ (mostBytes, 8192)
     ∷ (mostStepBytes, 16384)
     ∷ (mostBudget, 8)
+    ∷ (mostGreedyBudget, 64)
     ∷ []
 
 -- every row is right
@@ -56,9 +56,9 @@ NeighboursRight = Right (neighbours (caseOf (seven []) .nbr)) neighboursOf
 abbrev pub parts : List (ℕ × ℕ)
 parts =
     (sevenGrid (3 ∷ []) .n, 7)
-    ∷ (sevenGrid (3 ∷ []) .nbr 3, set (2 ∷ 4 ∷ 7 ∷ []))
-    ∷ (sevenGrid (3 ∷ []) .zero, set (2 ∷ 3 ∷ 5 ∷ []))
-    ∷ (sevenGrid (3 ∷ []) .site, set (1 ∷ 2 ∷ 3 ∷ 4 ∷ 5 ∷ 6 ∷ 7 ∷ []))
+    ∷ (sevenGrid (3 ∷ []) .neighbours 3, set (2 ∷ 4 ∷ 7 ∷ []))
+    ∷ (sevenGrid (3 ∷ []) .zeros, set (2 ∷ 3 ∷ 5 ∷ []))
+    ∷ (sevenGrid (3 ∷ []) .sites, set (1 ∷ 2 ∷ 3 ∷ 4 ∷ 5 ∷ 6 ∷ 7 ∷ []))
     ∷ (sevenGrid (3 ∷ []) .units, set (3 ∷ []))
     ∷ []
 
@@ -71,8 +71,8 @@ abbrev pub sums : List (ℕ × ℕ)
 sums =
     (total 0 (λ b. b), 0)
     ∷ (total 4 (λ b. b), 10)
-    ∷ (lineCount 7 (sevenGrid [] .nbr), 6)
-    ∷ (lineCount 5 (grid path .nbr), 4)
+    ∷ (lineCount 7 (sevenGrid [] .neighbours), 6)
+    ∷ (lineCount 5 (grid path .neighbours), 4)
     ∷ (lineCount 3 (λ b. set []), 0)
     ∷ []
 

@@ -19,3 +19,4 @@ pub mod Confirming
 pub mod Placing
 pub mod Replies
 pub mod Programs
+pub mod Starred

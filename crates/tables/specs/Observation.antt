@@ -1,7 +1,7 @@
 -- Observation: the two rules, and the observed set, at the mistakes that document 01 names.
 use mathlib.Core.List.{List, [], _∷_}
-use Rattle.rules.specs.Observation.{O1, AllBut, Fired, O2, Closed, Least}
-use Rattle.starred.specs.Table.{path}
+use Rattle.rules.specs.Observation.{O1, AllBut, Fired, O2, Closed, ObservedSet}
+use Rattle.tables.specs.Starred.{path}
 use Rattle.tables.specs.Tables.{Row, holds, fails}
 use Rattle.tables.specs.Drawings.{set, grid, sevenGrid, pathWith, sweep, leaf, lone}
 
@@ -70,22 +70,22 @@ closed =
 -- the smallest of them
 abbrev pub least : List Row
 least =
-    holds (Least (sevenGrid []) (set []))
-    ∷ holds (Least (sevenGrid (2 ∷ [])) (set (1 ∷ 2 ∷ 3 ∷ [])))
-    ∷ holds (Least (sevenGrid (3 ∷ [])) (set (1 ∷ 2 ∷ 3 ∷ 4 ∷ 7 ∷ [])))
-    ∷ holds (Least (sevenGrid (4 ∷ [])) (set (3 ∷ 4 ∷ 5 ∷ 6 ∷ [])))
-    ∷ holds (Least (sevenGrid (1 ∷ 4 ∷ [])) (set (1 ∷ 2 ∷ 3 ∷ 4 ∷ 5 ∷ 6 ∷ 7 ∷ [])))
-    ∷ holds (Least (grid path) (set (1 ∷ 2 ∷ 4 ∷ 5 ∷ [])))
+    holds (ObservedSet (sevenGrid []) (set []))
+    ∷ holds (ObservedSet (sevenGrid (2 ∷ [])) (set (1 ∷ 2 ∷ 3 ∷ [])))
+    ∷ holds (ObservedSet (sevenGrid (3 ∷ [])) (set (1 ∷ 2 ∷ 3 ∷ 4 ∷ 7 ∷ [])))
+    ∷ holds (ObservedSet (sevenGrid (4 ∷ [])) (set (3 ∷ 4 ∷ 5 ∷ 6 ∷ [])))
+    ∷ holds (ObservedSet (sevenGrid (1 ∷ 4 ∷ [])) (set (1 ∷ 2 ∷ 3 ∷ 4 ∷ 5 ∷ 6 ∷ 7 ∷ [])))
+    ∷ holds (ObservedSet (grid path) (set (1 ∷ 2 ∷ 4 ∷ 5 ∷ [])))
     -- it satisfies both rules, and is not the smallest
-    ∷ fails (Least (sevenGrid (3 ∷ [])) (set (1 ∷ 2 ∷ 3 ∷ 4 ∷ 5 ∷ 6 ∷ 7 ∷ [])))
+    ∷ fails (ObservedSet (sevenGrid (3 ∷ [])) (set (1 ∷ 2 ∷ 3 ∷ 4 ∷ 5 ∷ 6 ∷ 7 ∷ [])))
     -- what O1 gives alone
-    ∷ fails (Least (sevenGrid (3 ∷ [])) (set (2 ∷ 3 ∷ 4 ∷ 7 ∷ [])))
+    ∷ fails (ObservedSet (sevenGrid (3 ∷ [])) (set (2 ∷ 3 ∷ 4 ∷ 7 ∷ [])))
     -- O2 at the I buses 2 and 4
-    ∷ fails (Least (grid path) (set (1 ∷ 2 ∷ 3 ∷ 4 ∷ 5 ∷ [])))
+    ∷ fails (ObservedSet (grid path) (set (1 ∷ 2 ∷ 3 ∷ 4 ∷ 5 ∷ [])))
     -- one sweep over the buses is not enough
-    ∷ fails (Least (grid sweep) (set (2 ∷ 3 ∷ 4 ∷ [])))
-    ∷ holds (Least (grid sweep) (set (1 ∷ 2 ∷ 3 ∷ 4 ∷ [])))
+    ∷ fails (ObservedSet (grid sweep) (set (2 ∷ 3 ∷ 4 ∷ [])))
+    ∷ holds (ObservedSet (grid sweep) (set (1 ∷ 2 ∷ 3 ∷ 4 ∷ [])))
     -- a unit at a bus with no lines observes that bus only
-    ∷ holds (Least (grid lone) (set (1 ∷ [])))
-    ∷ fails (Least (grid lone) (set (1 ∷ 2 ∷ [])))
+    ∷ holds (ObservedSet (grid lone) (set (1 ∷ [])))
+    ∷ fails (ObservedSet (grid lone) (set (1 ∷ 2 ∷ [])))
     ∷ []

@@ -1,4 +1,5 @@
--- The order of refusals: 1, then the first bad line, in it 2, 3, 4 (in a step text 12 after 3); then 5; then 10 or 12; then 7, 8, 9 at the first bad step; then 13; then 11; then 6.
+-- The order of refusals: 1, then the first bad line, in it 2, 3, 4 (in a step text 12 after 3); then 5; then 10 or 12;
+-- then 7, 8, 9 at the first bad step; then 13; then 11; then 6.
 use mathlib.Core.List.{List, [], _∷_}
 use Prim.Native.Nat.{ℕ}
 use Rattle.refusals.specs.Refusals.{Check, check}
@@ -57,6 +58,9 @@ lists =
     ∷ holds (InOrder (refusal 5 0 ∷ []))
     ∷ holds (InOrder (refusal 5 0 ∷ refusal 10 0 ∷ refusal 11 0 ∷ []))
     ∷ fails (InOrder (refusal 5 0 ∷ refusal 11 0 ∷ refusal 10 0 ∷ []))
+    -- a number that the table does not have
+    ∷ fails (InOrder (refusal 14 0 ∷ []))
+    ∷ fails (InOrder (refusal 5 0 ∷ refusal 14 0 ∷ []))
     ∷ holds (FirstFails (check (Unit {0}) 5 0 ∷ refusal 10 0 ∷ refusal 11 0 ∷ []) 10 0)
     ∷ fails (FirstFails (check (Unit {0}) 5 0 ∷ refusal 10 0 ∷ refusal 11 0 ∷ []) 11 0)
     ∷ fails (FirstFails (check (Unit {0}) 5 0 ∷ []) 5 0)

@@ -7,8 +7,8 @@ use Rattle.text_field.specs.Split.{bytes}
 use Rattle.refusals.specs.declared.Refusal.the-variants.{WrongForm, OutOfRange, InvalidCase, NoRoom, NoSuchBus}
 use Rattle.text_put.specs.Put.{Put}
 use Rattle.report_lines.specs.Printing.{RefusedText, PrintedReply}
-use Rattle.text_put.specs.declared.Written.the-variants as written
-use Rattle.taking.specs.Taking.{StepsReadReply}
+use Rattle.refusals.specs.declared.Written.the-variants as written
+use Rattle.step_text.specs.Taking.{StepsReadReply}
 use Rattle.step_text.specs.declared.StepsRead.the-variants as steps
 use Rattle.report_day.specs.Day.{Day}
 use Rattle.report_plan.specs.Plan.{Plan}
@@ -16,7 +16,7 @@ use Rattle.step_replay.specs.Replying.{TextReplayReply}
 use Rattle.step_replay.specs.declared.TextReplayed.the-variants as replayed
 use Rattle.estimator.specs.Answers.{ObservedFor, UnconfirmedFor, FewestFor, ReplayFor, OfText}
 use Rattle.estimator_reply.specs.Results.{Answered}
-use Rattle.starred.specs.Table.{wordOf}
+use Rattle.tables.specs.Starred.{wordOf}
 use Rattle.tables.specs.Tables.{Row, holds, fails, block}
 use Rattle.tables.specs.Drawings.{own}
 use Rattle.tables.specs.CaseTexts.{input, bareInput}

@@ -6,14 +6,15 @@ use lib.IntN.{pos}
 use lib.ListN.{replicate}
 use Rattle.text_field.specs.Split.{bytes}
 use Rattle.grid.specs.declared.Case.{Case}
-use Rattle.refusals.specs.declared.Refusal.the-variants.{WrongForm, InvalidCase, NoRoom, NoSuchBus, AlreadyObserved, ReasonFails, OverBudget, NoCover, TooManySteps, NotJoined}
+use Rattle.refusals.specs.declared.Refusal.the-variants.{WrongForm, InvalidCase, NoRoom, NoSuchBus, AlreadyObserved, ReasonFails}
+use Rattle.refusals.specs.declared.Refusal.the-variants.{OverBudget, NoCover, TooManySteps, NotJoined}
 use Rattle.list_value.specs.Lists.{listOf}
 use Rattle.ending.specs.Replies.{ReplayReply, WeaveReply}
 use Rattle.ending.specs.declared.Replayed.the-variants as replayed
 use Rattle.ending.specs.declared.Wove.the-variants as wove
 use Rattle.case_read.specs.Reading.{refused}
 use Rattle.step_text.specs.declared.StepsRead.the-variants as steps
-use Rattle.text_put.specs.declared.Written.the-variants as written
+use Rattle.refusals.specs.declared.Written.the-variants as written
 use Rattle.observe_calls.specs.Replies.{ObservedReply, FigureReply, StepReply}
 use Rattle.list_derive.specs.Replies.{DerivationReply}
 use Rattle.place_calls.specs.Replies.{VerdictReply, GreedyReply, FewestReply}
@@ -25,7 +26,7 @@ use Rattle.list_derive.specs.declared.DerivationAnswer.the-variants as derived
 use Rattle.place_calls.specs.declared.Verdict.the-variants as verdict
 use Rattle.place_calls.specs.declared.Greedy.the-variants as greedy
 use Rattle.place_calls.specs.declared.Fewest.the-variants as fewest
-use Rattle.starred.specs.Table.{wordOf, caseOf, seven}
+use Rattle.tables.specs.Starred.{wordOf, caseOf, seven}
 use Rattle.tables.specs.Tables.{Row, holds, fails}
 use Rattle.tables.specs.Drawings.{own, near, zeroAt, value}
 use Rattle.tables.specs.Steps.{derivation}
@@ -96,7 +97,8 @@ replays =
 abbrev pub weaves : List Row
 weaves =
     -- a step for an observed bus is passed over, also where its reason is false; the rest of the records stays
-    holds (WeaveReply (case (3 ∷ [])) (own 3 ∷ near 3 1 ∷ near 2 3 ∷ []) (own 7 ∷ own 8 ∷ own 9 ∷ []) (own 3 ∷ near 2 3 ∷ own 9 ∷ []) (wove.Written 2 (wordOf (2 ∷ 3 ∷ []))))
+    holds (WeaveReply (case (3 ∷ [])) (own 3 ∷ near 3 1 ∷ near 2 3 ∷ []) (own 7 ∷ own 8 ∷ own 9 ∷ []) (own 3 ∷ near 2 3 ∷ own 9 ∷ [])
+    (wove.Written 2 (wordOf (2 ∷ 3 ∷ []))))
     -- but its numbers are checked
     ∷ holds (WeaveReply (case (3 ∷ [])) (own 3 ∷ near 3 8 ∷ []) (own 7 ∷ []) (own 7 ∷ []) (wove.Refused (NoSuchBus 2)))
     ∷ holds (WeaveReply (case (3 ∷ [])) (zeroAt 1 2 ∷ []) (own 7 ∷ []) (own 7 ∷ []) (wove.Refused (ReasonFails 1)))
@@ -154,5 +156,6 @@ texts =
     ∷ holds (CaseWrittenReply bad [] (written.Refused InvalidCase) [])
     ∷ holds (CaseWrittenReply (value 1 [] [] [] []) (7 ∷ []) (written.Refused NoRoom) (7 ∷ []))
     ∷ fails (CaseWrittenReply (value 1 [] [] [] []) (7 ∷ []) (written.Refused NoRoom) (103 ∷ []))
-    ∷ holds (CaseWrittenReply (value 1 [] [] [] []) (replicate 23 7) (written.Bytes 21) (bytes "grid\t1\nbus\t1\tI\tN\nend\n" ++ 7 ∷ 7 ∷ []))
+    ∷ holds (CaseWrittenReply (value 1 [] [] [] []) (replicate 23 7) (written.Bytes 21)
+    (bytes "grid\t1\nbus\t1\tI\tN\nend\n" ++ 7 ∷ 7 ∷ []))
     ∷ []

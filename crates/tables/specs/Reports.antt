@@ -21,7 +21,7 @@ use Rattle.report_day.specs.Day.{verdictFields, dayText}
 use Rattle.plan_input.specs.Asking.{budgetOf, readPlan}
 use Rattle.report_plan.specs.Plan.{planText}
 use Rattle.plan_input.specs.declared.Asked.{Asked}
-use Rattle.starred.specs.Table.{wordOf, caseOf, seven}
+use Rattle.tables.specs.Starred.{wordOf, caseOf, seven}
 use Rattle.tables.specs.Tables.{Right, Reads, Writes, block}
 use Rattle.tables.specs.Drawings.{own, near, zeroAt}
 use Rattle.tables.specs.CaseTexts.{input}

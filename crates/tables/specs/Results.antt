@@ -3,11 +3,12 @@ use mathlib.Core.List.{List, [], _∷_}
 use Prim.Native.Nat.{ℕ}
 use Rattle.busset.specs.Bytes.{setBytes}
 use Rattle.refusals.specs.declared.Refusal.{Refusal}
-use Rattle.refusals.specs.declared.Refusal.the-variants.{TextTooLong, WrongForm, OutOfRange, NoSuchBus, ReasonFails, OverBudget, NoCover, TooManySteps}
+use Rattle.refusals.specs.declared.Refusal.the-variants.{TextTooLong, WrongForm, OutOfRange, NoSuchBus, ReasonFails}
+use Rattle.refusals.specs.declared.Refusal.the-variants.{OverBudget, NoCover, TooManySteps}
 use Rattle.estimator_reply.specs.Results.{codeOf, resultOf, leftBy}
 use Rattle.estimator_reply.specs.declared.Answer.{Answer}
 use Rattle.estimator_reply.specs.declared.Answer.the-variants.{Set, Refused, Unread}
-use Rattle.starred.specs.Table.{wordOf}
+use Rattle.tables.specs.Starred.{wordOf}
 use Rattle.tables.specs.Tables.{Right}
 
 -- ---- the result

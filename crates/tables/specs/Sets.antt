@@ -2,10 +2,11 @@
 use mathlib.Core.Bool.{Bool, true, false}
 use mathlib.Core.List.{List, [], _∷_}
 use Prim.Native.Nat.{ℕ, _-_, _≤_, _^_}
-use Rattle.busset.specs.Sets.{Bus, bit, In, Out, Sub, Within, add, meet, lack, less, upTo, size, setOf, Union, Both, Minus, With, Without, Lowest, Counted, All}
+use Rattle.busset.specs.Sets.{Bus, bit, In, Out, Sub, Within, add, meet, lack, less, upTo, size, setOf}
+use Rattle.busset.specs.Sets.{Union, Both, Minus, With, Without, Lowest, Counted, All}
 use Rattle.busset.specs.Held as held
 use Rattle.busset.specs.Bytes.{byteOf}
-use Rattle.busset.specs.Deciding.{Decides}
+use Rattle.basics.specs.Deciding.{Decides}
 use Rattle.tables.specs.Tables.{Right, Row, holds, fails}
 use Rattle.tables.specs.Drawings.{set}
 

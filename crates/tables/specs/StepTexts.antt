@@ -4,12 +4,15 @@ use mathlib.Core.List.{List, [], _∷_}
 use Prim.Native.Nat.{ℕ}
 use Prim.Native.String.{String}
 use lib.ListN.{replicate}
+use Rattle.grid.specs.Cases.{mostBuses}
+use Rattle.rules.specs.Steps.{Names}
+use Rattle.basics.specs.Lists.{Each}
 use Rattle.text_field.specs.Split.{bytes, split, lineFeed}
 use Rattle.step.specs.declared.Step.{Step}
 use Rattle.refusals.specs.declared.Refusal.the-variants.{TextTooLong, WrongForm, OutOfRange, NoRoom, TooManySteps}
-use Rattle.step_text.specs.Steps.{stepInRange, stepLines, readSteps, stepsOf, AllNamed}
-use Rattle.taking.specs.Taking.{StepAt, withRoom, leaves, Takes}
-use Rattle.taking.specs.declared.NextStep.the-variants.{At, Nothing}
+use Rattle.step_text.specs.Steps.{stepInRange, stepLines, readSteps, stepsOf}
+use Rattle.step_text.specs.Taking.{StepAt, withRoom, leaves, Takes}
+use Rattle.step_text.specs.declared.taking.NextStep.the-variants.{At, Nothing}
 use Rattle.step_text.specs.declared.StepsRead.{StepsRead}
 use Rattle.step_text.specs.declared.StepsRead.the-variants.{Steps, Refused}
 use Rattle.tables.specs.Tables.{Right, Reads, Row, holds, fails, block}
@@ -111,8 +114,8 @@ ListsRight = Right stepsOf lists
 -- each step names buses 1 to 64; and the step that starts at an index, with the index of the line after it
 abbrev pub found : List Row
 found =
-    holds (AllNamed (own 1 ∷ near 64 1 ∷ []))
-    ∷ fails (AllNamed (own 1 ∷ near 64 65 ∷ []))
+    holds (Each (Names mostBuses) (own 1 ∷ near 64 1 ∷ []))
+    ∷ fails (Each (Names mostBuses) (own 1 ∷ near 64 65 ∷ []))
     ∷ holds (StepAt (bytes "step\t3\tO\nend\n") 0 (At (own 3) 9))
     ∷ holds (StepAt (bytes "step\t3\tO\nend\n") 9 Nothing)
     ∷ fails (StepAt (bytes "step\t3\tO\nend\n") 0 Nothing)

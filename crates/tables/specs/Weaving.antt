@@ -2,11 +2,13 @@
 use mathlib.Core.List.{List, [], _∷_}
 use Prim.Native.Nat.{ℕ, _≤_}
 use Rattle.step.specs.declared.Step.{Step}
-use Rattle.rules.specs.Weaving.{woven, wovenFrom, WeavableFrom, Weavable, Each, Some, Taken, Shuffle, Woven}
+use Rattle.basics.specs.Lists.{Each, Some}
+use Rattle.rules.specs.Weaving.{woven, wovenFrom, WeavableFrom, Weavable, Taken, Shuffle, Woven}
 use Rattle.refusals.specs.declared.Refusal.the-variants.{NoRoom}
+use Rattle.ending.specs.declared.Wove.{Wove}
 use Rattle.ending.specs.declared.Wove.the-variants as wove
-use Rattle.demands.specs.Demand3.{Demand3}
-use Rattle.starred.specs.Table.{wordOf, caseOf, seven}
+use Rattle.demands.specs.Demand3.{Weaves}
+use Rattle.tables.specs.Starred.{wordOf, caseOf, seven}
 use Rattle.tables.specs.Tables.{Right, Row, holds, fails}
 use Rattle.tables.specs.Drawings.{set, own, near, zeroAt, sevenGrid}
 use Rattle.tables.specs.Steps.{derivation}
@@ -89,12 +91,23 @@ demand =
     ∷ fails (Woven (sevenGrid (3 ∷ [])) desks (near 2 3 ∷ own 3 ∷ near 4 3 ∷ []))
     ∷ []
 
--- the same of the call, with the records before and after and the answer
+-- what both desks send
+abbrev pub sent : List Step
+sent = own 3 ∷ near 2 3 ∷ own 3 ∷ []
+
+-- what is said of weaving it, with the records before and after, and the answer
+abbrev pub WeavesSent : List Step → List Step → Wove → Type 0
+WeavesSent = Weaves (caseOf (seven (3 ∷ []))) desks sent
+
+-- the same of the call
 abbrev pub calls : List Row
 calls =
-    holds (Demand3 (caseOf (seven (3 ∷ []))) desks (own 3 ∷ near 2 3 ∷ own 3 ∷ []) (own 7 ∷ own 8 ∷ own 9 ∷ []) (own 3 ∷ near 2 3 ∷ own 9 ∷ []) (wove.Written 2 (wordOf (2 ∷ 3 ∷ []))))
+    holds (WeavesSent (own 7 ∷ own 8 ∷ own 9 ∷ []) (own 3 ∷ near 2 3 ∷ own 9 ∷ []) (wove.Written 2 (wordOf (2 ∷ 3 ∷ []))))
     -- it never refuses
-    ∷ fails (Demand3 (caseOf (seven (3 ∷ []))) desks (own 3 ∷ near 2 3 ∷ own 3 ∷ []) [] [] (wove.Refused NoRoom))
+    ∷ fails (WeavesSent [] [] (wove.Refused NoRoom))
     -- nothing is woven
-    ∷ fails (Demand3 (caseOf (seven (3 ∷ []))) desks (own 3 ∷ near 2 3 ∷ own 3 ∷ []) (own 7 ∷ own 8 ∷ []) (own 7 ∷ own 8 ∷ []) (wove.Written 0 0))
+    ∷ fails (WeavesSent (own 7 ∷ own 8 ∷ []) (own 7 ∷ own 8 ∷ []) (wove.Written 0 0))
+    -- the count is made up, or the set
+    ∷ fails (WeavesSent (own 7 ∷ own 8 ∷ own 9 ∷ []) (own 3 ∷ near 2 3 ∷ own 9 ∷ []) (wove.Written 3 (wordOf (2 ∷ 3 ∷ []))))
+    ∷ fails (WeavesSent (own 7 ∷ own 8 ∷ own 9 ∷ []) (own 3 ∷ near 2 3 ∷ own 9 ∷ []) (wove.Written 2 (wordOf (3 ∷ []))))
     ∷ []

@@ -4,9 +4,9 @@ use mathlib.Core.Logic.{⊎-elim}
 use mathlib.Core.Bool.{Bool}
 use Prim.Native.Nat.{ℕ}
 use native.Mathlib.Omega.{arith}
-use Rattle.busset.specs.Deciding.{Decides}
+use Rattle.basics.specs.Deciding.{Decides}
 use Rattle.busset.specs.Sets.{Bus, In, Sub, With}
-use Rattle.busset.proofs.Tests.{same-or, decides-by}
+use Rattle.basics.proofs.Tests.{same-or, decides-by}
 use Rattle.busset.proofs.Members.{sub-of}
 use Rattle.step.specs.declared.Reason.{Reason}
 use Rattle.step.specs.declared.Step.{Step}

@@ -1,5 +1,5 @@
 // The test of one step: the buses that it names, and whether its reason holds.
-ghost use Rattle.busset.specs.Deciding.{Decides};
+ghost use Rattle.basics.specs.Deciding.{Decides};
 ghost use Rattle.busset.specs.Sets.{Bus, width, setOf};
 ghost use Rattle.rules.specs.Steps.{ByUnit, ByZero, Holds, Names};
 ghost use Rattle.grid.specs.Cases.{neighbours, gridOf};

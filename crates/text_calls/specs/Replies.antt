@@ -1,4 +1,4 @@
--- What each call on texts promises; for `read_steps` it is `StepsReadReply` (crate taking).
+-- What each call on texts promises; for `read_steps` it is `StepsReadReply` (crate step_text).
 use mathlib.Core.Path.{_≡_}
 use mathlib.Core.List.{List, [], _∷_, _++_}
 use Prim.Native.Nat.{ℕ, _≤_}
@@ -7,12 +7,12 @@ use Rattle.grid.specs.declared.Case.{Case}
 use Rattle.grid.specs.Cases.{Valid}
 use Rattle.refusals.specs.Refusals.{Check, check, Passed, Failed}
 use Rattle.case_read.specs.Reading.{readCase}
-use Rattle.case_read.specs.Writing.{caseText}
+use Rattle.case_line.specs.CaseText.{caseText}
 use Rattle.case_read.specs.declared.CaseRead.{CaseRead}
 use Rattle.step_text.specs.Steps.{readSteps}
 use Rattle.step_text.specs.declared.StepsRead.{StepsRead}
-use Rattle.text_put.specs.declared.Written.{Written}
-use Rattle.text_put.specs.declared.Written.the-variants as written
+use Rattle.refusals.specs.declared.Written.{Written}
+use Rattle.refusals.specs.declared.Written.the-variants as written
 
 -- ---- a case text read: 1, then the first bad line, in it 2, 3, 4
 

@@ -3,8 +3,8 @@ ghost use Rattle.text_calls.specs.Replies.{CaseReadReply, CaseWrittenRep
 use case_read::CaseRead;
 use grid::Case;
 use refusals::Refusal;
+use refusals::Written;
 use step_text::StepsRead;
-use text_put::Written;
 
 // The case that a text says.
 pub fn read_case(text: &[u8]) -> CaseRead

@@ -20,9 +20,6 @@ sets-append l (x ∷ t) u i =
 pub put-none : {l : List ℕ} {at : ℕ} → Put l at [] l at
 put-none {l} {at} = record { put = refl; next = omega arith }
 
-pub put-in : {l : List ℕ} {at b : ℕ} → Put l at (b ∷ []) (set l at b) (at + 1)
-put-in = record { put = refl; next = omega arith }
-
 pub put-out : {l : List ℕ} {at : ℕ} (b : ℕ) → length l ≤ at → Put l at (b ∷ []) l (at + 1)
 put-out {l} {at} b h = record { put = sym (set-out l at b h); next = omega arith }
 

@@ -1,17 +1,11 @@
-// Bytes and numbers put into lent bytes. A byte past the end is counted and not written, so that what counts is what writes.
+// Bytes and numbers put into lent bytes.
+// A byte past the end is counted and not written, so that what counts is what writes.
 ghost use mathlib.Core.Path.{_≡_};
 ghost use mathlib.Core.List.{[], _∷_, _++_};
 ghost use Prim.Native.Nat.{_+_, _<_, _^_};
 ghost use lib.ListN.{length};
 ghost use Rattle.text_field.specs.Number.{numberText};
 ghost use Rattle.text_put.specs.Put.{Put};
-use refusals::Refusal;
-
-// What writing says: how many bytes the text has.
-pub enum Written {
-    Bytes(usize),
-    Refused(Refusal),
-}
 
 // One byte.
 pub fn put_byte(out: &mut [u8], at: usize, b: u8) -> usize
@@ -69,7 +63,9 @@ pub fn put_tagged(out: &mut [u8], at: usize, w: &[u8], n: usize) -> usize
 // A line of two words, each with its tab and a number.
 pub fn put_pair(out: &mut [u8], at: usize, v: &[u8], m: usize, w: &[u8], n: usize) -> usize
     requires { ⌜ (at < 2 ^ 29) × (length (now v) < 2 ^ 28) × (m < 10000) × (length (now w) < 2 ^ 28) × (n < 10000) ⌝ }
-    ensures { λ r. ⌜ Put (now (out .entry)) at (((now (v .entry) ++ numberText m) ++ (now (w .entry) ++ numberText n)) ++ 10 ∷ []) (now (out .exit)) r ⌝ }
+    ensures { λ r. ⌜ Put (now (out .entry)) at
+        (((now (v .entry) ++ numberText m) ++ (now (w .entry) ++ numberText n)) ++ 10 ∷ [])
+        (now (out .exit)) r ⌝ }
 {
     let a = put_tagged(out, at, v, m);
     let b = put_tagged(out, a, w, n);

@@ -1,4 +1,5 @@
-// Reads the case text on standard input, finds its observed set 200,000 times and prints it, bus b as the bit b - 1 of one number; 0 where it is refused.
+// Reads the case text on standard input, finds its observed set 200,000 times and prints it.
+// Bus b is the bit b - 1 of one number; 0 where the text is refused.
 use wozgrzyt::Case;
 use wozgrzyt::Observed;
 use wozgrzyt::observed_set;

@@ -1,4 +1,5 @@
-// Reads the case text on standard input and prints the fewest new sites within a budget of 8, bus b as the bit b - 1 of one number; 0 where it is refused.
+// Reads the case text on standard input and prints the fewest new sites within a budget of 8.
+// Bus b is the bit b - 1 of one number; 0 where the text is refused.
 use wozgrzyt::Fewest;
 use wozgrzyt::place_fewest;
 use wozgrzyt::read_case;

@@ -1,4 +1,5 @@
-// Reads the case text on standard input 20,000 times and prints the last answer: 100 times the place plus the refusal number, or 0.
+// Reads the case text on standard input 20,000 times and prints the last answer: 100 times the place plus the refusal
+// number, or 0.
 ghost use mathlib.Core.Path.{_≡_};
 use refusals::Refusal;
 use refusals::number;

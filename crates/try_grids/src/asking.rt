@@ -64,7 +64,8 @@ fn answer(case: Case, s: BusSet, letter: u8, a: usize, b: usize) {
     }
 }
 
-// o: the observed set. f: the figure from a to b. O, N, Z: whether the step of bus a is allowed. Only these lines have a name.
+// o: the observed set. f: the figure from a to b. O, N, Z: whether the step of bus a is allowed.
+// Only these lines have a name.
 pub fn ask(name: &[u8], case: Case, s: BusSet, letter: u8, a: usize, b: usize) {
     if 0 < name.len() {
         text(name);

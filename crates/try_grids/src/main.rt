@@ -1,5 +1,5 @@
-// Asks the calls what standard input asks, on document 01's grids, on grids at a limit and on damaged case values, and prints each
-// answer. tests/try_grids.py writes what is asked, and finds what must be printed.
+// Asks the calls what standard input asks, on document 01's grids, on grids at a limit and on damaged case values, and
+// prints each answer. tests/try_grids.py writes what is asked, and finds what must be printed.
 mod asking;
 
 // Line after line: each draws at the case, states a bus, or asks.

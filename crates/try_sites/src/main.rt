@@ -1,5 +1,5 @@
-// Asks the siting group's calls what standard input asks, on document 01's seven buses, on outside grids and at the limits, and
-// prints each answer. tests/siting.py writes what is asked, and finds what must be printed.
+// Asks the siting group's calls what standard input asks, on document 01's seven buses, on outside grids and at the
+// limits, and prints each answer. tests/siting.py writes what is asked, and finds what must be printed.
 ghost use Prim.Native.Nat.{_≤_, _<_};
 ghost use lib.ListN.{length};
 

@@ -70,7 +70,8 @@ fn with_step(p: Plan, bus: usize, reason: Reason) -> Plan {
     plans::add(p, Step { bus, reason })
 }
 
-// n, e: no step. O, N, Z: one step more. c: the last step again and again, until there are so many. D: a desk's list, from a seed.
+// n, e: no step. O, N, Z: one step more. c: the last step again and again, until there are so many.
+// D: a desk's list, from a seed.
 pub fn listed(p: Plan, case: Case, letter: u8, a: usize, b: usize) -> Plan {
     match letter {
         b'n' => plans::none(),

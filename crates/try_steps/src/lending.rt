@@ -31,7 +31,8 @@ pub fn weave_first(
     room: usize,
 ) -> Shown
     requires { ⌜ (count ≤ 1025) × (room ≤ 72) ⌝ }
-    ensures { λ r. ⌜ WeaveReply case (take count plan) (take room out) (take room (r .out)) (r .answer) × (drop room (r .out) ≡ drop room out) ⌝ }
+    ensures { λ r. ⌜ WeaveReply case (take count plan) (take room out) (take room (r .out)) (r .answer)
+        × (drop room (r .out) ≡ drop room out) ⌝ }
 {
     let mut records = out;
     let answer = list_calls::weave(case, &plan[..count], &mut records[..room]);

@@ -1,5 +1,5 @@
-// Asks the derivation, replay and weaving on lent records what standard input asks, and prints each answer. tests/try_steps.py writes
-// what is asked, and finds what must be printed.
+// Asks the derivation, replay and weaving on lent records what standard input asks, and prints each answer.
+// tests/try_steps.py writes what is asked, and finds what must be printed.
 mod desk;
 mod lending;
 mod plans;

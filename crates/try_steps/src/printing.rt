@@ -86,7 +86,8 @@ fn rest(is_kept: bool) {
     }
 }
 
-// The records written, the set reached, and whether the records after them are as they were; or the refusal, and whether all are. What was written is replayed.
+// The records written, the set reached, and whether the records after them are as they were; or the refusal, and
+// whether all are. What was written is replayed.
 fn weave_of(case: Case, p: Plan, room: usize) {
     let shown = records::woven(case, p, room);
     let answer = shown.answer;

@@ -2,7 +2,7 @@
 ghost use Prim.Native.Nat.{_≤_};
 ghost use lib.ListN.{take, drop};
 ghost use mathlib.Core.Path.{_≡_};
-ghost use Rattle.taking.specs.Taking.{StepsReadReply};
+ghost use Rattle.step_text.specs.Taking.{StepsReadReply};
 use step::Step;
 use step_records::read_steps;
 use step_text::StepsRead;
@@ -16,7 +16,8 @@ pub struct Filled {
 // Reads the text into the first `room` records.
 pub fn read_first(text: &[u8], out: [Step; 1032], room: usize) -> Filled
     requires { ⌜ room ≤ 1032 ⌝ }
-    ensures { λ r. ⌜ StepsReadReply (now (text .entry)) (take room out) (take room (r .out)) (r .answer) × (drop room (r .out) ≡ drop room out) ⌝ }
+    ensures { λ r. ⌜ StepsReadReply (now (text .entry)) (take room out) (take room (r .out)) (r .answer)
+        × (drop room (r .out) ≡ drop room out) ⌝ }
 {
     let mut records = out;
     let answer = read_steps(text, &mut records[..room]);

@@ -1,6 +1,6 @@
-// Damages the texts in data/ in every way and prints, for each kind of damage, how many texts were tried, how many were good, how
-// many of those were written again byte for byte, and a sum over the answers. For step texts that are read into lent records it prints
-// in how many every record but the list's was as before, and the sum is over the records too.
+// Damages the texts in data/ in every way and prints, for each kind of damage, how many texts were tried, how many were
+// good, how many of those were written again byte for byte, and a sum over the answers. For step texts that are read
+// into lent records it prints in how many every record but the list's was as before; the sum is over the records too.
 ghost use lib.ListN.{length};
 ghost use mathlib.Core.Path.{_≡_};
 ghost use Prim.Native.Nat.{_≤_};

@@ -36,6 +36,7 @@ pub use place_calls::place_greedy;
 // texts: a case text read and written, a step text checked, read and replayed
 pub use case_read::CaseRead;
 pub use case_read::ReadAnswer;
+pub use refusals::Written;
 pub use step_records::read_steps;
 pub use step_replay::TextReplayed;
 pub use step_replay::replay_text;
@@ -43,7 +44,6 @@ pub use step_text::StepsRead;
 pub use text_calls::check_steps;
 pub use text_calls::read_case;
 pub use text_calls::write_case;
-pub use text_put::Written;
 
 // what the programs print
 pub use report_day::day_report;

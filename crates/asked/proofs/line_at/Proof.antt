@@ -1,3 +1,5 @@
+-- No piece ends before it starts, and `after` passes a tab or is at the text's end.
+-- So the next line starts past this one, and every place is within the text.
 use native.Mathlib.Omega.{arith}
 use borrow.Author.Needs.{needs}
 use Rattle.asked.proofs.Onward.{onward, onward-more}

@@ -1,3 +1,4 @@
+-- 2 ^ n - 1 has its ones at the digits below n. n = 64 is a branch of its own, since a word cannot be shifted by 64.
 use Prim.Native.Nat.{ℕ}
 use mathlib.Core.Path.{subst⁻¹}
 use borrow.Author.Needs.{needs}

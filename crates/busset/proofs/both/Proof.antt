@@ -1,3 +1,4 @@
+-- Each digit of s & t is the smaller of the two digits.
 use Rattle.busset.proofs.Words.{both-law}
 use Rattle.busset.proofs.both.Statement.{statement}
 use Rattle.busset.proofs.both.Tie as tie

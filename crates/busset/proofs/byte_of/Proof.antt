@@ -1,3 +1,4 @@
+-- A shift by 8 i and the mask 255 give byte i, since 256 ^ i is 2 ^ (8 i).
 use borrow.Author.Needs.{needs}
 use native.Mathlib.Omega.{arith}
 use Rattle.busset.proofs.Packing.{byte-cut, byte-small}

@@ -1,3 +1,4 @@
+-- The number of ones in the word is the size of its set. It is at most 64, so the cast keeps it.
 use native.Mathlib.Omega.{arith}
 use lib.Count.{ones-le}
 use borrow.Author.Needs.{needs}

@@ -1,3 +1,4 @@
+-- Bus b is the digit b - 1 of the word, which the shift and the mask by 1 give.
 use borrow.Author.Needs.{needs}
 use Rattle.busset.proofs.Words.{has-test}
 use Rattle.busset.proofs.has.Statement.{statement}

@@ -1,5 +1,6 @@
+-- Below 1 the answer is no. From 1 on only the comparison with n is left.
 use native.Mathlib.Omega.{arith}
-use Rattle.busset.proofs.Tests.{decides-le, decides-by, decides-no}
+use Rattle.basics.proofs.Tests.{decides-le, decides-by, decides-no}
 use Rattle.busset.proofs.is_bus.Statement.{statement}
 use Rattle.busset.proofs.is_bus.Tie as tie
 

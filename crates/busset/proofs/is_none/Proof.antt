@@ -1,5 +1,6 @@
+-- Two words hold the same set exactly if they are equal, and the word 0 holds the empty set.
 use mathlib.Core.Path.{sym, _∙_}
-use Rattle.busset.proofs.Tests.{decides-eq, decides-by}
+use Rattle.basics.proofs.Tests.{decides-eq, decides-by}
 use Rattle.busset.proofs.Words.{decides-set, set-empty}
 use Rattle.busset.proofs.is_none.Statement.{statement}
 use Rattle.busset.proofs.is_none.Tie as tie

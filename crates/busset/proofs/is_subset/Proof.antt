@@ -1,3 +1,4 @@
+-- s & !t is 0 exactly if no digit of s is above that of t.
 use borrow.Author.Needs.{needs}
 use Rattle.busset.proofs.Words.{subset-test}
 use Rattle.busset.proofs.is_subset.Statement.{statement}

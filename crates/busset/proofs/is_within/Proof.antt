@@ -1,3 +1,4 @@
+-- A set is within 1 to n exactly if it is a subset of the buses 1 to n.
 use borrow.Author.Needs.{needs}
 use Rattle.busset.proofs.Members.{within-test}
 use Rattle.busset.proofs.is_within.Statement.{statement}

@@ -1,3 +1,4 @@
+-- Below the first one every digit is 0. A word that is not 0 has at most 63 trailing zeros, so the bus is 1 to 64.
 use native.Mathlib.Omega.{arith}
 use borrow.Author.Needs.{needs}
 use Rattle.busset.proofs.Words.{lowest-law}

@@ -1,3 +1,4 @@
+-- Within 64 digits !t is what t leaves of all ones. So each digit of s & !t is that of s less that of t.
 use borrow.Author.Needs.{needs}
 use Rattle.busset.proofs.Words.{minus-law}
 use Rattle.busset.proofs.minus.Statement.{statement}

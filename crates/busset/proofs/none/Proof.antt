@@ -1,3 +1,4 @@
+-- The set of a word is its double, and the double of 0 is 0, the empty set.
 use Rattle.busset.proofs.Words.{set-empty}
 use Rattle.busset.proofs.none.Statement.{statement}
 use Rattle.busset.proofs.none.Tie as tie

@@ -1,4 +1,5 @@
-use Rattle.busset.proofs.Tests.{decides-eq}
+-- Two words hold the same set exactly if they are equal: a set is its word doubled.
+use Rattle.basics.proofs.Tests.{decides-eq}
 use Rattle.busset.proofs.Words.{decides-set}
 use Rattle.busset.proofs.same.Statement.{statement}
 use Rattle.busset.proofs.same.Tie as tie

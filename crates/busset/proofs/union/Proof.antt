@@ -1,3 +1,4 @@
+-- Each digit of s | t is the larger of the two digits.
 use Rattle.busset.proofs.Words.{union-law}
 use Rattle.busset.proofs.union.Statement.{statement}
 use Rattle.busset.proofs.union.Tie as tie

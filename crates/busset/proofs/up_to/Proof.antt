@@ -1,3 +1,4 @@
+-- Meeting s with the buses 1 to n is its remainder by 2 ^ (n + 1), since no word's set has bus 0.
 use borrow.Author.Needs.{needs}
 use Rattle.busset.proofs.Members.{both-upTo}
 use Rattle.busset.proofs.Words.{set-zero}

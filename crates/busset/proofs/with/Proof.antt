@@ -1,3 +1,4 @@
+-- 1 << (b - 1) has the digit b - 1 alone, and `|` keeps every other digit.
 use borrow.Author.Needs.{needs}
 use Rattle.busset.proofs.Words.{with-law}
 use Rattle.busset.proofs.with.Statement.{statement}

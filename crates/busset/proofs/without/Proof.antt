@@ -1,3 +1,4 @@
+-- The set of b alone, subtracted from s, takes b and no other bus, so one bus fewer is left if b was in s.
 use borrow.Author.Needs.{needs}
 use Rattle.busset.proofs.Words.{without-law}
 use Rattle.busset.proofs.without.Statement.{statement}

@@ -1,3 +1,4 @@
+-- Two writes, each of the row that `hold` names, since a word is determined by its set. The second reads what the first wrote.
 use Rattle.busset.proofs.Holding.{hold-is}
 use borrow.Author.Needs.{needs}
 use Rattle.case_build.proofs.add_line.Statement.{statement}

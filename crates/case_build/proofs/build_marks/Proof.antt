@@ -1,3 +1,4 @@
+-- By the record's kind. `Fit` says that the number of `bus` and of `pmu` is a bus, so `with` gives the word that `hold` names.
 use Rattle.busset.proofs.Holding.{hold-is}
 use Rattle.case_judge.proofs.Judged.{bus-fit, pmu-fit}
 use borrow.Author.Needs.{needs}

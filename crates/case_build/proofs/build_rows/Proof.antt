@@ -1,3 +1,4 @@
+-- By the record's kind. Only a line changes the rows, and `Fit` says that both its ends are buses.
 use Rattle.case_judge.proofs.Judged.{line-fit}
 use borrow.Author.Needs.{needs}
 use Rattle.case_build.proofs.build_rows.Statement.{statement}

@@ -1,3 +1,4 @@
+-- A word is determined by its set, so the word that `with` gives is the one that `hold` names.
 use Rattle.busset.proofs.Holding.{hold-is}
 use borrow.Author.Needs.{needs}
 use Rattle.case_build.proofs.hold_if.Statement.{statement}

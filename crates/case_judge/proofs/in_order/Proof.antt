@@ -1,3 +1,4 @@
+-- By the record's kind: the next bus, a line after the last, a unit above the last. Any other record is always in order.
 use mathlib.Core.Path.{refl}
 use borrow.Author.Needs.{needs}
 use Rattle.case_judge.proofs.in_order.Statement.{statement}

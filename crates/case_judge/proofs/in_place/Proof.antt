@@ -1,3 +1,4 @@
+-- By the record's kind. A `line` asks both that the buses are read and that no unit is; `Wrong` is in place nowhere.
 use mathlib.Core.Path.{refl}
 use borrow.Author.Needs.{needs}
 use Rattle.case_judge.proofs.in_place.Statement.{statement}

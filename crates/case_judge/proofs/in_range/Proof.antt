@@ -1,5 +1,7 @@
+-- By the record's kind. A `line` makes all its three tests, which are the three that `inRange` joins.
 use mathlib.Core.Path.{refl}
 use borrow.Author.Needs.{needs}
+use Rattle.case_judge.proofs.Judged.{is-bus-by}
 use Rattle.case_judge.proofs.in_range.Statement.{statement}
 use Rattle.case_judge.proofs.in_range.Tie as tie
 
@@ -46,19 +48,19 @@ enum-told-2 : tie.Need-enum-told-2
 enum-told-2 c = search needs
 
 returns : tie.Need-returns
-returns c = rw (c .before .before .r .given .1) (c .is-bus .ensures)
+returns c = rw (c .before .before .r .given .1) (is-bus-by (c .is-bus .ensures))
 
 returns-2 : tie.Need-returns-2
-returns-2 c = rw (c .before .before .r2 .given .1) (c .is-bus2 .ensures)
+returns-2 c = rw (c .before .before .r2 .given .1) (is-bus-by (c .is-bus2 .ensures))
 
 returns-3 : tie.Need-returns-3
 returns-3 c =
     let first = c .before .before in
     let ends = first .before .before in
-    rw (ends .before .before .r3 .given .1, c .both2 .ensures, c .before .is-less .ensures, first .both .ensures, first .before .is-bus4 .ensures, ends .is-bus3 .ensures) refl
+    rw (ends .before .before .r3 .given .1, c .both2 .ensures, c .before .is-less .ensures, first .both .ensures, is-bus-by (first .before .is-bus4 .ensures), is-bus-by (ends .is-bus3 .ensures)) refl
 
 returns-4 : tie.Need-returns-4
-returns-4 c = rw (c .before .before .r4 .given .1) (c .is-bus5 .ensures)
+returns-4 c = rw (c .before .before .r4 .given .1) (is-bus-by (c .is-bus5 .ensures))
 
 returns-5 : tie.Need-returns-5
 returns-5 c = search needs

@@ -1,3 +1,4 @@
+-- Three exits: a is below c, a is c and b decides, or a is above c.
 use borrow.Author.Tests.{lt-ltb, le-ltb, eq-eqb, ne-eqb}
 use Rattle.case_judge.specs.Judging.{isAfter}
 use Rattle.case_judge.proofs.is_after.Statement.{statement}

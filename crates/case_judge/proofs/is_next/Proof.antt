@@ -1,3 +1,4 @@
+-- k = last + 1 is asked as k - 1 = last, which cannot overflow. 0 comes after nothing.
 use Rattle.case_judge.proofs.Judged.{next-none, next-some}
 use borrow.Author.Needs.{needs}
 use Rattle.case_judge.proofs.is_next.Statement.{statement}

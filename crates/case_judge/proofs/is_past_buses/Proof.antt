@@ -1,3 +1,4 @@
+-- If n is 0 the conjunction is false. Otherwise only the comparison with the last bus is left.
 use borrow.Author.Tests.{lt-ltb, le-ltb}
 use Rattle.case_judge.specs.Judging.{pastBuses}
 use Rattle.case_judge.proofs.is_past_buses.Statement.{statement}

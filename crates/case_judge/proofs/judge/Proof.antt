@@ -1,3 +1,4 @@
+-- The tests are made in the order 2, 3, 4. Each exit knows which tests passed and which failed.
 use Rattle.case_line.proofs.Answers.{stop, pass}
 use Rattle.case_judge.specs.Judging.{verdict}
 use borrow.Author.Needs.{needs}

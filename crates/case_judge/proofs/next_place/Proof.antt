@@ -1,3 +1,4 @@
+-- By the record's kind. `Fit` says that a `line` is at most the 256th, so the count of lines does not overflow.
 use native.Mathlib.Omega.{arith}
 use Rattle.case_judge.proofs.Judged.{line-fit}
 use borrow.Author.Needs.{needs}

@@ -1,3 +1,4 @@
+-- Two cuts at a tab give the number and the class; the fields after the second end are the site's. The other exits have too few.
 use Rattle.case_line.specs.Record.{busFields}
 use Rattle.case_line.proofs.Fields.{by-none, bus-one, bus-is}
 use borrow.Author.Needs.{needs}

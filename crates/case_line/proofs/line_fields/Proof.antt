@@ -1,3 +1,4 @@
+-- The first field is what `piece_end` cuts off, and the fields after its end are the rest of the same split.
 use Rattle.case_line.specs.Record.{lineOf, lineFields}
 use Rattle.case_line.proofs.Answers.{via₂}
 use Rattle.case_line.proofs.Fields.{by-none, by-next}

@@ -1,3 +1,4 @@
+-- A field that is not one byte long is neither letter. One byte is compared with the first letter, then with the second.
 use Rattle.case_line.proofs.Fields.{mark-long, mark-first, mark-second, mark-other}
 use borrow.Author.Needs.{needs}
 use Rattle.case_line.proofs.mark_of.Statement.{statement}

@@ -1,3 +1,4 @@
+-- A field follows exactly if the word ends before the line does.
 use Rattle.case_line.proofs.Fields.{none-is, none-more}
 use Rattle.case_line.proofs.no_fields.Statement.{statement}
 use Rattle.case_line.proofs.no_fields.Tie as tie

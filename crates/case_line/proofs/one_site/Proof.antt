@@ -1,3 +1,4 @@
+-- There is exactly one field if a tab follows and the piece after it ends with the line. The other two exits have none or more.
 use Rattle.case_line.proofs.Fields.{one-none, one-more, one-is}
 use borrow.Author.Needs.{needs}
 use Rattle.case_line.proofs.one_site.Statement.{statement}

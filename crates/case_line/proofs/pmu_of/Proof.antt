@@ -1,3 +1,4 @@
+-- Two arms: a number makes the record, and a field that is no number makes it `Wrong`.
 use borrow.Author.Needs.{needs}
 use Rattle.case_line.proofs.pmu_of.Statement.{statement}
 use Rattle.case_line.proofs.pmu_of.Tie as tie

@@ -1,3 +1,4 @@
+-- The word is the piece before the first tab, and the fields are the rest of the same split. Then each arm is a call's contract.
 use Rattle.case_line.specs.Record.{wordOf, gridOf, pmuOf, byWord, recordOf}
 use Rattle.case_line.proofs.Answers.{in-arm, via}
 use Rattle.case_line.proofs.Fields.{by-first}

@@ -1,3 +1,4 @@
+-- Five comparisons in the order of `wordOf`: each exit knows that those before it failed.
 use Rattle.case_line.proofs.Answers.{hit, miss}
 use Rattle.case_line.specs.Record.{wordOf}
 use borrow.Author.Needs.{needs}

@@ -1,3 +1,4 @@
+-- Nothing follows `end` exactly if its line feed is the last byte; any byte more makes a piece that is not empty, or two.
 use mathlib.Core.Path.{refl, _∙_}
 use Rattle.case_read.specs.Reading.{closed}
 use Rattle.case_read.proofs.Lines.{end-none, end-more}

@@ -1,3 +1,4 @@
+-- Over 8192 bytes nothing is read. Otherwise the text is read from byte 0, as line 1.
 use mathlib.Core.Path.{_∙_}
 use Rattle.case_read.proofs.Lines.{too-long, short-read}
 use borrow.Author.Needs.{needs}

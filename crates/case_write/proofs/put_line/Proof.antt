@@ -1,3 +1,5 @@
+-- By the record's kind: its parts, put one after another, are its line. `Formed` bounds the numbers, and is false of `Wrong`.
+-- Each part ends at most its length after it starts, so no place passes its bound.
 use Prim.Native.Nat.{_<_, _^_}
 use mathlib.Core.Path.{subst}
 use native.Mathlib.Omega.{arith}

@@ -1,3 +1,4 @@
+-- A tab and then one of two letters: two texts put one after another.
 use Rattle.text_put.proofs.Putting.{put-then}
 use borrow.Author.Needs.{needs}
 use Rattle.case_write.proofs.put_mark.Statement.{statement}

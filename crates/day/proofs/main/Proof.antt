@@ -1,3 +1,4 @@
+-- What `report` printed ends within the bytes lent, so the slice that is written out is there.
 use mathlib.Core.Path.{sym}
 use lib.Seq.{length-take-le}
 use Rattle.report_lines.proofs.Printed.{printed-within}
@@ -14,17 +15,17 @@ read-full-requires c κs = search needs
 array-share-prefix-text : tie.Need-array-share-prefix-text
 array-share-prefix-text c = search needs
 
-slice-aggregate-report : tie.Need-slice-aggregate-report
-slice-aggregate-report c = search needs
+slice-aggregate-program-report : tie.Need-slice-aggregate-program-report
+slice-aggregate-program-report c = search needs
 
-report-requires : tie.Need-report-requires
-report-requires c κs = search needs
+program-report-requires : tie.Need-program-report-requires
+program-report-requires c κs = search needs
 
 array-share-prefix-out : tie.Need-array-share-prefix-out
-array-share-prefix-out c = printed-within (c .report .ensures)
+array-share-prefix-out c = printed-within (c .program-report .ensures)
 
 slice-aggregate-write-all : tie.Need-slice-aggregate-write-all
-slice-aggregate-write-all c = sym (length-take-le _ _ (printed-within (c .before .report .ensures)))
+slice-aggregate-write-all c = sym (length-take-le _ _ (printed-within (c .before .program-report .ensures)))
 
 write-all-requires : tie.Need-write-all-requires
 write-all-requires c κs = search needs
@@ -39,8 +40,8 @@ main-spec =
     slice-aggregate-read-full
     read-full-requires
     array-share-prefix-text
-    slice-aggregate-report
-    report-requires
+    slice-aggregate-program-report
+    program-report-requires
     array-share-prefix-out
     slice-aggregate-write-all
     write-all-requires

@@ -1,5 +1,5 @@
 use borrow.Author.Tests.{not-true, not-false}
-use Rattle.busset.proofs.Tests.{refutes}
+use Rattle.basics.proofs.Tests.{refutes}
 use Rattle.ending.proofs.Ends.{finished-unless-started, finished-test}
 use borrow.Author.Needs.{needs}
 use Rattle.ending.proofs.is_finished.Statement.{statement}

@@ -1,3 +1,4 @@
+-- `reply` requires a place of at most 16385: it is a line of the case text, a line of the step text, or one of 1024 steps.
 use borrow.Author.Needs.{needs}
 use Rattle.estimator.proofs.Bounds.{replay-placed}
 use Rattle.estimator.proofs.wz_replay.Statement.{statement}

@@ -1,3 +1,4 @@
+-- Invariant: the first i bytes are those of the set, and the others are as lent. 8 - i falls.
 use borrow.Author.Needs.{needs}
 use Prim.Native.Nat.{_-_, _≤_}
 use native.Mathlib.Omega.{arith}

@@ -1,3 +1,4 @@
+-- The result is 0 exactly if the answer is a set and eight bytes are lent. Only then are the bytes filled.
 use borrow.Author.Needs.{needs}
 use mathlib.Core.Path.{sym, ap, _∙_}
 use mathlib.Core.List.{_++_}

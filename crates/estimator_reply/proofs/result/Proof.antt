@@ -1,3 +1,4 @@
+-- By the answer's variant. `Placed` bounds the place of a refusal, so its number fits a u32 even with 50 more.
 use borrow.Author.Needs.{needs}
 use mathlib.Core.Path.{subst}
 use native.Mathlib.Omega.{arith}

@@ -1,3 +1,4 @@
+-- The two counts are the sizes that `figure` adds and subtracts. The sum fits an i32, so the word is the integer itself.
 use mathlib.Core.Path.{_∙_}
 use mir.Syntax.{w32}
 use mir.Val.{SFits}

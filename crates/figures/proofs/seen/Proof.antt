@@ -1,5 +1,6 @@
+-- `bit` is 1 exactly if `has` says yes, and a bit that is not 1 is 0.
 use mathlib.Core.Path.{sym}
-use Rattle.busset.proofs.Tests.{refutes}
+use Rattle.basics.proofs.Tests.{refutes}
 use Rattle.busset.proofs.Members.{out-of}
 use borrow.Author.Needs.{needs}
 use Rattle.figures.proofs.seen.Statement.{statement}

@@ -1,3 +1,4 @@
+-- With a degree of at most 64 and at most 65 observed, neither the difference nor the sum leaves an i32.
 use Rattle.figures.proofs.Signed.{less-fits, sum-fits, sum-result}
 use borrow.Author.Needs.{needs}
 use Rattle.figures.proofs.signed_sum.Statement.{statement}

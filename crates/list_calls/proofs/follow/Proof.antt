@@ -57,10 +57,10 @@ use Rattle.list_follow.proofs.apply.Symbol as apply-def
 use Rattle.list_follow.proofs.apply.Symbol.{name as #list_follow·apply}
 use Rattle.list_follow.proofs.apply.Met as apply-thm
 use Rattle.list_calls.proofs.Rows.{case-made, case-typed, following-made, following-typed}
-use Rattle.walking.proofs.StepRow.{step-made, step-typed}
-use Rattle.walking.proofs.Calling.{calls-plain}
-use Rattle.walking.proofs.Counting.{next-fits, next-le, nearer, Nearer, nearer-wf, below, above, drop-next}
-use Rattle.walking.proofs.Walking.{let-go, walk-proves}
+use Rattle.step.proofs.StepRow.{step-made, step-typed}
+use Rattle.step.proofs.Calling.{calls-plain}
+use Rattle.step.proofs.Counting.{next-fits, next-le, nearer, Nearer, nearer-wf, below, above, drop-next}
+use Rattle.step.proofs.Walking.{let-go, walk-proves}
 use Rattle.list_calls.proofs.follow.Key.{name as #list_calls·follow}
 use Rattle.list_calls.proofs.follow as f
 use Rattle.list_calls.proofs.follow.Statement as stated

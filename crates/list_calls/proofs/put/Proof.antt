@@ -75,10 +75,10 @@ use Rattle.list_value.proofs.nth.Symbol as nth-def
 use Rattle.list_value.proofs.nth.Symbol.{name as #list_value·nth}
 use Rattle.list_value.proofs.nth.Met as nth-thm
 use Rattle.list_calls.proofs.Rows.{following-made, following-typed, list-made, list-typed, wove-made, wove-typed}
-use Rattle.walking.proofs.StepRow.{step-made, step-typed}
-use Rattle.walking.proofs.Calling.{calls-plain}
-use Rattle.walking.proofs.Counting.{next-fits, next-le, nearer, Nearer, nearer-wf, below, above, inside}
-use Rattle.walking.proofs.Walking.{let-go, walk-proves}
+use Rattle.step.proofs.StepRow.{step-made, step-typed}
+use Rattle.step.proofs.Calling.{calls-plain}
+use Rattle.step.proofs.Counting.{next-fits, next-le, nearer, Nearer, nearer-wf, below, above, inside}
+use Rattle.step.proofs.Walking.{let-go, walk-proves}
 use Rattle.list_calls.proofs.put.Key.{name as #list_calls·put}
 use Rattle.list_calls.proofs.put as f
 use Rattle.list_calls.proofs.put.Statement as stated

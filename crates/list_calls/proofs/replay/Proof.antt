@@ -50,8 +50,8 @@ use Rattle.ending.proofs.ended.Symbol as ended-def
 use Rattle.ending.proofs.ended.Symbol.{name as #ending·ended}
 use Rattle.ending.proofs.ended.Met as ended-thm
 use Rattle.list_calls.proofs.Rows.{case-made, case-typed, following-made, following-typed, task-is, task-typed, replayed-made, replayed-typed}
-use Rattle.walking.proofs.Calling.{calls-plain}
-use Rattle.walking.proofs.Walking.{let-go, walk-proves}
+use Rattle.step.proofs.Calling.{calls-plain}
+use Rattle.step.proofs.Walking.{let-go, walk-proves}
 use Rattle.list_calls.proofs.Beginning.{Begin, Follow, calls-begin, calls-follow}
 use Rattle.list_calls.proofs.follow.Symbol as follow-def
 use Rattle.list_calls.proofs.follow.Symbol.{name as #list_calls·follow}

@@ -47,8 +47,8 @@ use Rattle.list_follow.proofs.begin.Symbol as begin-def
 use Rattle.list_follow.proofs.begin.Symbol.{name as #list_follow·begin}
 use Rattle.list_follow.proofs.begin.Met as begin-thm
 use Rattle.list_calls.proofs.Rows.{case-made, case-typed, following-made, following-typed, task-is, task-typed, wove-made, wove-typed}
-use Rattle.walking.proofs.Calling.{calls-lent}
-use Rattle.walking.proofs.Walking.{let-go, walk-proves}
+use Rattle.step.proofs.Calling.{calls-lent}
+use Rattle.step.proofs.Walking.{let-go, walk-proves}
 use Rattle.list_calls.proofs.Beginning.{Begin, Follow, calls-begin, calls-follow}
 use Rattle.list_calls.proofs.follow as follow
 use Rattle.list_calls.proofs.follow.Symbol as follow-def

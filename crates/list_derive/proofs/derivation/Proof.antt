@@ -1,6 +1,7 @@
+-- `is_valid` decides between refusal 5 with an empty list and what `derive` promises of a valid case.
 use mathlib.Core.Logic.{inl}
 use borrow.Author.Tests.{not-true, not-false}
-use Rattle.busset.proofs.Tests.{refutes}
+use Rattle.basics.proofs.Tests.{refutes}
 use Rattle.grid.specs.Cases.{Valid}
 use Rattle.refusals.proofs.Orders.{itself}
 use borrow.Author.Needs.{needs}

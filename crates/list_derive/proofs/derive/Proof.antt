@@ -1,3 +1,5 @@
+-- Invariant: the list so far reaches s, and any derivation of the rest from s completes it. 64 less the size of s falls.
+-- A step's bus is new and 1 to n, so s has fewer than 64 buses before it, and the list has room.
 use Prim.Native.Nat.{_-_, _<_}
 use mathlib.Core.Path.{ap, subst}
 use native.Mathlib.Omega.{arith}

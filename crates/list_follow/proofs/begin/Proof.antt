@@ -1,7 +1,7 @@
 use mathlib.Core.Logic.{inl, inr}
 use native.Mathlib.Omega.{arith}
 use borrow.Author.Tests.{not-true, not-false}
-use Rattle.busset.proofs.Tests.{refutes}
+use Rattle.basics.proofs.Tests.{refutes}
 use Rattle.refusals.proofs.Orders.{itself}
 use Rattle.list_follow.proofs.Starts.{begun-bad, begun-good}
 use borrow.Author.Needs.{needs}

@@ -1,3 +1,4 @@
+-- A write at index n leaves the first n steps, and the first n + 1 are then those and x.
 use Rattle.list_value.proofs.Listing.{push-law}
 use borrow.Author.Needs.{needs}
 use Rattle.list_value.proofs.push.Statement.{statement}

@@ -1,3 +1,4 @@
+-- The checks 5, 7, 13 in this order; 7 fails if i or j is no bus. The stated set is s up to n, which is what `up_to` gives.
 use Prim.Native.Nat.{ℕ}
 use mathlib.Core.Path.{ap, _∙_}
 use mathlib.Core.Logic.{inl, inr}
@@ -6,9 +7,9 @@ use borrow.Author.Tests.{not-true, not-false}
 use mir.Syntax.{w32}
 use mir.Val.{SFits}
 use mir.Facts.{toZ-ofZ}
-use Rattle.busset.specs.Deciding.{Decides}
+use Rattle.basics.specs.Deciding.{Decides}
 use Rattle.busset.specs.Sets.{Bus, In, width}
-use Rattle.busset.proofs.Tests.{refutes}
+use Rattle.basics.proofs.Tests.{refutes}
 use Rattle.busset.proofs.Members.{bus-more, decides-in}
 use Rattle.rules.specs.Figures.{figure}
 use Rattle.grid.specs.Cases.{neighbours, Valid}

@@ -1,6 +1,7 @@
+-- `is_valid` decides refusal 5. `observed` promises the observed set whatever the sites are, so also for this case.
 use mathlib.Core.Logic.{inl}
 use borrow.Author.Tests.{not-true, not-false}
-use Rattle.busset.proofs.Tests.{refutes}
+use Rattle.basics.proofs.Tests.{refutes}
 use Rattle.refusals.proofs.Orders.{itself}
 use borrow.Author.Needs.{needs}
 use Rattle.observe_calls.proofs.observed_set.Statement.{statement}

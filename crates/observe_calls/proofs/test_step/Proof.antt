@@ -1,11 +1,12 @@
+-- The checks 5, 7, 8, 9 in this order, each decided by its call. The stated set is s up to n, which is what `up_to` gives.
 use Prim.Native.Nat.{ℕ}
 use mathlib.Core.Path.{subst}
 use mathlib.Core.Logic.{inl, inr}
 use native.Mathlib.Omega.{arith}
 use borrow.Author.Tests.{not-true, not-false}
-use Rattle.busset.specs.Deciding.{Decides}
+use Rattle.basics.specs.Deciding.{Decides}
 use Rattle.busset.specs.Sets.{In}
-use Rattle.busset.proofs.Tests.{refutes}
+use Rattle.basics.proofs.Tests.{refutes}
 use Rattle.busset.proofs.Members.{decides-in, out-of}
 use Rattle.rules.specs.Steps.{Names, Holds}
 use Rattle.rules.proofs.Reasons.{names-more}

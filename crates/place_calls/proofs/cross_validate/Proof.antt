@@ -1,6 +1,7 @@
+-- `is_valid` decides refusal 5. A valid case has each line seen from both ends, which `unconfirmed` requires.
 use mathlib.Core.Logic.{inl}
 use borrow.Author.Tests.{not-true, not-false}
-use Rattle.busset.proofs.Tests.{refutes}
+use Rattle.basics.proofs.Tests.{refutes}
 use Rattle.grid.specs.Cases.{Valid}
 use Rattle.refusals.proofs.Orders.{itself}
 use borrow.Author.Needs.{needs}

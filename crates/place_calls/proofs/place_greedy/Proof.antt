@@ -1,9 +1,10 @@
+-- The checks 5, 10, 6 in this order. The count is the length of greedy's list, so refusal 6 is asked of the list itself.
 use mathlib.Core.Path.{refl, sym}
 use mathlib.Core.Logic.{inl, inr}
 use native.Mathlib.Omega.{arith}
 use borrow.Author.Tests.{not-true, not-false}
 use lib.ListN.{take}
-use Rattle.busset.proofs.Tests.{refutes}
+use Rattle.basics.proofs.Tests.{refutes}
 use Rattle.grid.specs.Cases.{gridOf, Valid}
 use Rattle.refusals.proofs.Orders.{itself}
 use Rattle.place_greedy.specs.Choices.{Listed}

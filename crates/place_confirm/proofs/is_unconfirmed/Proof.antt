@@ -1,3 +1,4 @@
+-- A unit confirms p exactly if it is on a neighbour of p or next to one. This needs that each line is seen from both ends.
 use Rattle.busset.specs.Sets.{Bus}
 use Rattle.busset.proofs.Words.{set-bus}
 use Rattle.place_confirm.proofs.Sharing.{unconfirmed-test}

@@ -1,9 +1,10 @@
+-- Invariant: of the units that are not left, `alone` has exactly those that no other unit confirms. The size of `left` falls.
 use mathlib.Core.Path.{ap}
 use mathlib.Core.Logic.{⊎-elim}
 use native.Mathlib.Omega.{arith}
 use borrow.Author.Tests.{not-true, not-false}
 use Rattle.busset.specs.Sets.{setOf, size}
-use Rattle.busset.proofs.Tests.{refutes}
+use Rattle.basics.proofs.Tests.{refutes}
 use Rattle.grid.specs.Cases.{neighbours}
 use Rattle.place_confirm.proofs.Sharing.{Sifted, sifted-none, sifted-yes, sifted-no, sifted-to, sifted-all}
 use borrow.Author.Needs.{needs}

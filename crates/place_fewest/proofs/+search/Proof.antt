@@ -1,13 +1,15 @@
+-- A recursion in which k plus the number of sites falls. Invariant: the sites left have every way of k of the sites.
+-- A way with the lowest site x is x and a way of k - 1 of the sites above; it comes before every way without x, so x is tried first.
 use Prim.Native.Nat.{ℕ, _<_, _+_, _-_}
 use native.Mathlib.Omega.{arith}
 use borrow.Author.Needs.{needs}
 use borrow.Author.Tests.{not-true, not-false}
 use Rattle.busset.specs.Sets.{Sub, setOf, size}
-use Rattle.busset.proofs.Tests.{refutes}
+use Rattle.basics.proofs.Tests.{refutes}
 use Rattle.busset.proofs.Members.{without-sub}
 use Rattle.busset.proofs.Sizes.{size-le}
 use Rattle.rules.specs.Grids.{Grid}
-use Rattle.rules.specs.Observation.{Least}
+use Rattle.rules.specs.Observation.{ObservedSet}
 use Rattle.rules.specs.Ways.{Whatever}
 use Rattle.rules.proofs.Covering.{covers-full, full-covers}
 use Rattle.rules.proofs.Searching.{way-none, no-way-none, no-way-left, Passed, passed-none, passed-more, passed-no, passed-first}
@@ -24,7 +26,7 @@ use Rattle.busset.proofs.lowest.Reads as lowest-reads
 use Rattle.busset.proofs.none.Reads as none-reads
 use Rattle.busset.proofs.with.Reads as with-reads
 use Rattle.busset.proofs.without.Reads as without-reads
-use Rattle.cuts.proofs.is_hopeless.Reads as is-hopeless-reads
+use Rattle.place_bound.proofs.hopeless.is_hopeless.Reads as is-hopeless-reads
 use Rattle.place_light.proofs.is_full.Reads as is-full-reads
 use Rattle.place_light.proofs.lit.Reads as lit-reads
 use Rattle.place_fewest.proofs.+search.{statement}
@@ -40,7 +42,7 @@ abbrev search-below : ℕ → In 1 search-kinds.ps
 search-below t = and 1 search-kinds.ps (falls 1 search-kinds.ps _<_ μ-search t) search′.Pre
 
 abbrev search-Inv-loop : search-lts.InvT-loop
-search-Inv-loop n nbr zero s sites k left₀ left = Sub (setOf left) (setOf sites) × Whatever n (neighbours nbr) (setOf zero) (λ g. Least g (setOf s) → Passed g (setOf sites) k (setOf left))
+search-Inv-loop n nbr zero s sites k left₀ left = Sub (setOf left) (setOf sites) × Whatever n (neighbours nbr) (setOf zero) (λ g. ObservedSet g (setOf s) → Passed g (setOf sites) k (setOf left))
 
 abbrev search-μ-loop : search-lts.MeasureT-loop
 search-μ-loop n nbr zero s sites k left₀ left = size (setOf left)
@@ -73,7 +75,7 @@ abbrev entry : {t : ℕ} → search-lts.At-loop (calls t) (search-at t) search�
 entry l = l .before .before
 
 abbrev asked : {t : ℕ} → search-lts.Start (calls t) (search-at t) search′.Post search-Inv-loop search-μ-loop → ℕ → ℕ → Grid
-asked s sites units = record { n = s .args .n; nbr = neighbours (s .args .nbr .now); zero = setOf (s .args .zero); site = sites; units = units }
+asked s sites units = record { n = s .args .n; neighbours = neighbours (s .args .nbr .now); zeros = setOf (s .args .zero); sites = sites; units = units }
 
 -- the turn that a recursive call belongs to
 abbrev turn : {t : ℕ} → search-lts.After-lit (calls t) (search-at t) search′.Post search-Inv-loop search-μ-loop → search-lts.At-loop (calls t) (search-at t) search′.Post search-Inv-loop search-μ-loop

@@ -1,3 +1,4 @@
+-- Invariant: there is no way of fewer than k of the free sites. So the first size found is the fewest. k-end - k falls.
 use Prim.Native.Nat.{_+_, _-_, _≤_}
 use mathlib.Core.Path.{_≡_, subst}
 use native.Mathlib.Omega.{arith}

@@ -1,11 +1,13 @@
+-- Invariant: no site passed lights more than `most` buses, and `site` is the lowest that lights `most`, or 0. The size of `left` falls.
+-- Sites are tried from the lowest, so a larger count alone replaces the site held: the lowest number wins a tie.
 use Prim.Native.Nat.{ℕ}
 use mathlib.Core.Logic.{⊎-elim}
 use native.Mathlib.Omega.{arith}
 use borrow.Author.Needs.{needs}
 use borrow.Author.Tests.{not-true, not-false}
 use Rattle.busset.specs.Sets.{setOf, size, Minus}
-use Rattle.busset.proofs.Tests.{refutes}
-use Rattle.rules.specs.Observation.{Least}
+use Rattle.basics.proofs.Tests.{refutes}
+use Rattle.rules.specs.Observation.{ObservedSet}
 use Rattle.rules.specs.Ways.{Whatever}
 use Rattle.grid.specs.Cases.{neighbours}
 use Rattle.place_light.proofs.Lighting.{lit-least}
@@ -14,7 +16,7 @@ use Rattle.place_greedy.proofs.best.Statement.{statement}
 use Rattle.place_greedy.proofs.best.Tie as tie
 
 abbrev Inv-loop : tie.InvT-loop
-Inv-loop nbr zero s free site₀ most₀ left₀ site most left = (n : ℕ) → Whatever n (neighbours nbr) (setOf zero) (λ g. Minus (g .site) (g .units) (setOf free) → Least g (setOf s) → Compared g (setOf s) (setOf left) most site)
+Inv-loop nbr zero s free site₀ most₀ left₀ site most left = (n : ℕ) → Whatever n (neighbours nbr) (setOf zero) (λ g. Minus (g .sites) (g .units) (setOf free) → ObservedSet g (setOf s) → Compared g (setOf s) (setOf left) most site)
 
 abbrev μ-loop : tie.MeasureT-loop
 μ-loop nbr zero s free site₀ most₀ left₀ site most left = size (setOf left)

@@ -1,3 +1,5 @@
+-- Invariant: s is observed with the units placed, and what greedy still adds to them completes what it adds in all. budget - count falls.
+-- The site that `best` chose is a bus, and lighting it where s is observed gives the next observed set.
 use Prim.Native.Nat.{ℕ, _-_}
 use mathlib.Core.Path.{refl}
 use native.Mathlib.Omega.{arith}
@@ -6,7 +8,7 @@ use Rattle.busset.specs.Sets.{Bus, setOf}
 use Rattle.busset.proofs.Words.{set-bus}
 use Rattle.busset.proofs.Members.{with-add}
 use Rattle.rules.specs.Grids.{Grid}
-use Rattle.rules.specs.Placing.{at}
+use Rattle.rules.specs.Placing.{withUnits}
 use Rattle.grid.specs.Cases.{gridWith}
 use Rattle.place_greedy.specs.Choices.{ChosenIs}
 use Rattle.place_light.proofs.Lighting.{lit-least}
@@ -24,14 +26,14 @@ abbrev μ-loop : tie.MeasureT-loop
 abbrev asked : tie.At-loop Inv-loop μ-loop → ℕ → Grid
 asked l n = let s = l .before .before in gridWith n (s .args .nbr .now) (s .args .zero) (s .args .site) (s .args .units)
 
-chosen : (c : tie.After-best Inv-loop μ-loop) (n : ℕ) → let l = c .before .before .before in ChosenIs (at (asked l n) (setOf (l .loop .placed))) (c .best .result)
+chosen : (c : tie.After-best Inv-loop μ-loop) (n : ℕ) → let l = c .before .before .before in ChosenIs (withUnits (asked l n) (setOf (l .loop .placed))) (c .best .result)
 chosen c n = let l = c .before .before .before in c .best .ensures n (setOf (l .before .before .args .site)) (setOf (l .loop .placed)) (c .before .minus .ensures) (l .loop .inv n .least)
 
 -- it is a bus
 bus : (c : tie.Else1 Inv-loop μ-loop) → Bus 64 (c .before .best .result)
 bus c =
     let l = c .before .before .before .before in
-    set-bus 64 _ (search needs) (chosen-site (at (asked l 0) (setOf (l .loop .placed))) _ (chosen (c .before) 0) (c .if1 .left))
+    set-bus 64 _ (search needs) (chosen-site (withUnits (asked l 0) (setOf (l .loop .placed))) _ (chosen (c .before) 0) (c .if1 .left))
 
 observed-requires : tie.Need-observed-requires Inv-loop μ-loop
 observed-requires c κs = search needs

@@ -1,3 +1,4 @@
+-- Invariant: the first i places have the first i sites, and the others are as lent. count - i falls.
 use Prim.Native.Nat.{ℕ, _-_, _≤_}
 use mathlib.Core.Path.{_≡_, subst}
 use mathlib.Core.List.{_++_}

@@ -1,3 +1,4 @@
+-- The word is the piece before the first tab, and the budget's field is the rest of the same split.
 use mathlib.Core.Bool.{cond}
 use Rattle.text_field.specs.Split.{same, bytes}
 use Rattle.text_field.specs.declared.Numeral.the-variants.{Wrong}

@@ -1,3 +1,4 @@
+-- The reading beside the budget 0 is the one that `refusal` makes.
 use borrow.Author.Needs.{needs}
 use Rattle.plan_input.proofs.not_asked.Statement.{statement}
 use Rattle.plan_input.proofs.not_asked.Tie as tie

@@ -1,3 +1,4 @@
+-- With no field the budget is 8. With fields they must be one number, as `one_number` reads it.
 use mathlib.Core.Path.{_∙_}
 use Rattle.case_line.proofs.Fields.{by-none}
 use Rattle.plan_input.specs.Asking.{planFields}

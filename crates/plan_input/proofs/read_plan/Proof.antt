@@ -1,3 +1,4 @@
+-- The first line ends at its line feed, and the case text is read from the byte after it as line 2. Each exit is one of `readPlan`.
 use native.Mathlib.Omega.{arith}
 use mathlib.Core.Path.{_∙_}
 use Rattle.plan_input.proofs.Inputs.{too-long, no-feed, asked-by}

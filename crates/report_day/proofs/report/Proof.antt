@@ -1,3 +1,4 @@
+-- Each step of a derivation names buses 1 to n, which is what printing the list requires.
 use Rattle.report_lines.proofs.Printed.{printed-by}
 use Rattle.report_day.proofs.Reports.{derived-named, reported}
 use borrow.Author.Needs.{needs}

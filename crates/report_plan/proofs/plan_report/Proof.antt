@@ -1,3 +1,4 @@
+-- A case that is read is valid, as `report` requires. A refused input has its place on a line, so it has at most 4 digits.
 use native.Mathlib.Omega.{arith}
 use Rattle.report_lines.proofs.Printed.{printed-by}
 use Rattle.plan_input.proofs.Inputs.{asked-valid, asked-placed}

@@ -1,3 +1,4 @@
+-- Three exits: the budget is over 8, the search has the fewest, or it has that no plan is within the budget.
 use Rattle.report_lines.proofs.Printed.{printed-by}
 use Rattle.report_plan.proofs.Reports.{over-budget, no-cover, fewest-found}
 use borrow.Author.Needs.{needs}

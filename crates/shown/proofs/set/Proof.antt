@@ -1,3 +1,4 @@
+-- Invariant: b is 1 to 65, so each bus that a turn asks about is 1 to 64. 65 - b falls.
 use Prim.Native.Nat.{_-_, _≤_}
 use borrow.Author.Needs.{needs}
 use Rattle.shown.proofs.set.Statement.{statement}

@@ -1,3 +1,4 @@
+-- A field follows exactly if the word ends before the line does.
 use Rattle.case_line.proofs.Fields.{none-is, none-more}
 use Rattle.step_line.proofs.end_fields.Statement.{statement}
 use Rattle.step_line.proofs.end_fields.Tie as tie

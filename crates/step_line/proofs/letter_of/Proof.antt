@@ -1,3 +1,4 @@
+-- Three comparisons in the order of `letterOf`: each exit knows that those before it failed.
 use Rattle.case_line.proofs.Answers.{hit, miss}
 use Rattle.step_line.specs.StepLine.{letterOf}
 use borrow.Author.Needs.{needs}

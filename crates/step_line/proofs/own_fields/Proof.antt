@@ -1,3 +1,4 @@
+-- A field follows exactly if the letter ends before the line does.
 use Rattle.case_line.proofs.Fields.{none-is, none-more}
 use Rattle.step_line.proofs.own_fields.Statement.{statement}
 use Rattle.step_line.proofs.own_fields.Tie as tie

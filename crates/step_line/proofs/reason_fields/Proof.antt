@@ -1,3 +1,4 @@
+-- The letter is what `piece_end` cuts off, and what it names is the rest of the same split. Then each arm is a call's contract.
 use Rattle.step_line.specs.StepLine.{neighbourOf, zeroOf, byLetter, reasonFields}
 use Rattle.case_line.proofs.Answers.{in-arm, via}
 use Rattle.case_line.proofs.Fields.{by-none, by-next}

@@ -1,3 +1,4 @@
+-- The bus is what `piece_end` cuts off, and the reason's fields are the rest of the same split.
 use Rattle.step_line.specs.StepLine.{stepOf, stepFields}
 use Rattle.case_line.proofs.Answers.{via₂}
 use Rattle.case_line.proofs.Fields.{by-none, by-next}

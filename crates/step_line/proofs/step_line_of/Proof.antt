@@ -1,3 +1,4 @@
+-- The word is the piece before the first tab, and the fields are the rest of the same split. Then each arm is a call's contract.
 use Rattle.step_line.specs.StepLine.{stepWordOf, byStepWord, stepLineOf}
 use Rattle.case_line.proofs.Answers.{in-arm}
 use Rattle.case_line.proofs.Fields.{by-first}

@@ -1,3 +1,4 @@
+-- Three arms: the reason is looked at only if the bus is a number, and `stepOf` asks in the same order.
 use borrow.Author.Needs.{needs}
 use Rattle.step_line.proofs.step_of.Statement.{statement}
 use Rattle.step_line.proofs.step_of.Tie as tie

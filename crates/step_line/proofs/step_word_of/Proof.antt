@@ -1,3 +1,4 @@
+-- Two comparisons in the order of `stepWordOf`: each exit knows that those before it failed.
 use Rattle.case_line.proofs.Answers.{hit, miss}
 use Rattle.step_line.specs.StepLine.{stepWordOf}
 use borrow.Author.Needs.{needs}

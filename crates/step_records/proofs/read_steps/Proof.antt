@@ -1,5 +1,5 @@
--- `read_steps` meets its contract: a walk of its MIR, by hand. The borrow of `out` is opened once, before the loop, and closed after it at the list that is written.
--- Of `check_room`, `count_of` and `take` only the contracts are known. `text` is never read here: a copy of what it owns is passed on with its token, which comes back.
+-- A walk of the MIR by hand. Invariant: the first i records have the first i steps, and those from `at` on are the others. m - i falls.
+-- The borrow of `out` is opened before the loop and closed after it at the list that is written. `text` is passed on with its token.
 use mathlib.Core.Path.{_≡_, refl, sym, _∙_, ap, subst}
 use mathlib.Core.Bool.{Bool, true, false}
 use Prim.Native.Nat.{ℕ, _+_, _≤_, _<_, _^_}
@@ -51,31 +51,31 @@ use Rattle.step.proofs.Sizes.{bytes, offset-fits}
 use Rattle.step.proofs.Step as T
 use Rattle.step.proofs.Step.Laws as T′
 use Rattle.step_text.specs.Steps.{readSteps, stepsFrom, stepsOf}
-use Rattle.taking.specs.Taking.{withRoom, StepsReadReply, countOf, Takes}
+use Rattle.step_text.specs.Taking.{withRoom, StepsReadReply, countOf, Takes}
 use Rattle.step_text.specs.declared.StepsRead.{StepsRead}
-use Rattle.taking.specs.declared.Taken.{Taken}
-use Rattle.taking.proofs.Taking.{count-fits, placed, takes-next, read-law}
+use Rattle.step_text.specs.declared.taking.Taken.{Taken}
+use Rattle.step_text.proofs.TakingLaws.{count-fits, placed, takes-next, read-law}
 use Rattle.step_text.proofs.StepsRead as O
 use Rattle.step_text.proofs.StepsRead.Laws as O′
-use Rattle.taking.proofs.Taken as K
-use Rattle.taking.proofs.Taken.Laws as K′
-use Rattle.taking.proofs.check_room as check-room
-use Rattle.taking.proofs.check_room.Symbol as check-room-def
-use Rattle.taking.proofs.check_room.Symbol.{name as #taking·check-room}
-use Rattle.taking.proofs.check_room.Met as check-room-thm
-use Rattle.taking.proofs.count_of as count-of
-use Rattle.taking.proofs.count_of.Symbol as count-of-def
-use Rattle.taking.proofs.count_of.Symbol.{name as #taking·count-of}
-use Rattle.taking.proofs.count_of.Met as count-of-thm
-use Rattle.taking.proofs.take as take
-use Rattle.taking.proofs.take.Symbol as take-def
-use Rattle.taking.proofs.take.Symbol.{name as #taking·take}
-use Rattle.taking.proofs.take.Met as take-thm
-use Rattle.walking.proofs.StepRow.{step-made, step-typed}
+use Rattle.step_text.proofs.Taken as K
+use Rattle.step_text.proofs.Taken.Laws as K′
+use Rattle.step_text.proofs.taking.check_room as check-room
+use Rattle.step_text.proofs.taking.check_room.Symbol as check-room-def
+use Rattle.step_text.proofs.taking.check_room.Symbol.{name as #taking·check-room}
+use Rattle.step_text.proofs.taking.check_room.Met as check-room-thm
+use Rattle.step_text.proofs.taking.count_of as count-of
+use Rattle.step_text.proofs.taking.count_of.Symbol as count-of-def
+use Rattle.step_text.proofs.taking.count_of.Symbol.{name as #taking·count-of}
+use Rattle.step_text.proofs.taking.count_of.Met as count-of-thm
+use Rattle.step_text.proofs.taking.take as take
+use Rattle.step_text.proofs.taking.take.Symbol as take-def
+use Rattle.step_text.proofs.taking.take.Symbol.{name as #taking·take}
+use Rattle.step_text.proofs.taking.take.Met as take-thm
+use Rattle.step.proofs.StepRow.{step-made, step-typed}
 use Rattle.step_records.proofs.Rows.{steps-read-made, steps-read-typed, taken-typed}
-use Rattle.walking.proofs.Calling.{calls-lent, calls-plain}
-use Rattle.walking.proofs.Counting.{next-fits, next-le, nearer, Nearer, nearer-wf, below, above, inside}
-use Rattle.walking.proofs.Walking.{let-go, walk-proves}
+use Rattle.step.proofs.Calling.{calls-lent, calls-plain}
+use Rattle.step.proofs.Counting.{next-fits, next-le, nearer, Nearer, nearer-wf, below, above, inside}
+use Rattle.step.proofs.Walking.{let-go, walk-proves}
 use Rattle.step_records.proofs.read_steps.Key.{name as #step_records·read-steps}
 use Rattle.step_records.proofs.read_steps as f
 use Rattle.step_records.proofs.read_steps.Statement as stated
@@ -292,6 +292,6 @@ read-steps-spec 𝓤 H 𝓜 𝓖 𝓡 =
     entered 𝓤 H (tripleOf 𝓤 H (𝓖 .A) f.signature (f.spec 𝓤 H (𝓖 .A) (𝓜 .mem) (𝓡 .run)))
     (tables 𝓤 H 𝓜 𝓡 code.env .C) (tables 𝓤 H 𝓜 𝓡 code.env .Λ) #step_records·read-steps code.function (code.unfolded 𝓤 H 𝓜 𝓡)
     (meets 𝓤 H (𝓖 .A) (givenOf 𝓤 H 𝓜 𝓖) (𝓜 .mem) (𝓡 .run) (tablesOf 𝓤 H 𝓜 (tables 𝓤 H 𝓜 𝓡 code.env))
-    (cited 𝓤 H (CheckRoom 𝓤 H (𝓖 .A) (𝓜 .mem) (𝓡 .run)) 𝓜 𝓡 code.env #taking·check-room check-room-def.routine code.calls-taking·check-room (check-room-thm.met 𝓤 H 𝓜 𝓖 𝓡))
-    (cited 𝓤 H (CountOf 𝓤 H (𝓖 .A) (𝓜 .mem) (𝓡 .run)) 𝓜 𝓡 code.env #taking·count-of count-of-def.routine code.calls-taking·count-of (count-of-thm.met 𝓤 H 𝓜 𝓖 𝓡))
-    (cited 𝓤 H (Take 𝓤 H (𝓖 .A) (𝓜 .mem) (𝓡 .run)) 𝓜 𝓡 code.env #taking·take take-def.routine code.calls-taking·take (take-thm.met 𝓤 H 𝓜 𝓖 𝓡)))
+    (cited 𝓤 H (CheckRoom 𝓤 H (𝓖 .A) (𝓜 .mem) (𝓡 .run)) 𝓜 𝓡 code.env #taking·check-room check-room-def.routine code.calls-step-text·taking·check-room (check-room-thm.met 𝓤 H 𝓜 𝓖 𝓡))
+    (cited 𝓤 H (CountOf 𝓤 H (𝓖 .A) (𝓜 .mem) (𝓡 .run)) 𝓜 𝓡 code.env #taking·count-of count-of-def.routine code.calls-step-text·taking·count-of (count-of-thm.met 𝓤 H 𝓜 𝓖 𝓡))
+    (cited 𝓤 H (Take 𝓤 H (𝓖 .A) (𝓜 .mem) (𝓡 .run)) 𝓜 𝓡 code.env #taking·take take-def.routine code.calls-step-text·taking·take (take-thm.met 𝓤 H 𝓜 𝓖 𝓡)))

@@ -1,3 +1,4 @@
+-- Nothing follows `end` exactly if its line feed is the last byte. It is on line k, so k - 1 steps are before it.
 use mathlib.Core.Path.{refl}
 use Rattle.case_read.proofs.Lines.{end-none, end-more}
 use Rattle.step_text.specs.Steps.{ended}

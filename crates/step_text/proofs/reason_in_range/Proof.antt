@@ -1,4 +1,6 @@
+-- By the reason: O names no bus, and `is_bus` decides the bus that N or Z names.
 use borrow.Author.Needs.{needs}
+use Rattle.case_judge.proofs.Judged.{is-bus-by}
 use Rattle.step_text.proofs.reason_in_range.Statement.{statement}
 use Rattle.step_text.proofs.reason_in_range.Tie as tie
 
@@ -21,10 +23,10 @@ returns : tie.Need-returns
 returns c = search needs
 
 returns-2 : tie.Need-returns-2
-returns-2 c = rw (c .before .before .r .given .1) (cc)
+returns-2 c = rw (c .before .before .r .given .1) (is-bus-by (c .is-bus .ensures))
 
 returns-3 : tie.Need-returns-3
-returns-3 c = rw (c .before .before .r2 .given .1) (cc)
+returns-3 c = rw (c .before .before .r2 .given .1) (is-bus-by (c .is-bus2 .ensures))
 
 pub reason-in-range-spec : {M : Type 1} → statement M
 reason-in-range-spec =

@@ -1,5 +1,5 @@
 use borrow.Author.Tests.{not-true, not-false}
-use Rattle.busset.proofs.Tests.{refutes, decides-no}
+use Rattle.basics.proofs.Tests.{refutes, decides-no}
 use Rattle.testing.proofs.Holding.{zero-test, not-joined}
 use borrow.Author.Needs.{needs}
 use Rattle.testing.proofs.by_zero.Statement.{statement}

@@ -1,5 +1,5 @@
 use borrow.Author.Tests.{not-true, not-false}
-use Rattle.busset.proofs.Tests.{refutes, decides-yes, decides-no}
+use Rattle.basics.proofs.Tests.{refutes, decides-yes, decides-no}
 use Rattle.step.specs.declared.Reason.the-variants.{OwnUnit, NeighbourOf, ZeroInjection}
 use Rattle.testing.proofs.Holding.{names-by}
 use borrow.Author.Needs.{needs}

@@ -1,16 +1,17 @@
+-- The count of bytes is the length of the text, so refusal 6 is decided before a byte is written. Then the whole text fits.
 use mathlib.Core.Path.{_≡_, refl, subst}
 use mathlib.Core.List.{List}
 use mathlib.Core.Logic.{inl, inr}
 use Prim.Native.Nat.{ℕ, _≤_}
 use native.Mathlib.Omega.{arith}
 use borrow.Author.Tests.{not-true, not-false}
-use Rattle.busset.proofs.Tests.{refutes}
+use Rattle.basics.proofs.Tests.{refutes}
 use Rattle.grid.specs.declared.Case.{Case}
 use Rattle.refusals.specs.Refusals.{Passed}
 use Rattle.refusals.proofs.Orders.{itself}
-use Rattle.case_read.specs.Writing.{caseText}
+use Rattle.case_line.specs.CaseText.{caseText}
 use Rattle.text_put.specs.Put.{Put}
-use Rattle.text_put.specs.declared.Written.the-variants.{Bytes}
+use Rattle.refusals.specs.declared.Written.the-variants.{Bytes}
 use Rattle.text_put.proofs.Whole.{put-whole, put-count}
 use borrow.Author.Needs.{needs}
 use Rattle.text_calls.specs.Replies.{writeChecks, CaseWrittenReply}

@@ -1,3 +1,4 @@
+-- If 48 ≤ d fails the conjunction is false. Otherwise only d ≤ 57 is left.
 use borrow.Author.Tests.{le-leb, lt-leb}
 use Rattle.text_field.specs.Number.{isDigit}
 use Rattle.text_field.proofs.is_digit.Statement.{statement}

@@ -1,3 +1,4 @@
+-- Invariant: the texts are as long, and are the same exactly if they are so from i on. length a - i falls.
 use Prim.Native.Nat.{_-_}
 use borrow.Author.Needs.{needs}
 use lib.ListN.{length}

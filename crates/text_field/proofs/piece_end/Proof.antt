@@ -1,3 +1,4 @@
+-- Invariant: no byte from `from` up to i is c. length s - i falls. At a c, or at the end of s, that is the whole piece.
 use Prim.Native.Nat.{_-_}
 use borrow.Author.Needs.{needs}
 use lib.ListN.{length}

@@ -1,3 +1,4 @@
+-- A recursion in which n falls: from 10 on, n / 10 is below n. The digits of n / 10 and then n % 10 are the digits of n.
 use borrow.Author.Needs.{needs}
 use native.Mathlib.Omega.{arith}
 use Rattle.text_put.proofs.Putting.{put-length, put-digit, put-digits}

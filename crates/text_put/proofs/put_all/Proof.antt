@@ -1,3 +1,4 @@
+-- Invariant: the first i bytes of s are put, and k is at + i. length s - i falls.
 use Prim.Native.Nat.{_-_}
 use borrow.Author.Needs.{needs}
 use lib.ListN.{length}

@@ -1,3 +1,4 @@
+-- A byte past the end is counted and not written: `Put` says that the bytes stay.
 use Rattle.text_put.proofs.Putting.{put-out}
 use borrow.Author.Needs.{needs}
 use Rattle.text_put.proofs.put_byte.Statement.{statement}

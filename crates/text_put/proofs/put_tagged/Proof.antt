@@ -1,3 +1,4 @@
+-- Two texts put one after another are put as one.
 use Rattle.text_put.proofs.Putting.{put-then}
 use borrow.Author.Needs.{needs}
 use Rattle.text_put.proofs.put_tagged.Statement.{statement}

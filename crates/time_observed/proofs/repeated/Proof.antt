@@ -1,3 +1,4 @@
+-- Invariant: i is at most 200000, and 200000 - i falls. No value is promised, so nothing is kept of `last`.
 use borrow.Author.Needs.{needs}
 use Prim.Native.Nat.{_-_, _≤_}
 use Rattle.time_observed.proofs.repeated.Statement.{statement}

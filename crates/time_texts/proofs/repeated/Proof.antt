@@ -1,3 +1,4 @@
+-- Invariant: i is at most 20000, and 20000 - i falls. n is at most the room's length, so the slice is there in each turn.
 use borrow.Author.Needs.{needs}
 use Prim.Native.Nat.{_-_, _≤_}
 use Rattle.time_texts.proofs.repeated.Statement.{statement}

@@ -1,3 +1,4 @@
+-- Invariant: `at` is within the text. `question` promises to end past its start, so length - at falls.
 use borrow.Author.Needs.{needs}
 use Prim.Native.Nat.{_-_, _≤_}
 use lib.ListN.{length}

@@ -1,3 +1,4 @@
+-- Invariant: a is within the text. A line ends past its start, so length - a falls.
 use Prim.Native.Nat.{_-_, _≤_}
 use lib.ListN.{length}
 use native.Mathlib.Omega.{arith}

@@ -1,3 +1,4 @@
+-- Invariant: i is at most length + 1, so in a turn it is at most 16400, as `after` requires. i-end - i falls.
 use borrow.Author.Needs.{needs}
 use mathlib.Core.Path.{_≡_}
 use Prim.Native.Nat.{_+_, _-_, _≤_}

@@ -1,3 +1,4 @@
+-- Invariant: i is at most the text's length, so in a turn the slice of byte i is there. i-end - i falls.
 use borrow.Author.Needs.{needs}
 use mathlib.Core.Path.{_≡_}
 use Prim.Native.Nat.{_-_, _≤_}

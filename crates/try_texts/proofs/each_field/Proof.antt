@@ -1,3 +1,4 @@
+-- Invariant: a is at most one past the text, since a field ends within it. length + 1 - a falls.
 use borrow.Author.Needs.{needs}
 use Prim.Native.Nat.{_+_, _-_, _≤_}
 use lib.ListN.{length}

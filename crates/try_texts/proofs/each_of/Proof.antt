@@ -1,3 +1,4 @@
+-- Invariant: i is at most the number of bytes, so in a turn the slice of byte i is there. i-end - i falls.
 use mathlib.Core.Path.{_≡_}
 use Prim.Native.Nat.{_-_, _≤_}
 use lib.ListN.{length}

@@ -1,3 +1,4 @@
+-- Invariant: x is at most 255, and 256 - x falls. The turn of 255 is the last, so x does not overflow.
 use borrow.Author.Needs.{needs}
 use Prim.Native.Nat.{_-_, _≤_}
 use Rattle.try_texts.proofs.each_tail.Statement.{statement}

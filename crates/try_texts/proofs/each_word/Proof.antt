@@ -1,3 +1,4 @@
+-- Invariant: a is at most one past the words, since a word ends within them. length + 1 - a falls.
 use Prim.Native.Nat.{_+_, _-_, _≤_}
 use lib.ListN.{length}
 use borrow.Author.Needs.{needs}

@@ -1,3 +1,4 @@
+-- `has` answers the two Booleans that `busRecord` has.
 use Rattle.case_write.proofs.Turns.{has-is}
 use borrow.Author.Needs.{needs}
 use Rattle.case_write.proofs.cases.put_bus.Statement.{statement}

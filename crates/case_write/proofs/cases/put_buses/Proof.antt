@@ -1,8 +1,9 @@
+-- Invariant: the records of the buses from b on are left to put, and each bus passed took at most 15 bytes. b-end - b falls.
 use mathlib.Core.Path.{refl}
 use Prim.Native.Nat.{_-_}
 use native.Mathlib.Omega.{arith}
 use Rattle.busset.specs.Sets.{setOf}
-use Rattle.case_read.specs.Writing.{busRecords}
+use Rattle.case_line.specs.CaseText.{busRecords}
 use Rattle.case_write.proofs.Turns.{Turn, turn-first, turn-bus, turn-all}
 use borrow.Author.Needs.{needs}
 use Rattle.case_write.proofs.cases.put_buses.Statement.{statement}

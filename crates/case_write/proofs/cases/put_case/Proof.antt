@@ -1,3 +1,4 @@
+-- Five texts, put one after another, are the whole. They end by bytes 15, 975, 62415 and 63375, so every place is within its bound.
 use Prim.Native.Nat.{_≤_}
 use native.Mathlib.Omega.{arith}
 use Rattle.case_read.proofs.Lengths.{buses-most, rows-most, members-most}

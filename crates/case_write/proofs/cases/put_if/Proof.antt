@@ -1,3 +1,4 @@
+-- To put no byte leaves the bytes lent and the place as they are.
 use Rattle.text_put.proofs.Putting.{put-none}
 use borrow.Author.Needs.{needs}
 use Rattle.case_write.proofs.cases.put_if.Statement.{statement}

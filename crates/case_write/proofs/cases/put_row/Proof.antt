@@ -1,9 +1,10 @@
+-- Invariant: the lines from a to the buses from b on are left to put, and each took at most 15 bytes. b-end - b falls.
 use mathlib.Core.Path.{refl}
 use Prim.Native.Nat.{_+_, _-_}
 use native.Mathlib.Omega.{arith}
 use Rattle.busset.specs.Sets.{setOf}
 use Rattle.case_line.specs.declared.Record.the-variants.{Line}
-use Rattle.case_read.specs.Writing.{members}
+use Rattle.case_line.specs.CaseText.{members}
 use Rattle.case_write.proofs.Turns.{Turn, turn-first, turn-member, turn-all}
 use borrow.Author.Needs.{needs}
 use Rattle.case_write.proofs.cases.put_row.Statement.{statement}

@@ -1,9 +1,10 @@
+-- Invariant: the records of the units from bus b on are left to put, and each bus passed took at most 15 bytes. b-end - b falls.
 use mathlib.Core.Path.{refl}
 use Prim.Native.Nat.{_-_}
 use native.Mathlib.Omega.{arith}
 use Rattle.busset.specs.Sets.{setOf}
 use Rattle.case_line.specs.declared.Record.the-variants.{Pmu}
-use Rattle.case_read.specs.Writing.{members}
+use Rattle.case_line.specs.CaseText.{members}
 use Rattle.case_write.proofs.Turns.{Turn, turn-first, turn-member, turn-all}
 use borrow.Author.Needs.{needs}
 use Rattle.case_write.proofs.cases.put_units.Statement.{statement}

@@ -1,3 +1,4 @@
+-- Three arms, as `ofReplay` maps a reply: a refusal in reading the steps is apart from one in replaying them.
 use mathlib.Core.Path.{sym, ap}
 use borrow.Author.Needs.{needs}
 use Rattle.estimator.specs.Answers.{ofReplay}

@@ -1,3 +1,4 @@
+-- Two arms, as `ofVerdict` maps a reply.
 use mathlib.Core.Path.{sym, ap}
 use borrow.Author.Needs.{needs}
 use Rattle.estimator.specs.Answers.{ofVerdict}

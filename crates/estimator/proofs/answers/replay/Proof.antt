@@ -1,3 +1,4 @@
+-- A refused case text is the answer. Otherwise the reply of `replay_text` meets its own promise, and the answer is that of the reply.
 use Rattle.estimator.proofs.Reading.{of-read, of-refused}
 use borrow.Author.Needs.{needs}
 use Rattle.estimator.proofs.answers.replay.Statement.{statement}

@@ -2,7 +2,7 @@ use Prim.Native.Nat.{_-_, _≤_}
 use native.Mathlib.Omega.{arith}
 use borrow.Author.Needs.{needs}
 use borrow.Author.Tests.{not-true, not-false}
-use Rattle.busset.proofs.Tests.{refutes, decides-no, decides-yes}
+use Rattle.basics.proofs.Tests.{refutes, decides-no, decides-yes}
 use Rattle.grid.specs.Cases.{neighbours}
 use Rattle.grid.proofs.Rows.{row-zero, row-past}
 use Rattle.grid.proofs.Checking.{CheckedBelow, below-first, below-next, below-all}

@@ -2,7 +2,7 @@ use native.Mathlib.Omega.{arith}
 use borrow.Author.Needs.{needs}
 use borrow.Author.Tests.{not-true, not-false}
 use Rattle.busset.specs.Sets.{setOf, size}
-use Rattle.busset.proofs.Tests.{refutes, decides-no, decides-yes}
+use Rattle.basics.proofs.Tests.{refutes, decides-no, decides-yes}
 use Rattle.grid.specs.Cases.{neighbours}
 use Rattle.grid.proofs.Checking.{Checked, checked-none, checked-more, checked-all, checked-fails}
 use Rattle.grid.proofs.validity.has_lines.Statement.{statement}

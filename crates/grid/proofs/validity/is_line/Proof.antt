@@ -1,6 +1,6 @@
 use native.Mathlib.Omega.{arith}
 use borrow.Author.Needs.{needs}
-use Rattle.busset.proofs.Tests.{decides-no}
+use Rattle.basics.proofs.Tests.{decides-no}
 use Rattle.grid.proofs.Checking.{line-test}
 use Rattle.grid.proofs.validity.is_line.Statement.{statement}
 use Rattle.grid.proofs.validity.is_line.Tie as tie

@@ -1,7 +1,7 @@
 use native.Mathlib.Omega.{arith}
 use borrow.Author.Needs.{needs}
 use borrow.Author.Tests.{not-true, not-false}
-use Rattle.busset.proofs.Tests.{refutes, decides-no, decides-le}
+use Rattle.basics.proofs.Tests.{refutes, decides-no, decides-le}
 use Rattle.grid.proofs.Checking.{valid-test}
 use Rattle.grid.proofs.validity.is_valid.Statement.{statement}
 use Rattle.grid.proofs.validity.is_valid.Tie as tie

@@ -1,10 +1,12 @@
+-- Three invariants: no step is allowed for a bus below b; no unit below p, and no Z bus below w, is a reason for b.
+-- So the first step found has the lowest bus and the reason that is taken first. In each loop what is left of 1 to n falls.
 use Prim.Native.Nat.{_+_, _-_, _≤_}
 use mathlib.Core.Path.{_≡_, refl, _∙_, subst⁻¹}
 use mathlib.Core.Logic.{⊎-elim}
 use native.Mathlib.Omega.{arith}
 use borrow.Author.Tests.{not-true, not-false}
 use Rattle.busset.specs.Sets.{Out, setOf}
-use Rattle.busset.proofs.Tests.{refutes}
+use Rattle.basics.proofs.Tests.{refutes}
 use Rattle.busset.proofs.Members.{out-of}
 use Rattle.rules.specs.Grids.{Proper}
 use Rattle.rules.specs.Steps.{ByUnit, ByZero}

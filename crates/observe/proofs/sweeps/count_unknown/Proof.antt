@@ -1,7 +1,7 @@
 use native.Mathlib.Omega.{arith}
 use borrow.Author.Tests.{not-true, not-false}
 use Rattle.busset.specs.Sets.{setOf, size}
-use Rattle.busset.proofs.Tests.{refutes}
+use Rattle.basics.proofs.Tests.{refutes}
 use Rattle.busset.proofs.Words.{set-size}
 use Rattle.observe.proofs.Counting.{Tallied, tallied-none, tallied-more, tallied-all}
 use borrow.Author.Needs.{needs}

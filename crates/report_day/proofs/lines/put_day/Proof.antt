@@ -1,3 +1,4 @@
+-- Four texts, put one after another, are the report. The steps end by byte 851, so every place is within its bound.
 use Prim.Native.Nat.{_≤_}
 use Rattle.text_field.specs.Split.{join}
 use native.Mathlib.Omega.{arith}

@@ -1,3 +1,4 @@
+-- The line of two numbers is what `put_pair` puts, once `join` is unfolded.
 use Rattle.text_field.specs.Split.{join}
 use borrow.Author.Needs.{needs}
 use Rattle.report_day.proofs.lines.put_observed.Statement.{statement}

@@ -1,3 +1,4 @@
+-- Invariant: the lines of the steps from i on are left to put. i-end - i falls. The steps name buses, which bounds the whole text.
 use borrow.Author.Needs.{needs}
 use Prim.Native.Nat.{_-_, _≤_}
 use mathlib.Core.Path.{_≡_, refl}

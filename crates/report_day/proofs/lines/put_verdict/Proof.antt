@@ -1,3 +1,4 @@
+-- 0 is `yes`. Any other count has at most 4 digits, so the place of the line feed is within its bound.
 use native.Mathlib.Omega.{arith}
 use Rattle.text_field.specs.Split.{join}
 use Rattle.text_field.proofs.Digits.{text-length}

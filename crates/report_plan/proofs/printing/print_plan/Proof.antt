@@ -1,3 +1,4 @@
+-- What counts is what writes: the length put into one byte of room is that of the text, so refusal 6 is decided before it is put.
 use Rattle.report_lines.proofs.Printed.{put-printed, not-printed}
 use borrow.Author.Needs.{needs}
 use Rattle.report_plan.proofs.printing.print_plan.Statement.{statement}

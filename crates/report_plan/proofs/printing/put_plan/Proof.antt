@@ -1,3 +1,4 @@
+-- Four texts, put one after another, are the plan. The first ends by byte 11 and the units take at most 15 bytes a bus.
 use Prim.Native.Nat.{_≤_}
 use native.Mathlib.Omega.{arith}
 use Rattle.text_field.specs.Split.{join}

@@ -1,3 +1,4 @@
+-- Invariant: i is at most 800, and 800 - i falls. No call here has a requirement, so nothing is kept of the list.
 use Prim.Native.Nat.{_-_, _≤_}
 use borrow.Author.Needs.{needs}
 use Rattle.try_steps.proofs.desk.drawn_list.Statement.{statement}

@@ -1,4 +1,4 @@
--- `replay_first` meets its contract: a walk of its MIR, by hand. The array is copied to a place in memory, its first steps are lent there as a slice for a lifetime that the walk makes, passed to `replay`, and taken back.
+-- A walk of the MIR by hand. The array is copied to memory. Its first steps are lent to `replay` for a lifetime made here, and taken back.
 use mathlib.Core.Path.{_≡_, refl, sym}
 use Prim.Native.Nat.{ℕ, _≤_}
 use mathlib.Core.List.{List, [], _∷_, _++_}
@@ -50,8 +50,8 @@ use Rattle.ending.specs.Replies.{ReplayReply}
 use Rattle.ending.specs.declared.Replayed.{Replayed}
 use Rattle.ending.proofs.Replayed as R
 use Rattle.list_calls.proofs.Rows.{case-made, case-typed, replayed-made, replayed-typed}
-use Rattle.walking.proofs.StepRow.{step-made}
-use Rattle.walking.proofs.Calling.{calls-lent}
+use Rattle.step.proofs.StepRow.{step-made}
+use Rattle.step.proofs.Calling.{calls-lent}
 use Rattle.list_calls.proofs.replay as replay
 use Rattle.list_calls.proofs.replay.Symbol as replay-def
 use Rattle.list_calls.proofs.replay.Symbol.{name as #list_calls·replay}

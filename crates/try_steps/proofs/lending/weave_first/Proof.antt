@@ -1,4 +1,5 @@
--- `weave_first` meets its contract: a walk of its MIR, by hand. Both arrays are copied to places in memory, and the first steps of each are lent there as a slice for a lifetime that the walk makes, passed to `weave`, and taken back: those of `out` as `weave` left them.
+-- A walk of the MIR by hand. Both arrays are copied to memory, and the first steps of each are lent to `weave` for lifetimes made here.
+-- They are taken back: those of `out` as `weave` left them, and the records past `room` as they were.
 use mathlib.Core.Path.{_≡_, refl, sym, _∙_, subst}
 use Prim.Native.Nat.{ℕ, _≤_}
 use mathlib.Core.List.{List, [], _∷_, _++_}
@@ -51,8 +52,8 @@ use Rattle.ending.specs.Replies.{WeaveReply}
 use Rattle.ending.specs.declared.Wove.{Wove}
 use Rattle.ending.proofs.Wove as O
 use Rattle.list_calls.proofs.Rows.{case-made, case-typed, wove-typed}
-use Rattle.walking.proofs.StepRow.{step-made}
-use Rattle.walking.proofs.Calling.{calls-lent}
+use Rattle.step.proofs.StepRow.{step-made}
+use Rattle.step.proofs.Calling.{calls-lent}
 use Rattle.list_calls.proofs.weave as weave
 use Rattle.list_calls.proofs.weave.Symbol as weave-def
 use Rattle.list_calls.proofs.weave.Symbol.{name as #list_calls·weave}

@@ -1,3 +1,4 @@
+-- Invariant: i is at most n, and n - i falls. `nth` takes any index, so nothing is kept of the list.
 use Prim.Native.Nat.{_-_, _≤_}
 use borrow.Author.Needs.{needs}
 use Rattle.try_steps.proofs.plans.of_list.Statement.{statement}

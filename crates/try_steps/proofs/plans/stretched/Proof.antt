@@ -1,3 +1,4 @@
+-- Invariant: i is at least n, and count - i falls. `add` takes any list, so nothing is kept of r.
 use Prim.Native.Nat.{_-_, _≤_}
 use borrow.Author.Needs.{needs}
 use Rattle.try_steps.proofs.plans.stretched.Statement.{statement}

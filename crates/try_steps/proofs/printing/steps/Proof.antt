@@ -1,3 +1,4 @@
+-- Invariant: i is at most n, and n - i falls. `nth` takes any index.
 use Prim.Native.Nat.{_-_, _≤_}
 use borrow.Author.Needs.{needs}
 use Rattle.try_steps.proofs.printing.steps.Statement.{statement}

@@ -1,3 +1,4 @@
+-- Invariant: the array has its 72 places, so each write is within it. 72 - i falls.
 use mathlib.Core.Path.{_≡_}
 use Prim.Native.Nat.{_-_, _≤_}
 use lib.ListN.{length}

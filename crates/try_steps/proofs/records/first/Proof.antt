@@ -1,3 +1,4 @@
+-- Invariant: i is at most count, which is at most 72, so each record read is there. count - i falls.
 use Prim.Native.Nat.{_-_, _≤_}
 use borrow.Author.Needs.{needs}
 use Rattle.try_steps.proofs.records.first.Statement.{statement}

@@ -1,3 +1,4 @@
+-- A turn has i below 72, so each record read is there. 72 - i falls.
 use Prim.Native.Nat.{_-_, _≤_}
 use borrow.Author.Needs.{needs}
 use Rattle.try_steps.proofs.records.kept.Statement.{statement}

@@ -1,4 +1,5 @@
--- `read_first` meets its contract: a walk of its MIR, by hand. The array is copied to a place in memory, its first records are lent there as a slice for a lifetime that the walk makes, passed to `read_steps`, and taken back as it left them. `text` is passed on with its token, which comes back.
+-- A walk of the MIR by hand. The array is copied to memory, and its first records are lent to `read_steps` for a lifetime made here.
+-- They are taken back as it left them, and those past `room` as they were. `text` is passed on with its token, which comes back.
 use mathlib.Core.Path.{_≡_, refl, sym, _∙_, subst}
 use Prim.Native.Nat.{ℕ, _≤_}
 use mathlib.Core.List.{List, [], _∷_, _++_}
@@ -45,12 +46,12 @@ use Rattle.step.specs.declared.Step.{Step}
 use Rattle.step.proofs.Parted.{Steps, machs, mach, stepsTy, First, Past, Others, Returned, first-long, new-long, as-field, parted, joined}
 use Rattle.step.proofs.Step as T
 use Rattle.step.proofs.Step.Laws as T′
-use Rattle.taking.specs.Taking.{StepsReadReply}
+use Rattle.step_text.specs.Taking.{StepsReadReply}
 use Rattle.step_text.specs.declared.StepsRead.{StepsRead}
 use Rattle.step_text.proofs.StepsRead as O
-use Rattle.walking.proofs.StepRow.{step-made}
+use Rattle.step.proofs.StepRow.{step-made}
 use Rattle.step_records.proofs.Rows.{steps-read-typed}
-use Rattle.walking.proofs.Calling.{calls-lent}
+use Rattle.step.proofs.Calling.{calls-lent}
 use Rattle.step_records.proofs.read_steps as read
 use Rattle.step_records.proofs.read_steps.Symbol as read-def
 use Rattle.step_records.proofs.read_steps.Symbol.{name as #step_records·read-steps}

@@ -1,3 +1,4 @@
+-- Invariant: the room is as long as it was. e - i falls. A turn past the end of s returns, so each byte read is there.
 use borrow.Author.Needs.{needs}
 use mathlib.Core.Path.{_≡_}
 use Prim.Native.Nat.{_-_}

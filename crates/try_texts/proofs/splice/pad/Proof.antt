@@ -1,3 +1,4 @@
+-- Invariant: the room is as long as it was, which is all that is promised of it. limit - i falls.
 use borrow.Author.Needs.{needs}
 use mathlib.Core.Path.{_≡_}
 use Prim.Native.Nat.{_-_}

@@ -1,0 +1,1 @@
+// What every crate may say of tests and lists: definitions and theorems alone.

@@ -1,0 +1,4 @@
+pub mod Storing
+pub mod Thinning
+pub mod Grouping
+pub mod Cutting

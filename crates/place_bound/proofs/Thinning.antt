@@ -1,0 +1,76 @@
+-- Why a site is not needed from which no more is lit than from another: row after row, and site after site.
+use mathlib.Core.Path.{_≡_, sym, ap, _∙_, subst, subst⁻¹}
+use mathlib.Core.List.{List}
+use mathlib.Core.Logic.{⊎-elim}
+use Prim.Native.Nat.{ℕ, _-_}
+use native.Mathlib.Omega.{arith}
+use native.Mathlib.Nat.{le-refl}
+use lib.ListN.{length, length-set, set}
+use Rattle.busset.specs.Sets.{Bus, bit, In, Out, Sub, empty, add, less, setOf, Without}
+use Rattle.basics.proofs.Tests.{same-or}
+use Rattle.busset.proofs.Digits.{bit-zero}
+use Rattle.busset.proofs.Members.{in-or, add-sub, without-sub}
+use Rattle.rules.proofs.Blocks.{cover-other}
+use Rattle.grid.specs.Cases.{neighbours}
+use Rattle.place_light.specs.Spreads.{Lit}
+use Rattle.place_light.specs.Spares.{Spares}
+use Rattle.place_light.proofs.Lighting.{lit-gives}
+use Rattle.place_light.proofs.Sparing.{spares-same, spares-more, without-less, without-out}
+use Rattle.place_bound.specs.Rows.{LitRows, Outlit}
+use Rattle.place_bound.proofs.Storing.{row-set-same, row-set-other}
+
+-- x is not needed beside y, from which at least as much is lit
+pub spares-lit : (n : ℕ) {nbr : ℕ → ℕ} {zeros s sites x y a b rest : ℕ} (k : ℕ) → Lit nbr zeros s x a → Lit nbr zeros s y b → Sub a b → In rest y → Without sites x rest → Spares n nbr zeros s sites k rest
+spares-lit n {nbr} {zeros} {s} {sites} {x} {y} {a} {b} {rest} k lx ly sub h w = record {
+  of = without-sub w;
+  spared = λ site units l none v c. ⊎-elim
+      (λ (p : In v x). none (add (less v x) y) (cover-other x y c p (add-sub (less v x) rest y (without-less w v (c .of)) h) (lit-gives l lx ly sub)))
+      (λ (p : Out v x). none v (record { of = without-out w v (c .of) p; few = c .few; full = c .full }))
+      (in-or v x);
+}
+
+-- ---- row after row: what is lit from each site that is not left
+
+pub record Lighting (nbr : ℕ → ℕ) (zeros s sites : ℕ) (rows : List ℕ) (left : ℕ) : Type 0 where
+  pub long : length rows ≡ 64
+  pub at : (x : ℕ) → Out left x → In sites x → Lit nbr zeros s x (neighbours rows x)
+
+pub lighting-none : (nbr : ℕ → ℕ) (zeros s sites : ℕ) {rows : List ℕ} → length rows ≡ 64 → Lighting nbr zeros s sites rows sites
+lighting-none nbr zeros s sites l = record { long = l; at = λ x o h. absurd (omega arith) }
+
+pub lighting-more : {nbr : ℕ → ℕ} {zeros s sites x left rest : ℕ} {rows : List ℕ} (w : ℕ) → Lighting nbr zeros s sites rows left → Bus 64 x → Lit nbr zeros s x (setOf w) → Without left x rest
+    → Lighting nbr zeros s sites (set rows (x - 1) w) rest
+lighting-more {nbr} {zeros} {s} {sites} {x} {left} {rest} {rows} w li bus lit o = record {
+  long = simp length-set (li .long);
+  at = λ y out h. ⊎-elim
+      (λ (e : y ≡ x). subst⁻¹ (λ (z : ℕ). Lit nbr zeros s z (neighbours (set rows (x - 1) w) z)) e
+      (subst (Lit nbr zeros s x) (sym (row-set-same rows w bus (omega (arith, li .long)))) lit))
+      (λ (ne : y ≡ x → ⊥). subst (Lit nbr zeros s y) (sym (row-set-other rows x w y bus ne)) (li .at y (omega (arith, o .there y ne)) h))
+      (same-or y x);
+}
+
+pub lighting-all : {nbr : ℕ → ℕ} {zeros s sites left : ℕ} {rows : List ℕ} → Lighting nbr zeros s sites rows left → left ≡ empty → LitRows nbr zeros s sites rows
+lighting-all li e = record { at = λ x. li .at x (ap (λ (s : ℕ). bit s x) e ∙ bit-zero x) }
+
+-- ---- site after site: those outlit are left out
+
+pub record Thinned (n : ℕ) (nbr : ℕ → ℕ) (zeros s sites k kept left : ℕ) : Type 0 where
+  pub of : Sub left sites
+  pub spares : Spares n nbr zeros s sites k kept
+
+pub thinned-none : (n : ℕ) (nbr : ℕ → ℕ) (zeros s sites k : ℕ) → Thinned n nbr zeros s sites k sites sites
+thinned-none n nbr zeros s sites k = record { of = λ b. le-refl (bit sites b); spares = spares-same n nbr zeros s sites k }
+
+pub thinned-yes : {n : ℕ} {nbr : ℕ → ℕ} {zeros s sites k kept left x others rest : ℕ} {rows : List ℕ} → Thinned n nbr zeros s sites k kept left → LitRows nbr zeros s sites rows → In left x
+    → Without kept x others → Outlit (neighbours rows) others x → Without left x rest → Thinned n nbr zeros s sites k others rest
+thinned-yes {n} {nbr} {zeros} {s} {sites} {k} {kept} {left} {x} {others} {rest} t li h w out o = record {
+  of = λ b. omega (arith, without-sub o b, t .of b);
+  spares = spares-more (t .spares)
+      (spares-lit n k (li .at x (omega (arith, t .of x))) (li .at (out .by) (let sub = without-sub w (out .by) in let of = t .spares .of (out .by) in omega (arith, out .other))) (out .holds) (out .other) w);
+}
+
+pub thinned-no : {n : ℕ} {nbr : ℕ → ℕ} {zeros s sites k kept left x rest : ℕ} → Thinned n nbr zeros s sites k kept left → Without left x rest → Thinned n nbr zeros s sites k kept rest
+thinned-no t o = record { of = λ b. omega (arith, without-sub o b, t .of b); spares = t .spares }
+
+pub thinned-to : {n : ℕ} {nbr : ℕ → ℕ} {zeros s sites k kept kept′ left : ℕ} → Thinned n nbr zeros s sites k kept left → kept′ ≡ kept → Thinned n nbr zeros s sites k kept′ left
+thinned-to {n} {nbr} {zeros} {s} {sites} {k} {left = left} t e = subst⁻¹ (λ (x : ℕ). Thinned n nbr zeros s sites k x left) e t

@@ -1,2 +1,0 @@
-pub mod SitingRows
-pub mod Rows

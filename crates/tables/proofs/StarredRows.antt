@@ -1,0 +1,170 @@
+-- The table of starred grids, proved: each row by a test that the checker computes, and for an observed set the list that derives it.
+use mathlib.Core.Path.{_≡_, refl, sym, ap}
+use mathlib.Core.List.{List, [], _∷_}
+use mathlib.Core.Logic.{inl, inr}
+use Prim.Native.Nat.{ℕ, suc, _+_, _-_}
+use native.Mathlib.Omega.{arith}
+use lib.Dec.{lit≤}
+use lib.IntN.{ℤ, pos, negsuc}
+use lib.Count.{ones, onesIn}
+use Rattle.busset.specs.Sets.{Bus, bit, empty, add, meet, lack, less, upTo, setOf}
+use Rattle.busset.proofs.Digits.{bit-zero}
+use Rattle.step.specs.declared.Reason.{Reason}
+use Rattle.step.specs.declared.Reason.the-variants.{OwnUnit, NeighbourOf, ZeroInjection}
+use Rattle.step.specs.declared.Step.{Step}
+use Rattle.rules.specs.Grids.{total}
+use Rattle.rules.specs.Steps.{Names, ReasonNames}
+use Rattle.rules.specs.Figures.{figure}
+use Rattle.tables.proofs.Tests.{gap, gap-none, isOne, given, subTest, holdsTest, acceptedTest, closedTest, leastTest, least-passes, holds-tests}
+use Rattle.tables.proofs.Sought.{Sought, pick, reasonFor, reasonAt, stepFor, passFrom, extended, derive, confirmTest, aloneTest, unconfirmedTest, noBetter, bestTest, noneTest, greedyTest, after, none, some, unsure, judged, judge, orElse, choose, seek, firstOf, smallest}
+use Rattle.refusals.proofs.Orders.{itself}
+use Rattle.grid.specs.Cases.{neighbours, gridOf, Valid}
+use Rattle.tables.proofs.Drawn.{withinTest, rowTest, validTest, valid-passes}
+use Rattle.observe_calls.specs.Replies.{stated}
+use Rattle.tables.proofs.StarredSites.{grid, free, verdict-right, greedy-right, fewest-right, uncovered-right}
+use Rattle.tables.specs.Starred.{wordOf, caseOf, Row, observes, figures, fails, unconfirmed, adds, fewestIs, uncovered, Right, AllRight, table}
+
+-- how far two integers are apart
+abbrev gapZ : ℤ → ℤ → ℕ
+gapZ (pos a) (pos b) = gap a b
+gapZ (pos a) (negsuc b) = 1
+gapZ (negsuc a) (pos b) = 1
+gapZ (negsuc a) (negsuc b) = gap a b
+
+gapZ-none : (y z : ℤ) → gapZ y z ≡ 0 → y ≡ z
+gapZ-none (pos a) (pos b) e = ap pos (gap-none a b e)
+gapZ-none (pos a) (negsuc b) e = absurd (omega arith)
+gapZ-none (negsuc a) (pos b) e = absurd (omega arith)
+gapZ-none (negsuc a) (negsuc b) e = ap negsuc (gap-none a b e)
+
+-- the answer of a search, as a number
+abbrev told : Sought → ℕ
+told none = 0
+told unsure = 1
+told (some m) = suc (suc m)
+
+-- how far two answers of a search are apart
+unfoldable gapSought : Sought → Sought → ℕ
+gapSought a b = gap (told a) (told b)
+
+told-inj : (a b : Sought) → told a ≡ told b → a ≡ b
+told-inj none none e = refl
+told-inj none unsure e = absurd (omega arith)
+told-inj none (some m) e = absurd (omega arith)
+told-inj unsure none e = absurd (omega arith)
+told-inj unsure unsure e = refl
+told-inj unsure (some m) e = absurd (omega arith)
+told-inj (some m) none e = absurd (omega arith)
+told-inj (some m) unsure e = absurd (omega arith)
+told-inj (some m) (some k) e = ap some (omega arith)
+
+gapSought-none : (a b : Sought) → gapSought a b ≡ 0 → a ≡ b
+unfolding gapSought
+gapSought-none a b e = told-inj a b (gap-none (told a) (told b) e)
+
+-- b is a bus 1 to n
+unfoldable busTest : ℕ → ℕ → ℕ
+busTest n b = (1 - b) + (b - n)
+
+bus-passes : (n b : ℕ) → busTest n b ≡ 0 → Bus n b
+unfolding busTest
+bus-passes n b e = record { some = omega arith; most = omega arith }
+
+-- the step names buses 1 to n
+unfoldable reasonTest : ℕ → Reason → ℕ
+reasonTest n OwnUnit = 0
+reasonTest n (NeighbourOf p) = busTest n p
+reasonTest n (ZeroInjection w) = busTest n w
+
+unfoldable namesTest : ℕ → Step → ℕ
+namesTest n x = busTest n (x .bus) + reasonTest n (x .reason)
+
+names-pass : (n : ℕ) (x : Step) → namesTest n x ≡ 0 → Names n x
+unfolding namesTest reasonTest
+names-pass n x e = record { bus = bus-passes n (x .bus) (omega arith); reason = go (x .reason) (omega arith) }
+  where
+    go : (r : Reason) → reasonTest n r ≡ 0 → ReasonNames n r
+    go OwnUnit e = tt
+    go (NeighbourOf p) e = bus-passes n p e
+    go (ZeroInjection w) e = bus-passes n w e
+
+-- ---- a row
+
+-- the test of a row; xs is the list that derives the set
+unfoldable wrong : Row → List Step → ℕ
+wrong (observes d bs) xs = validTest (caseOf d) + leastTest (gridOf (caseOf d)) xs (setOf (wordOf bs))
+wrong (figures d bs i j z) xs =
+    validTest (caseOf d) + busTest (d .n) i + busTest (d .n) j + (1 - bit (neighbours (caseOf d .nbr) i) j)
+    + gapZ (figure (neighbours (caseOf d .nbr)) (stated (caseOf d) (wordOf bs)) i j) z
+wrong (fails d x) xs = validTest (caseOf d) + namesTest (d .n) x + (1 - holdsTest (gridOf (caseOf d)) empty (x .bus) (x .reason))
+wrong (unconfirmed d bs) xs = validTest (caseOf d) + withinTest (d .n) (wordOf bs) + unconfirmedTest (grid d) (setOf (wordOf bs))
+wrong (adds d budget ss) xs = validTest (caseOf d) + (budget - 64) + greedyTest (grid d) budget ss
+wrong (fewestIs d budget bs) xs = validTest (caseOf d) + (budget - 8) + gapSought (smallest (grid d) (free d) (budget + 1) 0) (some (setOf (wordOf bs)))
+wrong (uncovered d budget) xs = validTest (caseOf d) + (budget - 8) + gapSought (smallest (grid d) (free d) (budget + 1) 0) none
+
+row-right : (r : Row) (xs : List Step) → wrong r xs ≡ 0 → Right r
+unfolding wrong
+row-right (observes d bs) xs e =
+    let v : Valid (caseOf d) = valid-passes (caseOf d) (omega arith) in
+    ((v, tt), least-passes (gridOf (caseOf d)) xs (setOf (wordOf bs)) (v .proper) (omega arith))
+row-right (figures d bs i j z) xs e =
+    let n = d .n in (
+      (valid-passes (caseOf d) (omega arith), ((bus-passes n i (omega arith), bus-passes n j (omega arith)), (omega arith, tt))),
+      sym (gapZ-none (figure (neighbours (caseOf d .nbr)) (stated (caseOf d) (wordOf bs)) i j) z (omega arith)),
+    )
+row-right (fails d x) xs e =
+    let v : Valid (caseOf d) = valid-passes (caseOf d) (omega arith) in
+    inr (v, inr (lit≤ tt, inr (names-pass (d .n) x (omega arith), inr (bit-zero (x .bus), inl (λ h. omega (arith, holds-tests (gridOf (caseOf d)) empty (x .bus) (v .proper) (x .reason) h), itself _)))))
+row-right (unconfirmed d bs) xs e = verdict-right d bs e
+row-right (adds d budget ss) xs e = greedy-right d budget ss e
+row-right (fewestIs d budget bs) xs e = fewest-right d budget bs (omega arith) (gapSought-none (smallest (grid d) (free d) (budget + 1) 0) (some (setOf (wordOf bs))) (omega arith))
+row-right (uncovered d budget) xs e = uncovered-right d budget (omega arith) (gapSought-none (smallest (grid d) (free d) (budget + 1) 0) none (omega arith))
+
+-- ---- the table
+
+unfoldable allWrong : List Row → List (List Step) → ℕ
+allWrong [] xss = 0
+allWrong (r ∷ rs) [] = 1
+allWrong (r ∷ rs) (xs ∷ xss) = wrong r xs + allWrong rs xss
+
+all-right : (rs : List Row) (xss : List (List Step)) → allWrong rs xss ≡ 0 → AllRight rs
+unfolding allWrong
+all-right [] xss e = tt
+all-right (r ∷ rs) [] e = absurd (omega arith)
+all-right (r ∷ rs) (xs ∷ xss) e = (row-right r xs (omega arith), all-right rs xss (omega arith))
+
+abbrev own : ℕ → Step
+own b = record { bus = b; reason = OwnUnit }
+
+abbrev near : ℕ → ℕ → Step
+near b p = record { bus = b; reason = NeighbourOf p }
+
+abbrev zeroAt : ℕ → ℕ → Step
+zeroAt b w = record { bus = b; reason = ZeroInjection w }
+
+-- for each row the list that derives its set
+abbrev derivations : List (List Step)
+derivations =
+    []
+    ∷ (near 1 2 ∷ own 2 ∷ near 3 2 ∷ [])
+    ∷ []
+    ∷ []
+    ∷ []
+    ∷ (near 2 3 ∷ own 3 ∷ zeroAt 1 2 ∷ near 4 3 ∷ near 7 3 ∷ [])
+    ∷ (near 3 4 ∷ own 4 ∷ near 5 4 ∷ zeroAt 6 5 ∷ [])
+    ∷ (own 1 ∷ near 2 1 ∷ near 3 4 ∷ own 4 ∷ near 5 4 ∷ zeroAt 6 5 ∷ zeroAt 7 3 ∷ [])
+    ∷ (own 1 ∷ near 2 1 ∷ near 4 5 ∷ own 5 ∷ [])
+    ∷ []
+    ∷ []
+    ∷ []
+    ∷ []
+    ∷ []
+    ∷ []
+    ∷ []
+    ∷ []
+    ∷ []
+
+-- every row of the table is right
+pub table-right : AllRight table
+unfolding allWrong wrong gapSought busTest reasonTest namesTest validTest withinTest rowTest leastTest acceptedTest holdsTest closedTest subTest isOne gap given total neighbours setOf figure upTo less lack meet add ones onesIn pick reasonFor reasonAt stepFor passFrom extended derive confirmTest aloneTest unconfirmedTest noBetter bestTest noneTest greedyTest after judged judge orElse choose seek firstOf smallest
+table-right = all-right table derivations refl

@@ -1,0 +1,161 @@
+-- Tests of a grid that is written out, which the checker computes: each is a number that is 0 where it passes.
+use mathlib.Core.Path.{_≡_, refl, ap, subst, subst⁻¹}
+use mathlib.Core.List.{List, [], _∷_}
+use mathlib.Core.Logic.{⊎-elim}
+use Prim.Native.Nat.{ℕ, zero, suc, _+_, _-_, _≤_, _<_}
+use native.Mathlib.Omega.{arith}
+use Rattle.busset.specs.Sets.{Bus, bit, In, Out, Sub, Within, empty, add, lack, less, size}
+use Rattle.basics.proofs.Tests.{same-or, below-or}
+use Rattle.busset.proofs.Members.{in-or, sub-of, less-here, less-there, less-sub}
+use Rattle.step.specs.declared.Reason.{Reason}
+use Rattle.step.specs.declared.Reason.the-variants.{OwnUnit, NeighbourOf, ZeroInjection}
+use Rattle.step.specs.declared.Step.{Step}
+use Rattle.rules.specs.Grids.{Grid, Proper, total}
+use Rattle.rules.specs.Observation.{Closed, ObservedSet}
+use Rattle.rules.specs.Steps.{Holds, AcceptedFrom, reached}
+use Rattle.rules.proofs.Firing.{fired-by}
+use Rattle.rules.proofs.Lists.{accepted-inside}
+
+-- ---- sums of tests over the buses
+
+pub total-none : (n : ℕ) (f : ℕ → ℕ) → total n f ≡ 0 → (b : ℕ) → Bus n b → f b ≡ 0
+unfolding total
+total-none zero f e b h = absurd (let l = h .most in let m = h .some in omega arith)
+total-none (suc n) f e b h =
+    ⊎-elim
+    (λ (l : b < suc n). total-none n f (omega arith) b (record { some = h .some; most = omega arith }))
+    (λ (l : suc n ≤ b). let q : b ≡ suc n = let m = h .most in omega arith in omega (arith, ap f q))
+    (below-or b (suc n))
+
+-- how far two numbers are apart
+unfoldable pub gap : ℕ → ℕ → ℕ
+gap m n = (m - n) + (n - m)
+
+pub gap-none : (m n : ℕ) → gap m n ≡ 0 → m ≡ n
+unfolding gap
+gap-none m n e = omega arith
+
+-- 1 at 1, and 0 elsewhere
+unfoldable pub isOne : ℕ → ℕ
+isOne n = 1 - gap n 1
+
+isOne-not : (n : ℕ) → isOne n ≡ 0 → n ≡ 1 → ⊥
+unfolding isOne gap
+isOne-not n e q = omega arith
+
+-- ---- sets
+
+-- s has all of the buses m
+unfoldable pub subTest : ℕ → ℕ → ℕ → ℕ
+subTest n m s = total n (λ b. bit m b - bit s b)
+
+sub-passes : (n m s : ℕ) → Within n m → subTest n m s ≡ 0 → Sub m s
+unfolding subTest
+sub-passes n m s w e = sub-of m s (λ b h. omega (arith, total-none n (λ b. bit m b - bit s b) e b (w b h)))
+
+-- x where the digit d is not 0
+unfoldable pub given : ℕ → ℕ → ℕ
+given zero x = 0
+given (suc d) x = x
+
+pub given-passes : (d x : ℕ) → d ≡ 1 → given d x ≡ 0 → x ≡ 0
+unfolding given
+given-passes zero x e h = absurd (omega arith)
+given-passes (suc d) x e h = h
+
+-- ---- steps and lists
+
+-- the reason holds for bus b where s is observed
+unfoldable pub holdsTest : Grid → ℕ → ℕ → Reason → ℕ
+holdsTest g s b OwnUnit = 1 - bit (g .units) b
+holdsTest g s b (NeighbourOf p) = (1 - bit (g .units) p) + (1 - bit (g .neighbours p) b)
+holdsTest g s b (ZeroInjection w) = (1 - bit (g .zeros) w) + (1 - bit s w) + (1 - bit (g .neighbours w) b) + subTest (g .n) (less (g .neighbours w) b) s
+
+holds-passes : (g : Grid) (s b : ℕ) → Proper g → (r : Reason) → holdsTest g s b r ≡ 0 → Holds g s b r
+unfolding holdsTest
+holds-passes g s b v OwnUnit e = omega arith
+holds-passes g s b v (NeighbourOf p) e = record { unit = omega arith; joined = omega arith }
+holds-passes g s b v (ZeroInjection w) e = record {
+  class = omega arith;
+  observed = omega arith;
+  joined = omega arith;
+  others = λ a h ne.
+      let m : In (less (g .neighbours w) b) a = omega (arith, less-there (g .neighbours w) b a ne) in
+      omega (arith, sub-passes (g .n) (less (g .neighbours w) b) s within (omega arith) a);
+}
+  where
+    within : Within (g .n) (less (g .neighbours w) b)
+    within a h = v .lines w a (omega (arith, less-sub (g .neighbours w) b a)) .to
+
+-- and the test passes wherever the reason holds
+pub total-pass : (n : ℕ) (f : ℕ → ℕ) → ((b : ℕ) → f b ≡ 0) → total n f ≡ 0
+unfolding total
+total-pass zero f h = refl
+total-pass (suc n) f h = omega (arith, total-pass n f h, h (suc n))
+
+pub holds-tests : (g : Grid) (s b : ℕ) → Proper g → (r : Reason) → Holds g s b r → holdsTest g s b r ≡ 0
+unfolding holdsTest subTest
+holds-tests g s b v OwnUnit h = omega arith
+holds-tests g s b v (NeighbourOf p) h = omega (arith, h .unit, h .joined)
+holds-tests g s b v (ZeroInjection w) h =
+    omega (arith, h .class, h .observed, h .joined, total-pass (g .n) (λ a. bit (less (g .neighbours w) b) a - bit s a) known)
+  where
+    known : (a : ℕ) → bit (less (g .neighbours w) b) a - bit s a ≡ 0
+    known a =
+        ⊎-elim
+        (λ (e : a ≡ b). subst⁻¹ (λ (x : ℕ). bit (less (g .neighbours w) b) x - bit s x ≡ 0) e (omega (arith, less-here (g .neighbours w) b)))
+        (λ (ne : a ≡ b → ⊥). ⊎-elim
+        (λ (p : In (g .neighbours w) a). omega (arith, h .others a p ne))
+        (λ (p : Out (g .neighbours w) a). omega (arith, less-there (g .neighbours w) b a ne))
+        (in-or (g .neighbours w) a))
+        (same-or a b)
+
+-- each step is allowed where it stands
+unfoldable pub acceptedTest : Grid → ℕ → List Step → ℕ
+acceptedTest g s [] = 0
+acceptedTest g s (x ∷ xs) = bit s (x .bus) + holdsTest g s (x .bus) (x .reason) + acceptedTest g (add s (x .bus)) xs
+
+accepted-passes : (g : Grid) (s : ℕ) (xs : List Step) → Proper g → acceptedTest g s xs ≡ 0 → AcceptedFrom g s xs
+unfolding acceptedTest
+accepted-passes g s [] v e = tt
+accepted-passes g s (x ∷ xs) v e = (
+  record { new = omega arith; holds = holds-passes g s (x .bus) v (x .reason) (omega arith) },
+  accepted-passes g (add s (x .bus)) xs v (omega arith),
+)
+
+-- ---- the observed set
+
+-- s satisfies O1 and O2
+unfoldable pub closedTest : Grid → ℕ → ℕ
+closedTest g s =
+    subTest (g .n) (g .units) s + total (g .n) (λ b. given (bit (g .units) b) (subTest (g .n) (g .neighbours b) s))
+    + total (g .n) (λ w. given (bit (g .zeros) w) (given (bit s w) (isOne (size (lack (g .neighbours w) s)))))
+
+closed-passes : (g : Grid) (s : ℕ) → Proper g → closedTest g s ≡ 0 → Closed g s
+unfolding closedTest
+closed-passes g s v e = record {
+  o1 = record {
+    own = λ b h. omega (arith, sub-passes (g .n) (g .units) s (v .units) (omega arith) b);
+    near = λ b h.
+        sub-passes (g .n) (g .neighbours b) s (λ a j. v .lines b a j .to)
+        (given-passes (bit (g .units) b) (subTest (g .n) (g .neighbours b) s) h
+        (total-none (g .n) (λ b. given (bit (g .units) b) (subTest (g .n) (g .neighbours b) s)) (omega arith) b (v .units b h)));
+  };
+  o2 = λ w z o.
+      let f : ℕ → ℕ = λ w. given (bit (g .zeros) w) (given (bit s w) (isOne (size (lack (g .neighbours w) s)))) in
+      fired-by (g .neighbours w) s
+      (isOne-not (size (lack (g .neighbours w) s))
+      (given-passes (bit s w) (isOne (size (lack (g .neighbours w) s))) o
+      (given-passes (bit (g .zeros) w) (given (bit s w) (isOne (size (lack (g .neighbours w) s)))) z (total-none (g .n) f (omega arith) w (v .zeros w z)))));
+}
+
+-- s is the observed set, as the list xs derives it
+unfoldable pub leastTest : Grid → List Step → ℕ → ℕ
+leastTest g xs s = acceptedTest g empty xs + gap (reached xs) s + closedTest g s
+
+pub least-passes : (g : Grid) (xs : List Step) (s : ℕ) → Proper g → leastTest g xs s ≡ 0 → ObservedSet g s
+unfolding leastTest
+least-passes g xs s v e = record {
+  closed = closed-passes g s v (omega arith);
+  least = λ t cl. subst (λ (r : ℕ). Sub r t) (gap-none (reached xs) s (omega arith)) (accepted-inside g t xs cl (accepted-passes g empty xs v (omega arith)));
+}

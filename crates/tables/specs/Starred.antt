@@ -1,0 +1,123 @@
+-- The starred grids of document 01, as one table under one statement: each row asks a public call, and has the reply that it promises.
+use mathlib.Core.List.{List, [], _∷_, _++_}
+use mathlib.Core.Bool.{cond}
+use Prim.Native.Nat.{ℕ, zero, suc, _+_, _-_, _^_, _≤_}
+use lib.Dec.{eqb}
+use lib.IntN.{ℤ, pos, negsuc}
+use lib.ListN.{length, drop}
+use Rattle.step.specs.declared.Reason.the-variants.{ZeroInjection}
+use Rattle.step.specs.declared.Step.{Step}
+use Rattle.grid.specs.declared.Case.{Case}
+use Rattle.refusals.specs.declared.Refusal.the-variants.{ReasonFails, NoCover}
+use Rattle.ending.specs.Replies.{ReplayReply}
+use Rattle.ending.specs.declared.Replayed.the-variants as replayed
+use Rattle.observe_calls.specs.declared.Observed.the-variants as observed
+use Rattle.observe_calls.specs.declared.Figured.the-variants as figured
+use Rattle.place_calls.specs.declared.Verdict.the-variants as verdict
+use Rattle.place_calls.specs.declared.Greedy.the-variants as greedy
+use Rattle.place_calls.specs.declared.Fewest.the-variants as fewest
+use Rattle.observe_calls.specs.Replies.{ObservedReply, FigureReply}
+use Rattle.place_calls.specs.Replies.{VerdictReply, GreedyReply, FewestReply}
+
+-- ---- a grid, drawn
+
+-- n buses, the lines, the Z buses and the units; every site is Y
+pub record Drawing : Type 0 where
+  pub n : ℕ
+  pub lines : List (ℕ × ℕ)
+  pub zeros : List ℕ
+  pub units : List ℕ
+
+-- the word that holds the buses of a list without repeats: bus 1 in the lowest bit
+abbrev pub wordOf : List ℕ → ℕ
+wordOf [] = 0
+wordOf (b ∷ bs) = 2 ^ (b - 1) + wordOf bs
+
+-- the row of bus b: the other end of each line that has b at one end
+abbrev pub rowOf : ℕ → List (ℕ × ℕ) → ℕ
+rowOf b [] = 0
+rowOf b (l ∷ ls) = cond (eqb (l .0) b) (wordOf (l .1 ∷ [])) 0 + cond (eqb (l .1) b) (wordOf (l .0 ∷ [])) 0 + rowOf b ls
+
+-- the rows of k buses, from bus b on
+abbrev pub rowsFrom : ℕ → ℕ → List (ℕ × ℕ) → List ℕ
+rowsFrom b zero ls = []
+rowsFrom b (suc k) ls = rowOf b ls ∷ rowsFrom (suc b) k ls
+
+-- the case value of a drawing
+abbrev pub caseOf : Drawing → Case
+caseOf d = record { n = d .n; nbr = rowsFrom 1 64 (d .lines); zero = wordOf (d .zeros); site = 2 ^ d .n - 1; units = wordOf (d .units) }
+
+-- ---- a row
+
+-- a question, and its answer
+pub data Row : Type 0 where
+  -- the buses that are observed
+  observes : Drawing → List ℕ → Row
+  -- the firing figure of bus i towards j where these buses are observed
+  figures : Drawing → List ℕ → ℕ → ℕ → ℤ → Row
+  -- the list of this step alone is refused 9 at step 1
+  fails : Drawing → Step → Row
+  -- the units that no other unit confirms
+  unconfirmed : Drawing → List ℕ → Row
+  -- what greedy adds with a budget, in the order added, in any room for it
+  adds : Drawing → ℕ → List ℕ → Row
+  -- the fewest with a budget
+  fewestIs : Drawing → ℕ → List ℕ → Row
+  -- no addition within the budget covers: refusal 11
+  uncovered : Drawing → ℕ → Row
+
+-- the row's reply is the one that the call's promise asks
+abbrev pub Right : Row → Type 0
+Right (observes d bs) = ObservedReply (caseOf d) (observed.Set (wordOf bs))
+Right (figures d bs i j z) = FigureReply (caseOf d) (wordOf bs) i j (figured.Figure z)
+Right (fails d x) = ReplayReply (caseOf d) (x ∷ []) (replayed.Refused (ReasonFails 1))
+Right (unconfirmed d bs) = VerdictReply (caseOf d) (verdict.Unconfirmed (wordOf bs))
+Right (adds d budget xs) =
+    (entry : List ℕ) → length xs ≤ length entry
+    → GreedyReply (caseOf d) budget entry (xs ++ drop (length xs) entry) (greedy.Added (length xs))
+Right (fewestIs d budget bs) = FewestReply (caseOf d) budget (fewest.Sites (wordOf bs))
+Right (uncovered d budget) = FewestReply (caseOf d) budget (fewest.Refused NoCover)
+
+-- and so for every row
+abbrev pub AllRight : List Row → Type 0
+AllRight [] = Unit {0}
+AllRight (r ∷ rs) = Right r × AllRight rs
+
+-- ---- the grids
+
+-- the seven-bus grid, with these units
+abbrev pub seven : List ℕ → Drawing
+seven units = record {
+  n = 7;
+  lines = (1, 2) ∷ (2, 3) ∷ (3, 4) ∷ (3, 7) ∷ (4, 5) ∷ (5, 6) ∷ [];
+  zeros = 2 ∷ 3 ∷ 5 ∷ [];
+  units = units;
+}
+
+-- the path 1-2-3-4-5, only 3 is Z, units at 1 and 5
+abbrev pub path : Drawing
+path = record { n = 5; lines = (1, 2) ∷ (2, 3) ∷ (3, 4) ∷ (4, 5) ∷ []; zeros = 3 ∷ []; units = 1 ∷ 5 ∷ [] }
+
+-- ---- the table
+
+-- every starred grid of document 01
+abbrev pub table : List Row
+table =
+    observes (seven []) []
+    ∷ observes (seven (2 ∷ [])) (1 ∷ 2 ∷ 3 ∷ [])
+    ∷ figures (seven (2 ∷ [])) (1 ∷ 2 ∷ 3 ∷ []) 3 7 (pos 0)
+    ∷ figures (seven (2 ∷ [])) (1 ∷ 2 ∷ 3 ∷ []) 3 2 (negsuc 0)
+    ∷ figures (seven (2 ∷ [])) (1 ∷ 2 ∷ 3 ∷ []) 2 1 (pos 1)
+    ∷ observes (seven (3 ∷ [])) (1 ∷ 2 ∷ 3 ∷ 4 ∷ 7 ∷ [])
+    ∷ observes (seven (4 ∷ [])) (3 ∷ 4 ∷ 5 ∷ 6 ∷ [])
+    ∷ observes (seven (1 ∷ 4 ∷ [])) (1 ∷ 2 ∷ 3 ∷ 4 ∷ 5 ∷ 6 ∷ 7 ∷ [])
+    ∷ observes path (1 ∷ 2 ∷ 4 ∷ 5 ∷ [])
+    ∷ fails (seven (3 ∷ [])) (record { bus = 1; reason = ZeroInjection 2 })
+    ∷ unconfirmed (seven []) []
+    ∷ unconfirmed (seven (3 ∷ 4 ∷ [])) []
+    ∷ unconfirmed (seven (2 ∷ 4 ∷ [])) []
+    ∷ unconfirmed (seven (1 ∷ 4 ∷ [])) (1 ∷ 4 ∷ [])
+    ∷ adds (seven []) 2 (3 ∷ 4 ∷ [])
+    ∷ fewestIs (seven []) 2 (1 ∷ 4 ∷ [])
+    ∷ uncovered (seven []) 1
+    ∷ []

@@ -1,0 +1,226 @@
+#!/usr/bin/env python3
+"""The names that are declared in the proof language: which are used by nothing, and which mean two things.
+
+usage: tests/names.py --dead    prints each declaration that nothing uses
+       tests/names.py --names   prints each public name of specs that means two things
+
+Nothing is printed if all is well. The exit status is 1 if something is printed.
+
+A declaration is live if a function's proof, a contract or a document leads to it, from declaration to declaration.
+A public one of ENDS is live in itself: what these crates prove is for the reader.
+A document names it in backquotes.
+"""
+import collections
+import pathlib
+import re
+import sys
+
+ENDS = ("demands", "starred", "tables")
+DOCUMENTS = ["README.md", "docs/*.md"]
+MODIFIERS = ("pub", "abbrev", "unfoldable")
+WORD = r"[^\s(){}.,;\"⌜⌝]+"
+TOKEN = re.compile(r"(?P<field>(?<![^\s(])\.)?(?P<first>%s)(?:\.(?P<rest>%s))?(?P<bound>(?= [=:] ))?" % (WORD, WORD))
+USE = re.compile(r"^(?:ghost )?use (Rattle.%s(?:\.%s)*?)(?:\.\{(.*)\}| as (%s))?;?$" % (WORD, WORD, WORD))
+
+
+class Declaration:
+    """A name declared at the top of a file, whether it is public, and the text that says what it is."""
+
+    def __init__(self, file, name, public, kind):
+        self.file, self.name, self.public, self.kind = file, name, public, kind
+        self.lines, self.constructors = [], []
+
+
+def items(lines):
+    """The lines in runs: each begins with one that is not indented, and no comment is in them."""
+    run = []
+    for line in lines:
+        if not line.strip() or line.lstrip().startswith("-- "):
+            continue
+        if not line.startswith(" ") and run:
+            yield run
+            run = []
+        run.append(line)
+    if run:
+        yield run
+
+
+def declared(file, lines, header=()):
+    """The declarations of these lines; those in a `module _` are as good as outside it."""
+    current = None
+    waiting = []
+    for run in items(lines):
+        words = run[0].split()
+        if words[0] in ("use", "infixl", "infixr") or words[:2] == ["pub", "mod"]:
+            continue
+        if words[0] == "module":
+            ends = next(i for i, line in enumerate(run) if line.rstrip().endswith("where"))
+            inner = [line[2:] for line in run[ends + 1 :]]
+            yield from declared(file, inner, list(header) + run[: ends + 1])
+            current = None
+            continue
+        if words[0] == "unfolding":
+            waiting += run
+            continue
+        i = 0
+        while words[i] in MODIFIERS:
+            i += 1
+        if words[i] in ("record", "data"):
+            current = Declaration(file, words[i + 1], "pub" in words[:i], words[i])
+            if words[i] == "data":
+                current.constructors = [line.split()[0] for line in run[1:] if re.match(r"  \S+ :", line)]
+            current.lines += header
+            yield current
+        elif re.match(r"(?:(?:%s) )*%s(?: \{\S+\})* :(?: |$)" % ("|".join(MODIFIERS), WORD), run[0]):
+            current = Declaration(file, words[i], "pub" in words[:i], "definition")
+            current.lines += header
+            yield current
+        current.lines += waiting + run
+        waiting = []
+
+
+def imports(file, modules):
+    """What the names that a file takes from elsewhere stand for, and which of its names stand for whole files."""
+    names, whole = {}, {}
+    for line in file.read_text().splitlines():
+        use = USE.match(line)
+        if not use or use[1] not in modules:
+            continue
+        target = modules[use[1]]
+        if use[3]:
+            whole[use[3]] = target
+        for part in (use[2] or "").split(","):
+            there, _, here = part.strip().partition(" as ")
+            names[here or there] = (target, there)
+    return names, whole
+
+
+def bound(text):
+    """The names that a text itself binds: after λ, before a type or a value, and in the patterns of its clauses."""
+    found = set()
+    for names in re.findall(r"λ ([^.]*?)\.(?= |$)", text):
+        found.update(re.findall(WORD, names))
+    for names in re.findall(r"[({]([^(){}:]+) : ", text):
+        found.update(names.split())
+    found.update(re.findall(r"let (%s) [:=]" % WORD, text))
+    return found
+
+
+def uses(text, own, names, whole, hidden=()):
+    """The declarations, as pairs of a file and a name, that a text names."""
+    for token in TOKEN.finditer(text):
+        first, rest = token["first"], token["rest"]
+        if token["field"] or token["bound"]:
+            continue
+        if first in whole and rest:
+            yield whole[first], rest
+        elif first in hidden:
+            continue
+        elif first in own:
+            yield own[first]
+        elif first in names:
+            yield names[first]
+
+
+def read():
+    """Every file of the proof language with its declarations, and the names by which others call it."""
+    files, modules = {}, {}
+    for file in sorted(pathlib.Path("crates").glob("*/*/**/*.antt")):
+        crate, part = file.parts[1], file.parts[2]
+        if part not in ("specs", "proofs") or file.name == "Lib.antt":
+            continue
+        files[file] = list(declared(file, file.read_text().splitlines()))
+        module = ".".join(file.with_suffix("").parts[3:])
+        modules["Rattle.%s.%s.%s" % (crate, part, module)] = file
+        modules["Rattle.%s.%s.%s" % (crate, part, part, module)] = file
+    return files, modules
+
+
+def infix(name):
+    """A name, or the word that stands between its two sides."""
+    return name.strip("_") if re.fullmatch(r"_[^_]+_", name) else name
+
+
+def dead():
+    files, modules = read()
+    table, edges, live = {}, collections.defaultdict(set), set()
+    for file, declarations in files.items():
+        for d in declarations:
+            table[file, infix(d.name)] = d
+    for file, declarations in files.items():
+        own = {}
+        for d in declarations:
+            for name in [infix(d.name)] + d.constructors:
+                own[name] = (file, infix(d.name))
+        names, whole = imports(file, modules)
+        names = {infix(here): (target, infix(there)) for here, (target, there) in names.items()}
+        for d in declarations:
+            text = "\n".join(d.lines)
+            edges[file, infix(d.name)].update(uses(text, own, names, whole, bound(text) - {infix(d.name)}))
+            if file.name == "Proof.antt" and d.public or d.public and file.parts[1] in ENDS:
+                live.add((file, infix(d.name)))
+    # a constructor that a file takes from elsewhere stands for its type
+    owner = {(d.file, c): (d.file, d.name) for d in table.values() for c in d.constructors}
+    for file in sorted(pathlib.Path("crates").glob("*/src/**/*.rt")):
+        names, whole = imports(file, modules)
+        live.update(uses(file.read_text(), {}, names, whole))
+    quoted = set()
+    for pattern in DOCUMENTS:
+        for document in pathlib.Path(".").glob(pattern):
+            for words in re.findall(r"`([^`\n]+)`", document.read_text()):
+                quoted.update(re.findall(WORD, words))
+    live.update(key for key in table if key[1] in quoted)
+    waiting = list(live)
+    while waiting:
+        key = waiting.pop()
+        for other in edges[owner.get(key, key)]:
+            if other not in live:
+                live.add(other)
+                waiting.append(other)
+    live.update(owner[key] for key in list(live) if key in owner)
+    for file, name in sorted(set(table) - live, key=lambda key: (str(key[0]), key[1])):
+        yield "%s: nothing uses %s" % (file, table[file, name].name)
+
+
+def two_meanings():
+    files, _ = read()
+    places = collections.defaultdict(list)
+    for file, declarations in files.items():
+        if file.parts[2] == "specs":
+            for d in declarations:
+                for name in [d.name] + d.constructors if d.public else []:
+                    places[name].append(str(file))
+    for name in sorted(places):
+        if len(places[name]) > 1:
+            yield "%s is declared in %s" % (name, " and in ".join(places[name]))
+    alike = collections.defaultdict(list)
+    for name in places:
+        alike[name.lower()].append(name)
+    for names in alike.values():
+        if len(names) > 1:
+            pair = ("%s (%s)" % (name, ", ".join(places[name])) for name in sorted(names))
+            yield " and ".join(pair) + " differ by a capital"
+    types = collections.defaultdict(list)
+    for file in sorted(pathlib.Path("crates").glob("*/src/**/*.rt")):
+        for name in re.findall(r"^(?:pub )?(?:struct|enum|type) (\w+)", file.read_text(), re.M):
+            types[name].append(str(file))
+    for name in sorted(types):
+        if name in places:
+            yield "%s is a type in %s and is declared in %s" % (name, ", ".join(types[name]), ", ".join(places[name]))
+        elif len(types[name]) > 1:
+            yield "%s is a type in %s" % (name, " and in ".join(types[name]))
+
+
+def main():
+    checks = {"--dead": dead, "--names": two_meanings}
+    asked = sys.argv[1:]
+    if not asked or any(option not in checks for option in asked):
+        sys.exit(__doc__.split("\n\n")[1])
+    said = [line for option in asked for line in checks[option]()]
+    for line in said:
+        print(line)
+    sys.exit(1 if said else 0)
+
+
+if __name__ == "__main__":
+    main()
