@@ -1,10 +1,11 @@
 #!/usr/bin/env python3
-"""The fewest units of a case text as an integer program, in the LP format that glpsol reads: O1 and O2 of document 01, and a budget of 8.
+"""The fewest units of a case text as an integer program, in the LP format that glpsol reads. It has O1 and O2 of
+document 01, and a budget of 8.
 
     bench/fewest_lp.py CASE > PROGRAM
 
-x_b is 1 where bus b has a new unit. f_w_b is 1 where the zero-injection bus w gives b its voltage, which it does at most once, and after
-w and all its other neighbours: t_b is the turn of bus b.
+x_b is 1 if bus b has a new unit. f_w_b is 1 if the zero-injection bus w gives b its voltage. A bus w does so at most
+once, and after w and all its other neighbours: t_b is the turn of bus b.
 """
 import sys
 
@@ -34,7 +35,8 @@ def main():
     print("minimize\n units: " + " + ".join("x_%d" % b for b in sites) + "\nsubject to")
     print(" " + " + ".join("x_%d" % b for b in sites) + " <= 8")
     for b in near:
-        terms = ["x_%d" % a for a in sorted(near[b] | {b}) if a in sites] + ["f_%d_%d" % (w, c) for w, c in gives if c == b]
+        terms = ["x_%d" % a for a in sorted(near[b] | {b}) if a in sites]
+        terms += ["f_%d_%d" % (w, c) for w, c in gives if c == b]
         print(" " + " + ".join(terms) + " >= 1")
     for w in zeros:
         if near[w]:

@@ -1,19 +1,19 @@
 /* Wozgrzyt for C programs: which buses of a grid its phasor units observe.
  *
- * Link with libestimator.a (x86-64 Linux). There are four calls. Each is given the whole case as a text, answers a set of buses,
- * and checks everything itself: any bytes, any lengths and any budget get a reply.
+ * Link with libestimator.a (x86-64 Linux). There are four calls. Each is given the whole case as a text and answers a
+ * set of buses. Each checks everything itself: any bytes, any lengths and any budget get a reply.
  *
  * THE CASE TEXT
  *
- * One record to a line. Fields are parted by one tab, and each line is ended by one line feed, the last one too. The records stand in
- * this order:
+ * One record to a line. One tab separates two fields, and one line feed ends each line, the last one too. The records
+ * come in this order:
  *
  *     grid\t3\n             the number of buses n, from 1 to 64
- *     bus\t1\tI\tY\n        n records in the order of their numbers: the number, the class (Z: zero injection, I: anything else)
- *     bus\t2\tZ\tN\n        and the site (Y: a new unit may stand here, N: it may not)
+ *     bus\t1\tI\tY\n        n records in the order of their numbers: the number, the class (Z: zero injection,
+ *     bus\t2\tZ\tN\n        I: anything else) and the site (Y: a new unit may be put here, N: it may not)
  *     bus\t3\tI\tY\n
- *     line\t1\t2\n          0 to 256 lines between two buses, the lower bus first, rising by the first bus and then by the second
- *     line\t2\t3\n
+ *     line\t1\t2\n          0 to 256 lines between two buses, the lower bus first, rising by the first bus and then
+ *     line\t2\t3\n          by the second
  *     pmu\t1\n              0 to 64 installed units, rising
  *     end\n                 and nothing after it
  *
@@ -30,46 +30,56 @@
  *
  * THE ANSWER
  *
- * On success a call returns 0 and writes the first eight bytes of `set`. Bus 1 is the lowest bit of the first byte, bus 8 its highest,
- * bus 9 the lowest bit of the second byte, bus 64 the highest of the eighth. Bytes from the ninth on stay as they were.
+ * On success a call returns 0 and writes the first eight bytes of `set`. Bus 1 is the lowest bit of the first byte,
+ * bus 8 its highest, bus 9 the lowest bit of the second byte, bus 64 the highest of the eighth. The call leaves the
+ * bytes from the ninth on as they were.
  *
  *     int observed(const uint8_t set[8], unsigned bus) { return set[(bus - 1) / 8] >> ((bus - 1) % 8) & 1; }
  *
  * A REFUSAL
  *
- * Any other result is a refusal, and no byte of `set` was changed. The result is 100 times the place plus the refusal's number:
+ * Any other result is a refusal, and the call changed no byte of `set`. The result is 100 times the place plus the
+ * refusal's number:
  *
  *     uint32_t number = result % 100, place = result / 100;
  *
- *     number   given exactly when                                                                     place         by
- *       1      the case text has more than 8,192 bytes                                                0             all
- *       2      case text: a word, field count, class, site or number form is wrong, a record or a     line          all
- *              line feed is lacking, or something follows `end`
- *       3      case text: the grid's number is not 1 to 64, another number is 0 or above n, or this   line          all
- *              is the 257th line record
- *       4      case text: the bus is not the next one, a line's first bus is not below its second,    line          all
- *              or line or pmu records do not rise
- *       6      fewer than eight bytes are lent for the set                                            0             all
- *       7      a step's bus, or the bus in its reason, is above n                                     step          wz_replay
- *       8      the step's bus is already observed                                                     step          wz_replay
- *       9      the step's reason does not hold where the step stands                                  step          wz_replay
- *      10      the budget is above 8                                                                  0             wz_fewest
- *      11      no addition within the budget has all buses observed                                   0             wz_fewest
- *      51      the step text has more than 16,384 bytes                                               0             wz_replay
- *      52      step text: a word, field count, reason or number form is wrong, a record or a line     line          wz_replay
- *              feed is lacking, or something follows `end`
- *      53      step text: a number is 0 or above 64                                                   line          wz_replay
- *      62      step text: this is the 1,025th step                                                    line (1,025)  wz_replay
+ *     number   given exactly when                                                        place         by
+ *       1      the case text has more than 8,192 bytes                                   0             all
+ *       2      case text: a word, field count, class, site or number form is wrong, a    line          all
+ *              record or a line feed is missing, or something follows `end`
+ *       3      case text: the grid's number is not 1 to 64, another number is 0 or       line          all
+ *              above n, or this is the 257th line record
+ *       4      case text: the bus is not the next one, a line's first bus is not below   line          all
+ *              its second, or line or pmu records do not rise
+ *       6      fewer than eight bytes are lent for the set                               0             all
+ *       7      a step's bus, or the bus in its reason, is above n                        step          wz_replay
+ *       8      the step's bus is already observed                                        step          wz_replay
+ *       9      the step's reason does not hold at its place in the list                  step          wz_replay
+ *      10      the budget is above 8                                                     0             wz_fewest
+ *      11      no addition within the budget has all buses observed                      0             wz_fewest
+ *      51      the step text has more than 16,384 bytes                                  0             wz_replay
+ *      52      step text: a word, field count, reason or number form is wrong, a         line          wz_replay
+ *              record or a line feed is missing, or something follows `end`
+ *      53      step text: a number is 0 or above 64                                      line          wz_replay
+ *      62      step text: this is the 1,025th step                                       line (1,025)  wz_replay
  *
- * Lines and steps count from 1. A lacking record is refused at the line where it should stand, and what follows `end` at the line after
- * it. Where several refusals would apply, the first of these is given: the case text's (1, then the first bad line, and in that line 2
- * before 3 before 4), the step text's (51, then the first bad line, and in that line 52, 53, 62), 10, the first bad step's (7 before 8
- * before 9), 11, 6. So the whole step text is read before step 1 is tried.
+ * Lines and steps count from 1. A missing record is refused at the line where it should be, and what follows `end` at
+ * the line after it. If several refusals apply, the call gives the first of these: the case text's (1, then the first
+ * bad line, and in that line 2 before 3 before 4), the step text's (51, then the first bad line, and in that line 52,
+ * 53, 62), 10, the first bad step's (7 before 8 before 9), 11, 6. So the whole step text is read before step 1 is
+ * tried.
  *
  * MEMORY
  *
- * The texts are only read. `set` must not overlap them. Any pointer may be NULL where its length is 0. Nothing is allocated and no state
- * is kept between calls: calls may run at once from many threads on different sets, and the same input always gives the same reply.
+ * The texts are only read. `set` must not overlap them. A pointer may be NULL if its length is 0. A call allocates
+ * nothing and keeps no state: calls may run at once from many threads on different sets, and the same input always
+ * gives the same reply.
+ *
+ * STACK
+ *
+ * A call takes at most 16,384 bytes of the caller's stack. This is measured and not proved (tests/c/boundary_stack.c):
+ * each call runs on a painted stack, on 64 buses, with a budget of 8 or with 1,024 steps. No call took 8,192 bytes, and
+ * the first of a program took 3,200 more, for the dynamic linker.
  *
  * EXAMPLE
  *
@@ -89,20 +99,21 @@
 extern "C" {
 #endif
 
-/* The observed set: every bus that the installed units and the zero-injection buses determine. Refuses 1, 2, 3, 4, 6. */
+/* The observed set: every bus that the installed units and the zero-injection buses determine.
+ * Refuses 1, 2, 3, 4, 6. */
 uint32_t wz_observed(const uint8_t *case_text, size_t case_len, uint8_t *set, size_t set_len);
 
-/* The buses of installed units that no other unit confirms: two units confirm each other if their buses are joined or share a
- * neighbour. The empty set is the verdict yes. Refuses 1, 2, 3, 4, 6. */
+/* The buses of installed units that no other unit confirms. Two units confirm each other if their buses are joined or
+ * share a neighbour. The empty set is the verdict yes. Refuses 1, 2, 3, 4, 6. */
 uint32_t wz_unconfirmed(const uint8_t *case_text, size_t case_len, uint8_t *set, size_t set_len);
 
-/* The fewest new units, at most `budget` (0 to 8), with which all buses are observed: the sites added, without the installed units. New
- * units go only on Y sites that have none. Among the smallest additions it is the first by comparing their rising lists number by
- * number. Refuses 1, 2, 3, 4, 10, 11, 6. */
+/* The fewest new units, at most `budget` (0 to 8), with which all buses are observed: the sites added, without the
+ * installed units. New units go only on Y sites that have none. Among the smallest additions it is the first by
+ * comparing their rising lists number by number. Refuses 1, 2, 3, 4, 10, 11, 6. */
 uint32_t wz_fewest(const uint8_t *case_text, size_t case_len, size_t budget, uint8_t *set, size_t set_len);
 
-/* The set that a list of steps reaches, whether or not a further step would be allowed after it. Refuses 1, 2, 3, 4, 51, 52, 53, 62, 7,
- * 8, 9, 6. */
+/* The set that a list of steps reaches, whether or not a further step would be allowed after it.
+ * Refuses 1, 2, 3, 4, 51, 52, 53, 62, 7, 8, 9, 6. */
 uint32_t wz_replay(const uint8_t *case_text, size_t case_len, const uint8_t *step_text, size_t step_len, uint8_t *set,
                    size_t set_len);
 

@@ -13,7 +13,8 @@ def line(letter, a=0, b=0, name=""):
 def draw(case, stated=()):
     n, rows = case["n"], case["rows"]
     line("n", n)
-    for letter, buses in (("z", case["zero"]), ("y", case["site"] - blank(n)["site"]), ("u", case["units"]), ("s", stated)):
+    sites = case["site"] - blank(n)["site"]
+    for letter, buses in (("z", case["zero"]), ("y", sites), ("u", case["units"]), ("s", stated)):
         for b in sorted(buses):
             line(letter, b)
     for a in rows:

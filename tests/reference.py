@@ -1,13 +1,14 @@
 """Document 01's rules of observation, written from the document alone, on sets of bus numbers.
 
-A case is a dict: n; rows, a dict from a bus number to the set of buses that it sees a line to; zero, site and units, sets of bus numbers.
-Any number from 1 to 64 may stand in it, as in the case value that a caller lends.
+A case is a dict: n; rows, a dict from a bus number to the set of buses that it sees a line to; zero, site and units,
+sets of bus numbers. Any number from 1 to 64 may be in it, as in the case value that a caller lends.
 """
 import copy
 
 
 def blank(n):
-    return {"n": n, "rows": {b: set() for b in range(1, 65)}, "zero": set(), "site": set(range(1, n + 1)), "units": set()}
+    rows = {b: set() for b in range(1, 65)}
+    return {"n": n, "rows": rows, "zero": set(), "site": set(range(1, n + 1)), "units": set()}
 
 
 def drawn(case, lines=(), half=(), zero=(), site=(), units=()):
@@ -138,7 +139,7 @@ def replay(case, steps):
 
 
 def weave(case, steps, records, room):
-    """(the count written, the set reached), or ("refused", number, place). Writes into the first `room` of the records."""
+    """(the count written, the set reached), or ("refused", number, place). Writes into the first `room` records."""
     if refusal_5(case):
         return ("refused", 5, 0)
     if len(steps) > 1024:

@@ -228,7 +228,7 @@ def by_line(text, kind):
     t.say("lines")
 
 
-WORDS = [b"", b"0", b"00", b"07", b"1", b"8", b"64", b"65", b"256", b"9999", b"10000", b"+1", b"Z", b"N", b"end", b"line"]
+WORDS = b"|0|00|07|1|8|64|65|256|9999|10000|+1|Z|N|end|line".split(b"|")
 
 
 def by_field(text, kind):
@@ -278,7 +278,14 @@ def texts():
     units = ["pmu %d" % i for i in range(1, 65)] + ["end"]
     steps = ["step 2 N 3", "step 3 O", "step 1 Z 2", "step 4 N 3", "step 7 N 3", "end"]
     many = ["step %d Z %d" % (i % 64 + 1, i % 63 + 1) for i in range(1025)]
-    return {"seven": seven, "full": full + lines[:256] + units, "more": full + lines + units, "steps": steps, "most": many[:1024] + ["end"], "many": many + ["end"]}
+    return {
+        "seven": seven,
+        "full": full + lines[:256] + units,
+        "more": full + lines + units,
+        "steps": steps,
+        "most": many[:1024] + ["end"],
+        "many": many + ["end"],
+    }
 
 
 def main():

@@ -1,10 +1,11 @@
 #!/usr/bin/env python3
-"""What the two programs print for a case text on standard input, worked out from document 01 by the references beside this file.
+"""What the two programs print for a case text on standard input, worked out by the references beside this file.
 
     tests/reports.py day              the day report
     tests/reports.py plan [BUDGET]    the planning program's reply to `plan BUDGET`, or to `plan` alone
 
-The fewest are found by trying every placement in order: cases of few buses, or with few units lacking, take seconds, others hours.
+The fewest are found by trying every placement in order. A case of few buses, or with few units missing, takes seconds;
+others take hours.
 """
 import sys
 

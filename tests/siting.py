@@ -1,6 +1,7 @@
 #!/usr/bin/env python3
-"""What crates/try_sites must print, found without it: every answer is worked out here from document 01's sentences by trying all
-placements, and the grids are read from cases. One answer is not: that 57 buses need 12 units, which an integer program found.
+"""What crates/try_sites must print, found without it. Every answer is worked out here from document 01's sentences, by
+trying all placements; the grids are read from cases. One answer is not: an integer program found that 57 buses need 12
+units.
 
     tests/siting.py                prints crates/try_sites/stdout
     tests/siting.py --questions    prints crates/try_sites/stdin: the same questions, as the program reads them
@@ -36,7 +37,8 @@ class Grid:
         self.sites = [b for b in range(1, n + 1) if b not in barred]
 
     def text(self):
-        buses = ["bus\t%d\t%s\t%s\n" % (b, "Z" if b in self.zeros else "I", "Y" if b in self.sites else "N") for b in self.near]
+        marks = [(b, "Z" if b in self.zeros else "I", "Y" if b in self.sites else "N") for b in self.near]
+        buses = ["bus\t%d\t%s\t%s\n" % mark for mark in marks]
         lines = ["line\t%d\t%d\n" % (a, b) for a in self.near for b in sorted(self.near[a]) if a < b]
         units = ["pmu\t%d\n" % b for b in sorted(self.units)]
         return "grid\t%d\n" % self.n + "".join(buses + lines + units) + "end\n"

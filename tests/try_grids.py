@@ -49,8 +49,10 @@ full = drawn(band, lines=[(1, b) for b in range(10, 20)])
 apart = drawn(blank(6), lines=[(1, 2), (2, 3), (5, 6)])
 star = drawn(blank(64), lines=[(1, b) for b in range(2, 65)])
 
-for name, units in (("no unit", []), ("unit at 2", [2]), ("unit at 3", [3]), ("unit at 4", [4]), ("units at 1 and 4", [1, 4])):
-    observed_set("seven, " + name, drawn(seven, units=units))
+observed_set("seven, no unit", seven)
+for u in (2, 3, 4):
+    observed_set("seven, unit at %d" % u, drawn(seven, units=[u]))
+observed_set("seven, units at 1 and 4", drawn(seven, units=[1, 4]))
 observed_set("path", path)
 for u in (1, 32, 64):
     observed_set("row of 64 Z, unit at %d" % u, drawn(row, units=[u]))
@@ -78,8 +80,10 @@ for name, stated, bus, reason in (
     ("3 O in none", set(), 3, ("O",)), ("2 O in none", set(), 2, ("O",)), ("2 N 3 in none", set(), 2, ("N", 3)),
     ("1 N 3 in none", set(), 1, ("N", 3)), ("2 N 1 in none", set(), 2, ("N", 1)), ("1 Z 2 in none", set(), 1, ("Z", 2)),
     ("1 Z 2 in 2", {2}, 1, ("Z", 2)), ("1 Z 2 in 2 3 4 7", most, 1, ("Z", 2)),
-    ("5 Z 4 in 2 3 4 7, where 4 is I", most, 5, ("Z", 4)), ("6 Z 5 in 2 3 4 7, where 5 is not observed", most, 6, ("Z", 5)),
-    ("3 O in 3", {3}, 3, ("O",)), ("3 N 8 in 3", {3}, 3, ("N", 8)), ("3 Z 0 in 3", {3}, 3, ("Z", 0)), ("0 O in 3", {3}, 0, ("O",)),
+    ("5 Z 4 in 2 3 4 7, where 4 is I", most, 5, ("Z", 4)),
+    ("6 Z 5 in 2 3 4 7, where 5 is not observed", most, 6, ("Z", 5)),
+    ("3 O in 3", {3}, 3, ("O",)), ("3 N 8 in 3", {3}, 3, ("N", 8)), ("3 Z 0 in 3", {3}, 3, ("Z", 0)),
+    ("0 O in 3", {3}, 0, ("O",)),
     ("8 O in 3 8", {3, 8}, 8, ("O",)), ("64 N 3 in 3", {3}, 64, ("N", 3)),
     ("2 N 3 in 3 8, where 8 is ignored", {3, 8}, 2, ("N", 3)),
 ):

@@ -40,7 +40,9 @@ def woven(case, steps, room):
     rest = ", rest kept" if records[count:] == FILLING[count:] else ", rest changed"
     if answer[0] == "refused":
         return " refused %d %d" % answer[1:] + rest
-    return " %d written" % count + listed(records[:count]) + ", reached" + numbers(answer[1]) + rest + ", replayed" + replayed(case, records[:count])
+    written = records[:count]
+    said = " %d written" % count + listed(written) + ", reached" + numbers(answer[1]) + rest
+    return said + ", replayed" + replayed(case, written)
 
 
 def put(case, steps):
@@ -118,7 +120,7 @@ def drawn_list(case, seed):
 
 
 def shuffled(lists, seed):
-    """The lists as one, each in its own order: the turn is of the first of five desks, from a drawn one on, that has a step left."""
+    """The lists as one, each in its own order. The turn is of the first desk, from a drawn one on, with a step left."""
     left, steps, x = [list(l) for l in lists] + [[]] * (5 - len(lists)), [], seed
     while any(left):
         x = after(x)
