@@ -8,9 +8,9 @@ use Rattle.list_calls.proofs.weave.Met as met-weave
 use Rattle.place_calls.proofs.cross_validate.Met as met-cross-validate
 use Rattle.place_calls.proofs.place_greedy.Met as met-place-greedy
 use Rattle.place_calls.proofs.place_fewest.Met as met-place-fewest
-use Rattle.text_calls.proofs.read_case.Met as met-read-case
+use Rattle.case_read.proofs.read_case.Met as met-read-case
 use Rattle.text_calls.proofs.write_case.Met as met-write-case
-use Rattle.text_calls.proofs.check_steps.Met as met-check-steps
+use Rattle.step_text.proofs.check_steps.Met as met-check-steps
 use Rattle.step_records.proofs.read_steps.Met as met-read-steps
 use Rattle.step_replay.proofs.replay_text.Met as met-replay-text
 use Rattle.report_day.proofs.day_report.Met as met-day-report

@@ -9,9 +9,9 @@ use Rattle.list_calls.proofs.weave.Statement as weave
 use Rattle.place_calls.proofs.cross_validate.Statement as cross-validate
 use Rattle.place_calls.proofs.place_greedy.Statement as place-greedy
 use Rattle.place_calls.proofs.place_fewest.Statement as place-fewest
-use Rattle.text_calls.proofs.read_case.Statement as read-case
+use Rattle.case_read.proofs.read_case.Statement as read-case
 use Rattle.text_calls.proofs.write_case.Statement as write-case
-use Rattle.text_calls.proofs.check_steps.Statement as check-steps
+use Rattle.step_text.proofs.check_steps.Statement as check-steps
 use Rattle.step_records.proofs.read_steps.Statement as read-steps
 use Rattle.step_replay.proofs.replay_text.Statement as replay-text
 use Rattle.report_day.proofs.day_report.Statement as day-report

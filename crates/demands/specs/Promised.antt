@@ -43,9 +43,9 @@ use Rattle.list_calls.proofs.weave as weave
 use Rattle.place_calls.proofs.cross_validate.Reads as cross-validate
 use Rattle.place_calls.proofs.place_greedy.Reads as place-greedy
 use Rattle.place_calls.proofs.place_fewest.Reads as place-fewest
-use Rattle.text_calls.proofs.read_case.Reads as read-case
+use Rattle.case_read.proofs.read_case.Reads as read-case
 use Rattle.text_calls.proofs.write_case.Reads as write-case
-use Rattle.text_calls.proofs.check_steps.Reads as check-steps
+use Rattle.step_text.proofs.check_steps.Reads as check-steps
 use Rattle.step_records.proofs.read_steps as read-steps
 use Rattle.step_replay.proofs.replay_text.Reads as replay-text
 use Rattle.report_day.proofs.day_report.Reads as day-report

@@ -8,9 +8,9 @@ use Rattle.case_read.specs.declared.CaseRead.{CaseRead}
 use Rattle.refusals.specs.declared.Written.{Written}
 use Rattle.step_text.specs.declared.StepsRead.{StepsRead}
 use Rattle.text_calls.specs.Replies.{CaseReadReply, CaseWrittenReply, StepsCheckedReply}
-use Rattle.text_calls.proofs.read_case.Reads as read-case
+use Rattle.case_read.proofs.read_case.Reads as read-case
 use Rattle.text_calls.proofs.write_case.Reads as write-case
-use Rattle.text_calls.proofs.check_steps.Reads as check-steps
+use Rattle.step_text.proofs.check_steps.Reads as check-steps
 
 pub read-case-promised : (κs : Lfts 1) (text : RefT (List ℕ)) →
     read-case.Asked κs (text, tt)

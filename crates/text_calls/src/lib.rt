@@ -1,17 +1,14 @@
-// The texts: a case text read and written, a step text checked.
-ghost use Rattle.text_calls.specs.Replies.{CaseReadReply, CaseWrittenReply, StepsCheckedReply};
-use case_read::CaseRead;
+// The calls on texts: a case text read and written; a step text checked, read and replayed.
+ghost use Rattle.text_calls.specs.Replies.{CaseWrittenReply};
 use grid::Case;
 use refusals::Refusal;
 use refusals::Written;
-use step_text::StepsRead;
 
-// The case that a text says.
-pub fn read_case(text: &[u8]) -> CaseRead
-    ensures { λ r. ⌜ CaseReadReply (now (text .entry)) r ⌝ }
-{
-    case_read::read_case(text)
-}
+// passed on from the crates of their subjects
+pub use case_read::read_case;
+pub use step_records::read_steps;
+pub use step_replay::replay_text;
+pub use step_text::check_steps;
 
 // The text of a case, written into the bytes lent.
 pub fn write_case(case: Case, out: &mut [u8]) -> Written
@@ -25,11 +22,4 @@ pub fn write_case(case: Case, out: &mut [u8]) -> Written
     }
     let k = case_write::cases::put_case(out, case);
     Written::Bytes(k)
-}
-
-// How many steps a step text has.
-pub fn check_steps(text: &[u8]) -> StepsRead
-    ensures { λ r. ⌜ StepsCheckedReply (now (text .entry)) r ⌝ }
-{
-    step_text::check_steps(text)
 }

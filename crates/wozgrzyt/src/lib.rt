@@ -37,12 +37,12 @@ pub use place_calls::place_greedy;
 pub use case_read::CaseRead;
 pub use case_read::ReadAnswer;
 pub use refusals::Written;
-pub use step_records::read_steps;
 pub use step_replay::TextReplayed;
-pub use step_replay::replay_text;
 pub use step_text::StepsRead;
 pub use text_calls::check_steps;
 pub use text_calls::read_case;
+pub use text_calls::read_steps;
+pub use text_calls::replay_text;
 pub use text_calls::write_case;
 
 // what the programs print
