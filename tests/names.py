@@ -51,7 +51,7 @@ def declared(file, lines, header=()):
     waiting = []
     for run in items(lines):
         words = run[0].split()
-        if words[0] in ("use", "infixl", "infixr") or words[:2] == ["pub", "mod"]:
+        if words[0] in ("use", "infixl", "infixr") or words[:2] == ["pub", "mod"] or run == ["}"]:
             continue
         if words[0] == "module":
             ends = next(i for i, line in enumerate(run) if line.rstrip().endswith("where"))
@@ -82,7 +82,9 @@ def declared(file, lines, header=()):
 def imports(file, modules):
     """What the names that a file takes from elsewhere stand for, and which of its names stand for whole files."""
     names, whole = {}, {}
-    for line in file.read_text().splitlines():
+    # a list of names may be broken, one to a line
+    text = re.sub(r"\{\n((?:  \S+,\n)+)\}", lambda m: "{%s}" % " ".join(m[1].split()).rstrip(","), file.read_text())
+    for line in text.splitlines():
         use = USE.match(line)
         if not use or use[1] not in modules:
             continue
@@ -96,7 +98,7 @@ def imports(file, modules):
 
 
 def bound(text):
-    """The names that a text itself binds: after λ, before a type or a value, and in the patterns of its clauses."""
+    """The names that a text itself binds: after λ, before a type, and after `let`."""
     found = set()
     for names in re.findall(r"λ ([^.]*?)\.(?= |$)", text):
         found.update(re.findall(WORD, names))

@@ -130,7 +130,8 @@ both-upTo {n} {s} {a} {r} al z h = ext r (upTo n s) (λ b. ⊎-elim (in-it b) (p
 
     past-it : (b : ℕ) → b ≤ n → bit r b ≡ bit (upTo n s) b
     past-it b l =
-        ⊎-elim (λ (p : In a b). omega (arith, h .at b, upTo-in n s b l)) (λ (p : Out s b). omega (arith, h .at b, upTo-in n s b l)) (has-it b l)
+        ⊎-elim (λ (p : In a b). omega (arith, h .at b, upTo-in n s b l)) (λ (p : Out s b). omega (arith, h .at b, upTo-in n s b l))
+        (has-it b l)
 
 -- ---- what is left once b is taken out of s
 
@@ -149,7 +150,8 @@ without-less {s} {b} {r} w =
 
 pub without-sub : {s b r : ℕ} → Without s b r → Sub r s
 without-sub {s} {b} {r} w a =
-    ⊎-elim (λ (e : a ≡ b). subst⁻¹ (λ (x : ℕ). bit r x ≤ bit s x) e (omega (arith, w .here))) (λ (ne : a ≡ b → ⊥). omega (arith, w .there a ne)) (same-or a b)
+    ⊎-elim (λ (e : a ≡ b). subst⁻¹ (λ (x : ℕ). bit r x ≤ bit s x) e (omega (arith, w .here)))
+    (λ (ne : a ≡ b → ⊥). omega (arith, w .there a ne)) (same-or a b)
 
 -- ---- the buses 1 to n
 

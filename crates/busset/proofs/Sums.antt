@@ -75,5 +75,6 @@ ones-sum (suc k) s h =
     let top : s / 2 ^ k < 2 = shr-lt 1 k (subst (λ (x : ℕ). s < 2 ^ x) (sym (one-add k)) h) in
     let lo = mod-lt s (pow-pos k) in
     ap ones (sym (split s k)) ∙ ones-cat k (s / 2 ^ k) (s % 2 ^ k) lo
-    ∙ ap₂ (λ (x y : ℕ). x + y) (ones-small (s / 2 ^ k) top ∙ sym (mod-eq-of-lt top)) (ones-sum k (s % 2 ^ k) lo ∙ sum-ap k (λ i l. bit-mod k s i l))
+    ∙ ap₂ (λ (x y : ℕ). x + y) (ones-small (s / 2 ^ k) top ∙ sym (mod-eq-of-lt top))
+    (ones-sum k (s % 2 ^ k) lo ∙ sum-ap k (λ i l. bit-mod k s i l))
     ∙ add-comm (bit s k) (sum k (bit s))

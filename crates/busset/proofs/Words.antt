@@ -12,7 +12,8 @@ use lib.Pow.{pow-lt, pow-pos, ones-lt}
 use Rattle.basics.specs.Deciding.{Decides}
 use Rattle.busset.specs.Sets.{Bus, bit, In, Out, Sub, empty, size, setOf, Union, Both, Minus, With, Without, Lowest, All}
 use Rattle.basics.proofs.Tests.{decides-eq, decides-by}
-use Rattle.busset.proofs.Digits.{bit-suc, bit-low, bit-or, bit-and, and-not, bit-in, bit-zero, bit-ones, bit-one-same, bit-one-other, half-lt}
+use Rattle.busset.proofs.Digits.{bit-suc, bit-low, bit-or, bit-and, and-not, bit-in}
+use Rattle.busset.proofs.Digits.{bit-zero, bit-ones, bit-one-same, bit-one-other, half-lt}
 use Rattle.busset.proofs.Members.{empty-of}
 use Rattle.busset.proofs.Sizes.{one-more, size-double, size-most}
 
@@ -59,7 +60,8 @@ decides-set v w d = decides-by (λ e. ap setOf e) (set-inj v w) d
 -- ---- the operations, digit by digit
 
 -- an operation that gives 0 of bus 0, and of bus i + 1 what it gives of bit i
-by-bit : (f : ℕ → ℕ → ℕ) (v w r : ℕ) → f 0 0 ≡ 0 → ((i : ℕ) → bit r i ≡ f (bit v i) (bit w i)) → (b : ℕ) → bit (setOf r) b ≡ f (bit (setOf v) b) (bit (setOf w) b)
+by-bit : (f : ℕ → ℕ → ℕ) (v w r : ℕ) → f 0 0 ≡ 0 → ((i : ℕ) → bit r i ≡ f (bit v i) (bit w i)) → (b : ℕ)
+    → bit (setOf r) b ≡ f (bit (setOf v) b) (bit (setOf w) b)
 by-bit f v w r z e zero = set-zero r ∙ sym z ∙ ap₂ f (sym (set-zero v)) (sym (set-zero w))
 by-bit f v w r z e (suc i) = set-suc r i ∙ e i ∙ ap₂ f (sym (set-suc v i)) (sym (set-suc w i))
 

@@ -34,14 +34,20 @@ unfolding members
 members-top f s k zero = let e : k + 0 ≡ k = omega arith in omega (arith, counted s k (f k) [], ap (bit s) e)
 members-top f s k (suc m) =
     let e : k + 1 + m ≡ k + suc m = omega arith in
-    omega
-    (arith, counted s k (f k) (members f s (k + 1) (suc m)), counted s k (f k) (members f s (k + 1) m), members-top f s (k + 1) m, ap (bit s) e)
+    omega (
+      arith,
+      counted s k (f k) (members f s (k + 1) (suc m)),
+      counted s k (f k) (members f s (k + 1) m),
+      members-top f s (k + 1) m,
+      ap (bit s) e,
+    )
 
 -- the buses of s up to m
 upTo-sum : (m s : ℕ) → size (upTo m s) ≡ sum (suc m) (bit s)
 unfolding upTo
 upTo-sum m s =
-    ones-sum (suc m) (upTo m s) (mod-lt s (pow-pos (suc m))) ∙ sum-ap (suc m) {f = bit (upTo m s)} {g = bit s} (λ i l. upTo-in m s i (omega arith))
+    ones-sum (suc m) (upTo m s) (mod-lt s (pow-pos (suc m)))
+    ∙ sum-ap (suc m) {f = bit (upTo m s)} {g = bit s} (λ i l. upTo-in m s i (omega arith))
 
 members-sum : (f : ℕ → Record) (s m : ℕ) → length (members f s 1 m) + bit s 0 ≡ sum (suc m) (bit s)
 unfolding members sum

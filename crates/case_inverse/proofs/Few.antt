@@ -39,38 +39,47 @@ Rising c p (Wrong ∷ L) = ⊥
 abbrev From : Case → ℕ → List Record → Type 0
 From c w L = (p : ℕ) → p < w → Rising c p L
 
-row-turn : (c : Case) (a b : ℕ) (L : List Record) (t : Bool) → has (neighbours (c .nbr) a) b ≡ t → Pair a b → From c (1000 + (a * 128 + (b + 1))) L →
-    From c (1000 + (a * 128 + b)) (cond t (Line a b ∷ L) L)
+row-turn : (c : Case) (a b : ℕ) (L : List Record) (t : Bool) → has (neighbours (c .nbr) a) b ≡ t → Pair a b
+    → From c (1000 + (a * 128 + (b + 1))) L
+    → From c (1000 + (a * 128 + b)) (cond t (Line a b ∷ L) L)
 row-turn c a b L true e y f p l = (y, l, eqb-true _ 1 e, f (1000 + (a * 128 + b)) (omega arith))
 row-turn c a b L false e y f p l = f p (omega arith)
 
-row-from : (c : Case) (a m b : ℕ) (L : List Record) → 1 ≤ a → a < b → b + m ≤ 65 → From c (1000 + ((a + 1) * 128)) L → From c (1000 + (a * 128 + b)) (members (Line a) (neighbours (c .nbr) a) b m ++ L)
+row-from : (c : Case) (a m b : ℕ) (L : List Record) → 1 ≤ a → a < b → b + m ≤ 65 → From c (1000 + ((a + 1) * 128)) L
+    → From c (1000 + (a * 128 + b)) (members (Line a) (neighbours (c .nbr) a) b m ++ L)
 unfolding members
 row-from c a zero b L h l k f = λ p q. f p (omega arith)
 row-from c a (suc m) b L h l k f =
     let t = has (neighbours (c .nbr) a) b in
     let M = members (Line a) (neighbours (c .nbr) a) (b + 1) m in
     rw (row-push t (Line a b) M L)
-    (row-turn c a b (M ++ L) t refl (record { one = h; less = l; high = omega arith }) (row-from c a m (b + 1) L h (omega arith) (omega arith) f))
+    (row-turn c a b (M ++ L) t refl (record { one = h; less = l; high = omega arith })
+    (row-from c a m (b + 1) L h (omega arith) (omega arith) f))
 
 lines-from : (c : Case) (m a : ℕ) → 1 ≤ a → a + m ≤ 65 → From c (1000 + a * 128) (lineRecords (neighbours (c .nbr)) a m)
 unfolding lineRecords
 lines-from c zero a h k p q = tt
-lines-from c (suc m) a h k p q = row-from c a m (a + 1) (lineRecords (neighbours (c .nbr)) (a + 1) m) h (omega arith) (omega arith) (lines-from c m (a + 1) (omega arith) (omega arith)) p (omega arith)
+lines-from c (suc m) a h k p q =
+    row-from c a m (a + 1) (lineRecords (neighbours (c .nbr)) (a + 1) m) h (omega arith) (omega arith)
+    (lines-from c m (a + 1) (omega arith) (omega arith)) p (omega arith)
 
 -- nothing is answered between where the reader stands and its next record
-quiet : {s : Reader} {p : ℕ} {c : Case} (r : Record) (q : Ask) → Stand s p → Stepped s p r → Settled c (next s r) (placeOf r) → Proper q → p < place q → place q < placeOf r → answer c q ≡ 0
+quiet : {s : Reader} {p : ℕ} {c : Case} (r : Record) (q : Ask) → Stand s p → Stepped s p r → Settled c (next s r) (placeOf r) → Proper q
+    → p < place q → place q < placeOf r → answer c q ≡ 0
 quiet {s} r q t u m h l k =
     m q h (omega arith) ∙ unchanged s r q (t .at .rows) (t .grid) (u .fact) h (λ e. omega arith) ∙ t .at .fresh q h l
 
-few-turn : {s : Reader} {p : ℕ} {x : List ℕ} {c : Case} → Stand s p → s .place .lines ≤ 256 → (r : Record) → verdict (s .place) r ≡ Next → Reads (next s r) x c → (a b : ℕ) (L : List Record) → Rising c p (Line a b ∷ L) → Stepped s p r →
-    (next s r .place .lines ≤ 256 → (M : List Record) → Rising c (placeOf r) M → next s r .place .lines + length M ≤ 256) → s .place .lines + suc (length L) ≤ 256
+few-turn : {s : Reader} {p : ℕ} {x : List ℕ} {c : Case} → Stand s p → s .place .lines ≤ 256 → (r : Record) → verdict (s .place) r ≡ Next
+    → Reads (next s r) x c → (a b : ℕ) (L : List Record) → Rising c p (Line a b ∷ L) → Stepped s p r
+    → (next s r .place .lines ≤ 256 → (M : List Record) → Rising c (placeOf r) M → next s r .place .lines + length M ≤ 256)
+    → s .place .lines + suc (length L) ≤ 256
 few-turn {s} t l (Grid n) e d a b L g u on = absurd (omega (arith, u .fact, t .grid))
 few-turn {s} t l (Bus k z o) e d a b L g u on = on l (Line a b ∷ L) (g .0, omega (arith, u .fact .bus .most), g .2, g .3)
 few-turn {s} {p} {c = c} t l (Line i j) e d a b L g u on =
     let n : s .place .lines < 256 = fit-of (s .place) (Line i j) (t .at .small) e .2 in
     ⊎-elim
-    (λ (k : placeOf (Line a b) < placeOf (Line i j)). absurd (omega (arith, g .2, quiet {c = c} (Line i j) (lineAt a b) t u (settled (u .on) d) (g .0) (g .1) k)))
+    (λ (k : placeOf (Line a b) < placeOf (Line i j)).
+    absurd (omega (arith, g .2, quiet {c = c} (Line i j) (lineAt a b) t u (settled (u .on) d) (g .0) (g .1) k)))
     (λ (k : placeOf (Line i j) ≤ placeOf (Line a b)). ⊎-elim
     (λ (q : placeOf (Line a b) ≡ placeOf (Line i j)). omega (arith, on (omega arith) L (subst (λ (w : ℕ). Rising c w L) q (g .3))))
     (λ (q : placeOf (Line a b) ≡ placeOf (Line i j) → ⊥). omega (arith, on (omega arith) (Line a b ∷ L) (g .0, omega arith, g .2, g .3)))
@@ -82,7 +91,8 @@ few-turn {s} {c = c} t l (Pmu k) e d a b L g u on =
 few-turn {s} t l End e d a b L g u on = absurd (omega (arith, u .over))
 few-turn {s} t l Wrong e d a b L g u on = absurd (u .fact)
 
-few-ends : {s : Reader} {p : ℕ} → Stand s p → s .place .lines ≤ 256 → (L : List Record) → Rising (caseOf s) p L → s .place .lines + length L ≤ 256
+few-ends : {s : Reader} {p : ℕ} → Stand s p → s .place .lines ≤ 256 → (L : List Record) → Rising (caseOf s) p L
+    → s .place .lines + length L ≤ 256
 few-ends t l [] g = omega arith
 few-ends t l (Grid n ∷ L) g = absurd g
 few-ends t l (Bus k z o ∷ L) g = absurd g
@@ -91,8 +101,10 @@ few-ends t l (Pmu k ∷ L) g = absurd g
 few-ends t l (End ∷ L) g = absurd g
 few-ends t l (Wrong ∷ L) g = absurd g
 
-few-goes : {s : Reader} {p : ℕ} {x : List ℕ} {c : Case} → Stand s p → s .place .lines ≤ 256 → (r : Record) → verdict (s .place) r ≡ Next → Reads (next s r) x c → (L : List Record) → Rising c p L → Stepped s p r →
-    (next s r .place .lines ≤ 256 → (M : List Record) → Rising c (placeOf r) M → next s r .place .lines + length M ≤ 256) → s .place .lines + length L ≤ 256
+few-goes : {s : Reader} {p : ℕ} {x : List ℕ} {c : Case} → Stand s p → s .place .lines ≤ 256 → (r : Record) → verdict (s .place) r ≡ Next
+    → Reads (next s r) x c → (L : List Record) → Rising c p L → Stepped s p r
+    → (next s r .place .lines ≤ 256 → (M : List Record) → Rising c (placeOf r) M → next s r .place .lines + length M ≤ 256)
+    → s .place .lines + length L ≤ 256
 few-goes t l r e d [] g u on = omega arith
 few-goes t l r e d (Grid n ∷ L) g u on = absurd g
 few-goes t l r e d (Bus k z o ∷ L) g u on = absurd g
@@ -101,7 +113,8 @@ few-goes t l r e d (Pmu k ∷ L) g u on = absurd g
 few-goes t l r e d (End ∷ L) g u on = absurd g
 few-goes t l r e d (Wrong ∷ L) g u on = absurd g
 
-few-lines : {s : Reader} {p : ℕ} {x : List ℕ} {c : Case} → Stand s p → s .place .lines ≤ 256 → Reads s x c → (L : List Record) → Rising c p L → s .place .lines + length L ≤ 256
+few-lines : {s : Reader} {p : ℕ} {x : List ℕ} {c : Case} → Stand s p → s .place .lines ≤ 256 → Reads s x c → (L : List Record)
+    → Rising c p L → s .place .lines + length L ≤ 256
 few-lines t l (ends e) L g = few-ends t l L g
 few-lines t l (goes r e d) L g = few-goes t l r e d L g (stepped r t e) (λ h M k. few-lines (stepped r t e .on) h d M k)
 
@@ -111,4 +124,8 @@ read-few x c d =
     let b = begun d in
     let t = first-stand (c .n) (b .told) in
     let k = t .at .small in
-    omega (arith, few-lines t (omega arith) (b .on) (lineRecords (neighbours (c .nbr)) 1 (c .n)) (lines-from c (c .n) 1 (omega arith) (omega arith) 0 (omega arith)))
+    omega (
+      arith,
+      few-lines t (omega arith) (b .on) (lineRecords (neighbours (c .nbr)) 1 (c .n))
+          (lines-from c (c .n) 1 (omega arith) (omega arith) 0 (omega arith)),
+    )

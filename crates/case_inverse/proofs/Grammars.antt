@@ -35,7 +35,8 @@ formed s End h p e = tt
 formed s Wrong h p e = apart (cc)
 
 -- a text of the grammar is read
-pub reads-read : (s : Reader) (x : List ℕ) (c : Case) (k : ℕ) → s .place .n ≤ 64 → Reads s x c → readLines s k (split 10 x .first) (split 10 x .rest) ≡ got c
+pub reads-read : (s : Reader) (x : List ℕ) (c : Case) (k : ℕ) → s .place .n ≤ 64 → Reads s x c
+    → readLines s k (split 10 x .first) (split 10 x .rest) ≡ got c
 unfolding readLines split
 reads-read s x c k h (ends e) = rw (split-cut 10 (recordText End) [] (text-free End tt), read-record End tt, e)
 reads-read s x c k h (goes r {x = y} e t) =
@@ -67,8 +68,10 @@ closed-got d c k [] (m ∷ ms) e = absurd (not-got c e)
 closed-got d c k (b ∷ l) ms e = absurd (not-got c e)
 
 -- one line that is read
-turn : (s : Reader) (k : ℕ) (l m : List ℕ) (ms : List (List ℕ)) (c : Case) (v : Verdict) (on : CaseRead) → verdict (s .place) (recordOf l) ≡ v →
-    said v k on (closed (caseOf s) (k + 1) m ms) ≡ got c → (on ≡ got c → Reads (next s (recordOf l)) (join 10 m ms) c) → Reads s (l ++ 10 ∷ join 10 m ms) c
+turn : (s : Reader) (k : ℕ) (l m : List ℕ) (ms : List (List ℕ)) (c : Case) (v : Verdict) (on : CaseRead)
+    → verdict (s .place) (recordOf l) ≡ v
+    → said v k on (closed (caseOf s) (k + 1) m ms) ≡ got c → (on ≡ got c → Reads (next s (recordOf l)) (join 10 m ms) c)
+    → Reads s (l ++ 10 ∷ join 10 m ms) c
 turn s k l m ms c Next on vi e ih =
     subst (λ (x : List ℕ). Reads s (x ++ 10 ∷ join 10 m ms) c)
     (spelt l (λ w. apart (cc (ap (verdict (s .place)) w, refuses (s .place)))) .text)
@@ -86,4 +89,5 @@ pub read-reads : (ps : List (List ℕ)) (s : Reader) (k : ℕ) (l : List ℕ) (c
 unfolding readLines join
 read-reads [] s k l c e = absurd (not-got c e)
 read-reads (m ∷ ms) s k l c e =
-    turn s k l m ms c (verdict (s .place) (recordOf l)) (readLines (next s (recordOf l)) (k + 1) m ms) refl e (read-reads ms (next s (recordOf l)) (k + 1) m c)
+    turn s k l m ms c (verdict (s .place) (recordOf l)) (readLines (next s (recordOf l)) (k + 1) m ms) refl e
+    (read-reads ms (next s (recordOf l)) (k + 1) m c)

@@ -55,7 +55,8 @@ pub read-written : (c : Case) → length (c .nbr) ≡ 64 → Valid c → readCas
 read-written c l v =
     let r = readable c (writable c v) in
     let e : c ≡ r .case′ =
-    known c (r .case′) (v .buses .most) (r .size) (record { rows = l; proper = v .proper }) (read-sound _ (r .case′) (r .reads)) (r .agree) in
+    known c (r .case′) (v .buses .most) (r .size) (record { rows = l; proper = v .proper })
+    (read-sound _ (r .case′) (r .reads)) (r .agree) in
     of-reads (caseText c) c (text-within c v) (subst⁻¹ (λ (d : Case). Reads start (caseText c) d) e (r .reads))
 
 -- ---- what is read is valid

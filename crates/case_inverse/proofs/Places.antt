@@ -35,7 +35,8 @@ module _ (rows : List ℕ) (a v : ℕ) (h : 1 ≤ a) where
   row-other : (i : ℕ) → (i ≡ a → ⊥) → neighbours (set rows (a - 1) v) i ≡ neighbours rows i
   row-other zero n = row-zero (set rows (a - 1) v) ∙ sym (row-zero rows)
   row-other (suc i) n =
-      sym (row-at (set rows (a - 1) v) (suc i) (omega arith)) ∙ ap setOf (getD-set-other rows (a - 1) (suc i - 1) v 0 (λ e. n (omega arith)))
+      sym (row-at (set rows (a - 1) v) (suc i) (omega arith))
+      ∙ ap setOf (getD-set-other rows (a - 1) (suc i - 1) v 0 (λ e. n (omega arith)))
       ∙ row-at rows (suc i) (omega arith)
 
 -- 1 where i and j are joined as seen from i, else 0
@@ -160,7 +161,11 @@ pub facts : (s : Place) (r : Record) → s .n ≤ mostBuses → s .b ≤ 64 → 
 facts s (Grid n) h k a = eqb-true (s .n) 0 (a .place)
 facts s (Bus x z o) h k a =
     let i = inside (s .n) x (a .range) in
-    record { more = ltb-true (s .bus) (s .n) (a .place); bus = record { some = i .some; most = omega (arith, i .most) }; next = eqb-true x (s .bus + 1) (a .order) }
+    record {
+      more = ltb-true (s .bus) (s .n) (a .place);
+      bus = record { some = i .some; most = omega (arith, i .most) };
+      next = eqb-true x (s .bus + 1) (a .order);
+    }
 facts s (Line x y) h k a =
     let p = both (pastBuses s) (eqb (s .unit) 0) (a .place) in
     let t = line-ends s x y (a .range) in
@@ -173,7 +178,11 @@ facts s (Line x y) h k a =
     }
 facts s (Pmu x) h k a =
     let i = inside (s .n) x (a .range) in
-    record { past = past s (a .place); bus = record { some = i .some; most = omega (arith, i .most) }; rises = ltb-true (s .unit) x (a .order) }
+    record {
+      past = past s (a .place);
+      bus = record { some = i .some; most = omega (arith, i .most) };
+      rises = ltb-true (s .unit) x (a .order);
+    }
 facts s End h k a = past s (a .place)
 facts s Wrong h k a = let e = a .place in apart (cc)
 
@@ -199,8 +208,9 @@ beyond s p End t g e f = absurd (e refl)
 beyond s p Wrong t g e f = absurd f
 
 -- it changes no answer but those at its own place
-pub unchanged : (s : Reader) (r : Record) (q : Ask) → length (s .rows) ≡ 64 → 0 < s .place .n → Facts (s .place) r → Proper q → (place q ≡ placeOf r → ⊥) →
-    answer (caseOf (next s r)) q ≡ answer (caseOf s) q
+pub unchanged : (s : Reader) (r : Record) (q : Ask) → length (s .rows) ≡ 64 → 0 < s .place .n → Facts (s .place) r → Proper q
+    → (place q ≡ placeOf r → ⊥)
+    → answer (caseOf (next s r)) q ≡ answer (caseOf s) q
 unchanged s (Grid n) q l g f h d = absurd (omega arith)
 unchanged s (Bus k z o) (zeroAt j) l g f h d = if-there z (s .marks .zero) k j (f .bus .some) d
 unchanged s (Bus k z o) (siteAt j) l g f h d = if-there o (s .marks .site) k j (f .bus .some) d
@@ -234,19 +244,44 @@ stands s p r t g e f =
     stood s r t g e f new (same-rows s r (t .rows))
   where
     stood : (s : Reader) (r : Record) → At s p → 0 < s .place .n → (r ≡ End → ⊥) → Facts (s .place) r →
-        ((q : Ask) → Proper q → placeOf r < place q → answer (caseOf (next s r)) q ≡ 0) → length (next s r .rows) ≡ 64 → At (next s r) (placeOf r)
+        ((q : Ask) → Proper q → placeOf r < place q → answer (caseOf (next s r)) q ≡ 0) → length (next s r .rows) ≡ 64
+        → At (next s r) (placeOf r)
     stood s (Grid n) t g e f new l = absurd (omega arith)
     stood s (Bus k z o) t g e f new l =
         let m = f .bus .most in
-        record { small = t .small; low = t .low; rows = l; to-bus = λ h. omega arith; to-line = λ h. omega arith; to-unit = omega arith; fresh = new }
+        record {
+          small = t .small;
+          low = t .low;
+          rows = l;
+          to-bus = λ h. omega arith;
+          to-line = λ h. omega arith;
+          to-unit = omega arith;
+          fresh = new;
+        }
     stood s (Line a b) t g e f new l =
         let i = f .past in
         let j = f .pair in
-        record { small = t .small; low = j .high; rows = l; to-bus = λ h. omega arith; to-line = λ h. omega arith; to-unit = omega (arith, j .less, j .high); fresh = new }
+        record {
+          small = t .small;
+          low = j .high;
+          rows = l;
+          to-bus = λ h. omega arith;
+          to-line = λ h. omega arith;
+          to-unit = omega (arith, j .less, j .high);
+          fresh = new;
+        }
     stood s (Pmu k) t g e f new l =
         let i = f .past in
         let j = f .rises in
-        record { small = t .small; low = t .low; rows = l; to-bus = λ h. omega arith; to-line = λ h. omega arith; to-unit = omega arith; fresh = new }
+        record {
+          small = t .small;
+          low = t .low;
+          rows = l;
+          to-bus = λ h. omega arith;
+          to-line = λ h. omega arith;
+          to-unit = omega arith;
+          fresh = new;
+        }
     stood s End t g e f new l = absurd (e refl)
     stood s Wrong t g e f new l = absurd f
 

@@ -41,8 +41,10 @@ if-within : (t : Bool) (n w k : ℕ) → IsBus n k → Within n (setOf w) → Wi
 if-within true n w k b h = hold-within n w k b h
 if-within false n w k b h = h
 
-module _ (n : ℕ) (rows : List ℕ) (a b : ℕ) (l : length rows ≡ 64) (p : Pair a b) (from : IsBus n a) (to : IsBus n b) (lines : Lines n (neighbours rows)) where
-  other-line : (i j : ℕ) → ((i ≡ a) → (j ≡ b) → ⊥) → ((i ≡ b) → (j ≡ a) → ⊥) → In (neighbours (withLine rows a b) i) j → HasLine n (neighbours (withLine rows a b)) i j
+module _ (n : ℕ) (rows : List ℕ) (a b : ℕ) (l : length rows ≡ 64) (p : Pair a b) (from : IsBus n a) (to : IsBus n b)
+    (lines : Lines n (neighbours rows)) where
+  other-line : (i j : ℕ) → ((i ≡ a) → (j ≡ b) → ⊥) → ((i ≡ b) → (j ≡ a) → ⊥) → In (neighbours (withLine rows a b) i) j
+      → HasLine n (neighbours (withLine rows a b)) i j
   other-line i j u v h =
       let g = lines i j (sym (line-other rows a b l p i j u v) ∙ h) in
       record { from = g .from; to = g .to; differ = g .differ; back = line-other rows a b l p j i (λ x y. v y x) (λ x y. u y x) ∙ g .back }
@@ -52,7 +54,9 @@ module _ (n : ℕ) (rows : List ℕ) (a b : ℕ) (l : length rows ≡ 64) (p : P
     from = subst⁻¹ (IsBus n) e from;
     to = subst⁻¹ (IsBus n) f to;
     differ = λ d. omega (arith, p .less);
-    back = subst⁻¹ (λ (y : ℕ). In (neighbours (withLine rows a b) y) i) f (subst⁻¹ (λ (x : ℕ). In (neighbours (withLine rows a b) b) x) e (line-back rows a b l p));
+    back =
+        subst⁻¹ (λ (y : ℕ). In (neighbours (withLine rows a b) y) i) f
+        (subst⁻¹ (λ (x : ℕ). In (neighbours (withLine rows a b) b) x) e (line-back rows a b l p));
   }
 
   that-line : (i j : ℕ) → (i ≡ b) → (j ≡ a) → HasLine n (neighbours (withLine rows a b)) i j
@@ -60,7 +64,9 @@ module _ (n : ℕ) (rows : List ℕ) (a b : ℕ) (l : length rows ≡ 64) (p : P
     from = subst⁻¹ (IsBus n) e to;
     to = subst⁻¹ (IsBus n) f from;
     differ = λ d. omega (arith, p .less);
-    back = subst⁻¹ (λ (y : ℕ). In (neighbours (withLine rows a b) y) i) f (subst⁻¹ (λ (x : ℕ). In (neighbours (withLine rows a b) a) x) e (line-here rows a b l p));
+    back =
+        subst⁻¹ (λ (y : ℕ). In (neighbours (withLine rows a b) y) i) f
+        (subst⁻¹ (λ (x : ℕ). In (neighbours (withLine rows a b) a) x) e (line-here rows a b l p));
   }
 
   pub with-lines : Lines n (neighbours (withLine rows a b))
@@ -82,14 +88,20 @@ module _ (n : ℕ) (rows : List ℕ) (a b : ℕ) (l : length rows ≡ 64) (p : P
 abbrev ProperAt : Reader → Type 0
 ProperAt s = ProperGrid (gridOf (caseOf s))
 
-proper-next : (s : Reader) (r : Record) → length (s .rows) ≡ 64 → 0 < s .place .n → Facts (s .place) r → inRange (s .place) r ≡ true → ProperAt s → ProperAt (next s r)
+proper-next : (s : Reader) (r : Record) → length (s .rows) ≡ 64 → 0 < s .place .n → Facts (s .place) r → inRange (s .place) r ≡ true
+    → ProperAt s → ProperAt (next s r)
 proper-next s (Grid n) l g f e c = absurd (omega arith)
 proper-next s (Bus k z o) l g f e c =
     let b = inside (s .place .n) k e in
     record { lines = c .lines; zeros = if-within z _ _ k b (c .zeros); sites = if-within o _ _ k b (c .sites); units = c .units }
 proper-next s (Line a b) l g f e c =
     let t = line-ends (s .place) a b e in
-    record { lines = with-lines _ (s .rows) a b l (f .pair) (t .from) (t .to) (c .lines); zeros = c .zeros; sites = c .sites; units = c .units }
+    record {
+      lines = with-lines _ (s .rows) a b l (f .pair) (t .from) (t .to) (c .lines);
+      zeros = c .zeros;
+      sites = c .sites;
+      units = c .units;
+    }
 proper-next s (Pmu p) l g f e c =
     record { lines = c .lines; zeros = c .zeros; sites = c .sites; units = hold-within _ _ p (inside (s .place .n) p e) (c .units) }
 proper-next s End l g f e c = c
@@ -123,7 +135,8 @@ read-sound x c d = let b = begun d in sound-reads (first-stand (c .n) (b .told))
 out-high : (n s i : ℕ) → n ≤ 64 → Within n s → 64 < i → Out s i
 out-high n s i l w h = out-of s i (λ p. let b = w i p in omega (arith, b .most))
 
-set-known : (n v w : ℕ) → n ≤ 64 → Within n (setOf v) → Within n (setOf w) → ((k : ℕ) → IsBus width k → bit (setOf v) k ≡ bit (setOf w) k) → v ≡ w
+set-known : (n v w : ℕ) → n ≤ 64 → Within n (setOf v) → Within n (setOf w) → ((k : ℕ) → IsBus width k → bit (setOf v) k ≡ bit (setOf w) k)
+    → v ≡ w
 set-known n v w l a b e = set-inj v w (ext (setOf v) (setOf w) at)
   where
     at : (i : ℕ) → bit (setOf v) i ≡ bit (setOf w) i
@@ -138,7 +151,8 @@ set-known n v w l a b e = set-inj v w (ext (setOf v) (setOf w) at)
 row-within : (n : ℕ) (rows : List ℕ) → Lines n (neighbours rows) → (i : ℕ) → Within n (neighbours rows i)
 row-within n rows lines i j h = lines i j h .to
 
-module _ (c d : Case) (l : c .n ≤ 64) (same : c .n ≡ d .n) (x : Sound c) (y : Sound d) (e : (q : Ask) → Proper q → answer c q ≡ answer d q) where
+module _ (c d : Case) (l : c .n ≤ 64) (same : c .n ≡ d .n) (x : Sound c) (y : Sound d)
+    (e : (q : Ask) → Proper q → answer c q ≡ answer d q) where
   second : (s : ℕ) → Within (d .n) s → Within (c .n) s
   second s w i p = subst⁻¹ (λ (n : ℕ). IsBus n i) same (w i p)
 
@@ -147,21 +161,27 @@ module _ (c d : Case) (l : c .n ≤ 64) (same : c .n ≡ d .n) (x : Sound c) (y 
       ⊎-elim
       (λ (l : i < j). e (lineAt i j) (record { one = a .some; less = l; high = b .most }))
       (λ (l : j ≤ i). ⊎-elim
-      (λ (s : j ≡ i). subst⁻¹ (λ (k : ℕ). joined (c .nbr) i k ≡ joined (d .nbr) i k) s (not-self _ _ (x .proper .lines) i ∙ sym (not-self _ _ (y .proper .lines) i)))
-      (λ (n : j ≡ i → ⊥). both-ends _ _ (x .proper .lines) i j ∙ e (lineAt j i) (record { one = b .some; less = omega arith; high = a .most }) ∙ both-ends _ _ (y .proper .lines) j i)
+      (λ (s : j ≡ i). subst⁻¹ (λ (k : ℕ). joined (c .nbr) i k ≡ joined (d .nbr) i k) s
+      (not-self _ _ (x .proper .lines) i ∙ sym (not-self _ _ (y .proper .lines) i)))
+      (λ (n : j ≡ i → ⊥). both-ends _ _ (x .proper .lines) i j
+      ∙ e (lineAt j i) (record { one = b .some; less = omega arith; high = a .most }) ∙ both-ends _ _ (y .proper .lines) j i)
       (same-or j i))
       (below-or i j)
 
   row-known : (i : ℕ) → i < 64 → getD (c .nbr) i 0 ≡ getD (d .nbr) i 0
   unfolding neighbours
   row-known i h =
-      set-known (c .n) (getD (c .nbr) i 0) (getD (d .nbr) i 0) l (row-within _ (c .nbr) (x .proper .lines) (suc i)) (second _ (row-within _ (d .nbr) (y .proper .lines) (suc i)))
+      set-known (c .n) (getD (c .nbr) i 0) (getD (d .nbr) i 0) l (row-within _ (c .nbr) (x .proper .lines) (suc i))
+      (second _ (row-within _ (d .nbr) (y .proper .lines) (suc i)))
       (λ k b. pair-known (suc i) k (record { some = omega arith; most = omega arith }) b)
 
   pub known : c ≡ d
   known =
-      let z : c .zero ≡ d .zero = set-known (c .n) (c .zero) (d .zero) l (x .proper .zeros) (second _ (y .proper .zeros)) (λ k b. e (zeroAt k) b) in
-      let s : c .site ≡ d .site = set-known (c .n) (c .site) (d .site) l (x .proper .sites) (second _ (y .proper .sites)) (λ k b. e (siteAt k) b) in
-      let u : c .units ≡ d .units = set-known (c .n) (c .units) (d .units) l (x .proper .units) (second _ (y .proper .units)) (λ k b. e (unitAt k) b) in
+      let z : c .zero ≡ d .zero = set-known (c .n) (c .zero) (d .zero) l (x .proper .zeros) (second _ (y .proper .zeros))
+      (λ k b. e (zeroAt k) b) in
+      let s : c .site ≡ d .site = set-known (c .n) (c .site) (d .site) l (x .proper .sites) (second _ (y .proper .sites))
+      (λ k b. e (siteAt k) b) in
+      let u : c .units ≡ d .units = set-known (c .n) (c .units) (d .units) l (x .proper .units) (second _ (y .proper .units))
+      (λ k b. e (unitAt k) b) in
       let r : c .nbr ≡ d .nbr = ext-getD 0 (c .nbr) (d .nbr) (x .rows ∙ sym (y .rows)) (λ i h. row-known i (omega (arith, x .rows))) in
       λ i. record { n = same i; nbr = r i; zero = z i; site = s i; units = u i }

@@ -98,12 +98,19 @@ unfolding pastBuses
 not-past e = apart (cc)
 
 -- at the start only `grid` is accepted
-first-grid : (r : Record) (x : List ℕ) (c : Case) → verdict (start .place) r ≡ Next → Reads (next start r) x c → Begun (recordText r ++ 10 ∷ x) c
+first-grid : (r : Record) (x : List ℕ) (c : Case) → verdict (start .place) r ≡ Next → Reads (next start r) x c
+    → Begun (recordText r ++ 10 ∷ x) c
 first-grid (Grid n) x c e d =
     let f : n ≡ c .n = sym (kept (first-stand n e) d) in
-    record { rest = x; told = subst (λ (m : ℕ). verdict (start .place) (Grid m) ≡ Next) f e; on = subst (λ (m : ℕ). Reads (next start (Grid m)) x c) f d; text = ap (λ (m : ℕ). recordText (Grid m) ++ 10 ∷ x) f }
+    record {
+      rest = x;
+      told = subst (λ (m : ℕ). verdict (start .place) (Grid m) ≡ Next) f e;
+      on = subst (λ (m : ℕ). Reads (next start (Grid m)) x c) f d;
+      text = ap (λ (m : ℕ). recordText (Grid m) ++ 10 ∷ x) f;
+    }
 first-grid (Bus k z o) x c e d = let a = accepted-of (start .place) (Bus k z o) e .place in apart (cc)
-first-grid (Line a b) x c e d = let p = both (pastBuses (start .place)) true (accepted-of (start .place) (Line a b) e .place) in absurd (not-past (p .0))
+first-grid (Line a b) x c e d =
+    let p = both (pastBuses (start .place)) true (accepted-of (start .place) (Line a b) e .place) in absurd (not-past (p .0))
 first-grid (Pmu p) x c e d = absurd (not-past (accepted-of (start .place) (Pmu p) e .place))
 first-grid End x c e d = absurd (not-past (accepted-of (start .place) End e .place))
 first-grid Wrong x c e d = let a = accepted-of (start .place) Wrong e .place in apart (cc)
@@ -118,4 +125,5 @@ pub same-text : (x y : List ℕ) (c : Case) → readCase x ≡ got c → readCas
 same-text x y c e f =
     let a = begun (reads-of x c e) in
     let b = begun (reads-of y c f) in
-    a .text ∙ ap (λ (z : List ℕ). recordText (Grid (c .n)) ++ 10 ∷ z) (unique (first-stand (c .n) (a .told)) (a .on) (b .on)) ∙ sym (b .text)
+    a .text ∙ ap (λ (z : List ℕ). recordText (Grid (c .n)) ++ 10 ∷ z) (unique (first-stand (c .n) (a .told)) (a .on) (b .on))
+    ∙ sym (b .text)

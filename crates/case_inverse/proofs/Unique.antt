@@ -19,7 +19,8 @@ use Rattle.grid.specs.declared.Case.{Case}
 use Rattle.case_judge.specs.declared.Place.{Place}
 use Rattle.case_judge.specs.declared.Verdict.the-variants.{Next, Last}
 use Rattle.case_judge.proofs.Judged.{accepted-of, goes-of, last-place, apart}
-use Rattle.case_inverse.proofs.Places.{Ask, Proper, place, placeOf, answer, Facts, facts, At, beyond, unchanged, stands, more-buses, past, line-here}
+use Rattle.case_inverse.proofs.Places.{Ask, Proper, place, placeOf, answer, Facts, facts, At}
+use Rattle.case_inverse.proofs.Places.{beyond, unchanged, stands, more-buses, past, line-here}
 use Rattle.case_inverse.proofs.Places.Ask.{zeroAt, siteAt, unitAt, lineAt}
 
 -- a reader that has read `grid` and stands at p
@@ -58,10 +59,18 @@ settled {s} {p} t (goes r e d) q h l =
 -- ---- the next record is determined by the case
 
 -- a question that r answers with 1 is not passed over
-missed : {s : Reader} {p : ℕ} {c : Case} (r r′ : Record) (q : Ask) → Stand s p → Stepped s p r → Stepped s p r′ → Settled c (next s r) (placeOf r) → Settled c (next s r′) (placeOf r′) →
-    Proper q → place q ≡ placeOf r → answer (caseOf (next s r)) q ≡ 1 → placeOf r < placeOf r′ → ⊥
+missed : {s : Reader} {p : ℕ} {c : Case} (r r′ : Record) (q : Ask) → Stand s p → Stepped s p r → Stepped s p r′
+    → Settled c (next s r) (placeOf r) → Settled c (next s r′) (placeOf r′)
+    → Proper q → place q ≡ placeOf r → answer (caseOf (next s r)) q ≡ 1 → placeOf r < placeOf r′ → ⊥
 missed {s} {p} {c} r r′ q t u v m m′ h e one l =
-    omega (arith, m q h (omega arith), m′ q h (omega arith), unchanged s r′ q (t .at .rows) (t .grid) (v .fact) h (λ z. omega arith), t .at .fresh q h (omega (arith, u .over)), one)
+    omega (
+      arith,
+      m q h (omega arith),
+      m′ q h (omega arith),
+      unchanged s r′ q (t .at .rows) (t .grid) (v .fact) h (λ z. omega arith),
+      t .at .fresh q h (omega (arith, u .over)),
+      one,
+    )
 
 flags : (t u : Bool) → _≡_ {A = ℕ} (cond t 1 0) (cond u 1 0) → t ≡ u
 flags true true e = refl
@@ -78,40 +87,56 @@ module _ {s : Reader} {p : ℕ} {c : Case} (t : Stand s p) where
       let hj = v .fact .bus in
       let a : z ≡ y = flags z y
       (sym (if-here z (s .marks .zero) k (hk .some) (t .at .fresh (zeroAt k) hk (u .over))) ∙ sym (m (zeroAt k) hk (omega arith))
-      ∙ ap (λ (x : ℕ). bit (setOf (c .zero)) x) e ∙ n (zeroAt j) hj (omega arith) ∙ if-here y (s .marks .zero) j (hj .some) (t .at .fresh (zeroAt j) hj (v .over))) in
+      ∙ ap (λ (x : ℕ). bit (setOf (c .zero)) x) e ∙ n (zeroAt j) hj (omega arith)
+      ∙ if-here y (s .marks .zero) j (hj .some) (t .at .fresh (zeroAt j) hj (v .over))) in
       let b : o ≡ w = flags o w
       (sym (if-here o (s .marks .site) k (hk .some) (t .at .fresh (siteAt k) hk (u .over))) ∙ sym (m (siteAt k) hk (omega arith))
-      ∙ ap (λ (x : ℕ). bit (setOf (c .site)) x) e ∙ n (siteAt j) hj (omega arith) ∙ if-here w (s .marks .site) j (hj .some) (t .at .fresh (siteAt j) hj (v .over))) in
+      ∙ ap (λ (x : ℕ). bit (setOf (c .site)) x) e ∙ n (siteAt j) hj (omega arith)
+      ∙ if-here w (s .marks .site) j (hj .some) (t .at .fresh (siteAt j) hj (v .over))) in
       cc (e, a, b)
 
-  line-missed : (a b : ℕ) (r : Record) → Stepped s p (Line a b) → Stepped s p r → Settled c (next s (Line a b)) (placeOf (Line a b)) → Settled c (next s r) (placeOf r) →
-      placeOf (Line a b) < placeOf r → ⊥
+  line-missed : (a b : ℕ) (r : Record) → Stepped s p (Line a b) → Stepped s p r → Settled c (next s (Line a b)) (placeOf (Line a b))
+      → Settled c (next s r) (placeOf r)
+      → placeOf (Line a b) < placeOf r → ⊥
   line-missed a b r u v m n l =
       missed {c = c} (Line a b) r (lineAt a b) t u v m n (u .fact .pair) refl (line-here (s .rows) a b (t .at .rows) (u .fact .pair)) l
 
-  unit-missed : (k : ℕ) (r : Record) → Stepped s p (Pmu k) → Stepped s p r → Settled c (next s (Pmu k)) (placeOf (Pmu k)) → Settled c (next s r) (placeOf r) →
-      placeOf (Pmu k) < placeOf r → ⊥
-  unit-missed k r u v m n l = missed {c = c} (Pmu k) r (unitAt k) t u v m n (u .fact .bus) refl (hold-here (s .marks .units) k (u .fact .bus .some)) l
+  unit-missed : (k : ℕ) (r : Record) → Stepped s p (Pmu k) → Stepped s p r → Settled c (next s (Pmu k)) (placeOf (Pmu k))
+      → Settled c (next s r) (placeOf r)
+      → placeOf (Pmu k) < placeOf r → ⊥
+  unit-missed k r u v m n l =
+      missed {c = c} (Pmu k) r (unitAt k) t u v m n (u .fact .bus) refl (hold-here (s .marks .units) k (u .fact .bus .some)) l
 
-  lines : (a b i j : ℕ) → Stepped s p (Line a b) → Stepped s p (Line i j) → Settled c (next s (Line a b)) (placeOf (Line a b)) → Settled c (next s (Line i j)) (placeOf (Line i j)) →
-      Line a b ≡ Line i j
+  lines : (a b i j : ℕ) → Stepped s p (Line a b) → Stepped s p (Line i j) → Settled c (next s (Line a b)) (placeOf (Line a b))
+      → Settled c (next s (Line i j)) (placeOf (Line i j))
+      → Line a b ≡ Line i j
   lines a b i j u v m n =
-      let low : placeOf (Line i j) ≤ placeOf (Line a b) = ⊎-elim (λ (l : placeOf (Line a b) < placeOf (Line i j)). absurd (line-missed a b (Line i j) u v m n l)) (λ (l : placeOf (Line i j) ≤ placeOf (Line a b)). l) (below-or (placeOf (Line a b)) (placeOf (Line i j))) in
-      let high : placeOf (Line a b) ≤ placeOf (Line i j) = ⊎-elim (λ (l : placeOf (Line i j) < placeOf (Line a b)). absurd (line-missed i j (Line a b) v u n m l)) (λ (l : placeOf (Line a b) ≤ placeOf (Line i j)). l) (below-or (placeOf (Line i j)) (placeOf (Line a b))) in
+      let low : placeOf (Line i j) ≤ placeOf (Line a b) =
+      ⊎-elim (λ (l : placeOf (Line a b) < placeOf (Line i j)). absurd (line-missed a b (Line i j) u v m n l))
+      (λ (l : placeOf (Line i j) ≤ placeOf (Line a b)). l) (below-or (placeOf (Line a b)) (placeOf (Line i j))) in
+      let high : placeOf (Line a b) ≤ placeOf (Line i j) =
+      ⊎-elim (λ (l : placeOf (Line i j) < placeOf (Line a b)). absurd (line-missed i j (Line a b) v u n m l))
+      (λ (l : placeOf (Line a b) ≤ placeOf (Line i j)). l) (below-or (placeOf (Line i j)) (placeOf (Line a b))) in
       let hu = u .fact .pair .high in
       let hv = v .fact .pair .high in
       let e : a ≡ i = omega arith in
       let f : b ≡ j = omega arith in
       cc (e, f)
 
-  units : (k j : ℕ) → Stepped s p (Pmu k) → Stepped s p (Pmu j) → Settled c (next s (Pmu k)) (placeOf (Pmu k)) → Settled c (next s (Pmu j)) (placeOf (Pmu j)) → Pmu k ≡ Pmu j
+  units : (k j : ℕ) → Stepped s p (Pmu k) → Stepped s p (Pmu j) → Settled c (next s (Pmu k)) (placeOf (Pmu k))
+      → Settled c (next s (Pmu j)) (placeOf (Pmu j)) → Pmu k ≡ Pmu j
   units k j u v m n =
-      let low : placeOf (Pmu j) ≤ placeOf (Pmu k) = ⊎-elim (λ (l : placeOf (Pmu k) < placeOf (Pmu j)). absurd (unit-missed k (Pmu j) u v m n l)) (λ (l : placeOf (Pmu j) ≤ placeOf (Pmu k)). l) (below-or (placeOf (Pmu k)) (placeOf (Pmu j))) in
-      let high : placeOf (Pmu k) ≤ placeOf (Pmu j) = ⊎-elim (λ (l : placeOf (Pmu j) < placeOf (Pmu k)). absurd (unit-missed j (Pmu k) v u n m l)) (λ (l : placeOf (Pmu k) ≤ placeOf (Pmu j)). l) (below-or (placeOf (Pmu j)) (placeOf (Pmu k))) in
+      let low : placeOf (Pmu j) ≤ placeOf (Pmu k) =
+      ⊎-elim (λ (l : placeOf (Pmu k) < placeOf (Pmu j)). absurd (unit-missed k (Pmu j) u v m n l))
+      (λ (l : placeOf (Pmu j) ≤ placeOf (Pmu k)). l) (below-or (placeOf (Pmu k)) (placeOf (Pmu j))) in
+      let high : placeOf (Pmu k) ≤ placeOf (Pmu j) =
+      ⊎-elim (λ (l : placeOf (Pmu j) < placeOf (Pmu k)). absurd (unit-missed j (Pmu k) v u n m l))
+      (λ (l : placeOf (Pmu k) ≤ placeOf (Pmu j)). l) (below-or (placeOf (Pmu j)) (placeOf (Pmu k))) in
       let e : k ≡ j = omega arith in
       ap Pmu e
 
-  same-record : (r r′ : Record) → verdict (s .place) r ≡ Next → verdict (s .place) r′ ≡ Next → Stepped s p r → Stepped s p r′ → Settled c (next s r) (placeOf r) → Settled c (next s r′) (placeOf r′) → r ≡ r′
+  same-record : (r r′ : Record) → verdict (s .place) r ≡ Next → verdict (s .place) r′ ≡ Next → Stepped s p r → Stepped s p r′
+      → Settled c (next s r) (placeOf r) → Settled c (next s r′) (placeOf r′) → r ≡ r′
   same-record (Grid n) r′ d e u v m n′ = absurd (omega (arith, u .fact, t .grid))
   same-record (Bus k z o) (Grid n) d e u v m n′ = absurd (omega (arith, v .fact, t .grid))
   same-record (Bus k z o) (Bus j y w) d e u v m n = buses k j z o y w u v m n
@@ -122,12 +147,14 @@ module _ {s : Reader} {p : ℕ} {c : Case} (t : Stand s p) where
   same-record (Line a b) (Grid n) d e u v m n′ = absurd (omega (arith, v .fact, t .grid))
   same-record (Line a b) (Bus j y w) d e u v m n = absurd (omega (arith, u .fact .past, v .fact .more))
   same-record (Line a b) (Line i j) d e u v m n = lines a b i j u v m n
-  same-record (Line a b) (Pmu j) d e u v m n = absurd (line-missed a b (Pmu j) u v m n (omega (arith, u .fact .pair .less, u .fact .pair .high)))
+  same-record (Line a b) (Pmu j) d e u v m n =
+      absurd (line-missed a b (Pmu j) u v m n (omega (arith, u .fact .pair .less, u .fact .pair .high)))
   same-record (Line a b) End d e u v m n = absurd (not-end (s .place) End e refl)
   same-record (Line a b) Wrong d e u v m n = absurd (v .fact)
   same-record (Pmu k) (Grid n) d e u v m n′ = absurd (omega (arith, v .fact, t .grid))
   same-record (Pmu k) (Bus j y w) d e u v m n = absurd (omega (arith, u .fact .past, v .fact .more))
-  same-record (Pmu k) (Line i j) d e u v m n = absurd (line-missed i j (Pmu k) v u n m (omega (arith, v .fact .pair .less, v .fact .pair .high)))
+  same-record (Pmu k) (Line i j) d e u v m n =
+      absurd (line-missed i j (Pmu k) v u n m (omega (arith, v .fact .pair .less, v .fact .pair .high)))
   same-record (Pmu k) (Pmu j) d e u v m n = units k j u v m n
   same-record (Pmu k) End d e u v m n = absurd (not-end (s .place) End e refl)
   same-record (Pmu k) Wrong d e u v m n = absurd (v .fact)
@@ -135,15 +162,28 @@ module _ {s : Reader} {p : ℕ} {c : Case} (t : Stand s p) where
   same-record Wrong r′ d e u v m n = absurd (u .fact)
 
   -- and where the case is complete, none is
-  no-more : (r : Record) → c ≡ caseOf s → s .place .n ≤ s .place .bus → verdict (s .place) r ≡ Next → Stepped s p r → Settled c (next s r) (placeOf r) → ⊥
+  no-more : (r : Record) → c ≡ caseOf s → s .place .n ≤ s .place .bus → verdict (s .place) r ≡ Next → Stepped s p r
+      → Settled c (next s r) (placeOf r) → ⊥
   no-more (Grid n) e l d u m = omega (arith, u .fact, t .grid)
   no-more (Bus k z o) e l d u m = omega (arith, u .fact .more)
   no-more (Line a b) e l d u m =
       let y = u .fact .pair in
-      omega (arith, m (lineAt a b) y (omega arith), line-here (s .rows) a b (t .at .rows) y, t .at .fresh (lineAt a b) y (u .over), ap (λ (x : Case). answer x (lineAt a b)) e)
+      omega (
+        arith,
+        m (lineAt a b) y (omega arith),
+        line-here (s .rows) a b (t .at .rows) y,
+        t .at .fresh (lineAt a b) y (u .over),
+        ap (λ (x : Case). answer x (lineAt a b)) e,
+      )
   no-more (Pmu k) e l d u m =
       let h = u .fact .bus in
-      omega (arith, m (unitAt k) h (omega arith), hold-here (s .marks .units) k (h .some), t .at .fresh (unitAt k) h (u .over), ap (λ (x : Case). answer x (unitAt k)) e)
+      omega (
+        arith,
+        m (unitAt k) h (omega arith),
+        hold-here (s .marks .units) k (h .some),
+        t .at .fresh (unitAt k) h (u .over),
+        ap (λ (x : Case). answer x (unitAt k)) e,
+      )
   no-more End e l d u m = not-end (s .place) End d refl
   no-more Wrong e l d u m = u .fact
 

@@ -44,7 +44,8 @@ pub record Upto (c : Case) (s : Reader) (p w : ℕ) : Type 0 where
   pub agree : (q : Ask) → Proper q → place q < w → answer c q ≡ answer (caseOf s) q
 
 -- where the case answers 0 there is nothing to write
-pub skip : {c : Case} {s : Reader} {p w : ℕ} (v : ℕ) → w ≤ v → Upto c s p w → ((q : Ask) → Proper q → w ≤ place q → place q < v → answer c q ≡ 0) → Upto c s p v
+pub skip : {c : Case} {s : Reader} {p w : ℕ} (v : ℕ) → w ≤ v → Upto c s p w
+    → ((q : Ask) → Proper q → w ≤ place q → place q < v → answer c q ≡ 0) → Upto c s p v
 skip {c} {s} {p} {w} v l u z =
     record {
       stand = u .stand;
@@ -57,8 +58,10 @@ skip {c} {s} {p} {w} v l u z =
     }
 
 -- a record whose answers are the case's
-pub take-next : {c : Case} {s : Reader} {p : ℕ} (r : Record) → Upto c s p (placeOf r) → verdict (s .place) r ≡ Next → next s r .place .n ≡ s .place .n →
-    ((q : Ask) → Proper q → place q ≡ placeOf r → answer c q ≡ answer (caseOf (next s r)) q) → Upto c (next s r) (placeOf r) (placeOf r + 1)
+pub take-next : {c : Case} {s : Reader} {p : ℕ} (r : Record) → Upto c s p (placeOf r) → verdict (s .place) r ≡ Next
+    → next s r .place .n ≡ s .place .n
+    → ((q : Ask) → Proper q → place q ≡ placeOf r → answer c q ≡ answer (caseOf (next s r)) q)
+    → Upto c (next s r) (placeOf r) (placeOf r + 1)
 take-next {c} {s} {p} r u e m a =
     let t = stepped r (u .stand) e in
     record {
@@ -81,7 +84,8 @@ pub record Readable (c : Case) (s : Reader) (rs : List Record) : Type 0 where
   pub size : c .n ≡ case′ .n
   pub agree : (q : Ask) → Proper q → answer c q ≡ answer case′ q
 
-read-on : {c : Case} {s : Reader} (r : Record) {rs : List Record} → verdict (s .place) r ≡ Next → Readable c (next s r) rs → Readable c s (r ∷ rs)
+read-on : {c : Case} {s : Reader} (r : Record) {rs : List Record} → verdict (s .place) r ≡ Next → Readable c (next s r) rs
+    → Readable c s (r ∷ rs)
 unfolding linesText
 read-on r e t = record { case′ = t .case′; reads = goes r e (t .reads); size = t .size; agree = t .agree }
 
@@ -139,8 +143,9 @@ pub record Early (s : Reader) : Type 0 where
   pub b : s .place .b ≡ 0
   pub lines : s .place .lines ≡ 0
 
-pub read-buses : (c : Case) (rs : List Record) (m k : ℕ) (s : Reader) (p : ℕ) → Upto c s p k → k ≡ s .place .bus + 1 → k + m ≡ c .n + 1 → Early s →
-    ((t : Reader) (o : ℕ) → Upto c t o (c .n + 1) → t .place .bus ≡ c .n → Early t → Readable c t rs) →
+pub read-buses : (c : Case) (rs : List Record) (m k : ℕ) (s : Reader) (p : ℕ) → Upto c s p k → k ≡ s .place .bus + 1 → k + m ≡ c .n + 1
+    → Early s
+    → ((t : Reader) (o : ℕ) → Upto c t o (c .n + 1) → t .place .bus ≡ c .n → Early t → Readable c t rs) →
     Readable c s (busRecords (setOf (c .zero)) (setOf (c .site)) k m ++ rs)
 unfolding busRecords
 read-buses c rs zero k s p u b l z on =
@@ -152,7 +157,8 @@ read-buses c rs (suc m) k s p u b l z on =
     let h : 1 ≤ k = omega arith in
     let i : k ≤ s .place .n = omega arith in
     let j : k ≤ 64 = omega (arith, u .stand .at .small) in
-    let e = accept (s .place) r (lt-ltb (s .place .bus) (s .place .n) (omega arith)) (inside (s .place .n) k h i) (eq-eqb k (s .place .bus + 1) b) in
+    let e = accept (s .place) r (lt-ltb (s .place .bus) (s .place .n) (omega arith)) (inside (s .place .n) k h i)
+    (eq-eqb k (s .place .bus + 1) b) in
     read-on r e
     (read-buses c rs m (k + 1) (next s r) k (take-next r u e refl (bus-answer c s p k u (record { some = h; most = j }))) refl (omega arith)
     (record { unit = z .unit; a = z .a; b = z .b; lines = z .lines }) on)
@@ -164,10 +170,12 @@ unit-answer c s k t a (zeroAt j) h e = let m = h .most in absurd (omega arith)
 unit-answer c s k t a (siteAt j) h e = let m = h .most in absurd (omega arith)
 unit-answer c s k t a (unitAt j) h e =
     let f : j ≡ k = omega arith in
-    ap (λ (x : ℕ). bit (setOf (c .units)) x) f ∙ eqb-true _ 1 t ∙ sym (hold-here (s .marks .units) k a) ∙ ap (λ (x : ℕ). bit (setOf (hold (s .marks .units) k)) x) (sym f)
+    ap (λ (x : ℕ). bit (setOf (c .units)) x) f ∙ eqb-true _ 1 t ∙ sym (hold-here (s .marks .units) k a)
+    ∙ ap (λ (x : ℕ). bit (setOf (hold (s .marks .units) k)) x) (sym f)
 unit-answer c s k t a (lineAt i j) h e = absurd (omega (arith, h .less, h .high))
 
-unit-none : (c : Case) (k : ℕ) → has (setOf (c .units)) k ≡ false → (q : Ask) → Proper q → 10000 + k ≤ place q → place q < 10000 + k + 1 → answer c q ≡ 0
+unit-none : (c : Case) (k : ℕ) → has (setOf (c .units)) k ≡ false → (q : Ask) → Proper q → 10000 + k ≤ place q → place q < 10000 + k + 1
+    → answer c q ≡ 0
 unit-none c k t (zeroAt j) h a b = let m = h .most in absurd (omega arith)
 unit-none c k t (siteAt j) h a b = let m = h .most in absurd (omega arith)
 unit-none c k t (unitAt j) h a b =
@@ -175,16 +183,20 @@ unit-none c k t (unitAt j) h a b =
     ap (λ (x : ℕ). bit (setOf (c .units)) x) f ∙ omega (arith, eqb-false (bit (setOf (c .units)) k) 1 t)
 unit-none c k t (lineAt i j) h a b = absurd (omega (arith, h .less, h .high))
 
-unit-turn : (c : Case) (rs : List Record) (m k : ℕ) (s : Reader) (p : ℕ) (t : Bool) → has (setOf (c .units)) k ≡ t → Upto c s p (10000 + k) → s .place .n ≤ s .place .bus → s .place .unit < k → 1 ≤ k → k ≤ s .place .n →
-    ((v : Reader) (o : ℕ) → Upto c v o (10000 + k + 1) → v .place .n ≤ v .place .bus → v .place .unit < k + 1 → Readable c v (members Pmu (setOf (c .units)) (k + 1) m ++ rs)) →
-    Readable c s (cond t (Pmu k ∷ members Pmu (setOf (c .units)) (k + 1) m) (members Pmu (setOf (c .units)) (k + 1) m) ++ rs)
+unit-turn : (c : Case) (rs : List Record) (m k : ℕ) (s : Reader) (p : ℕ) (t : Bool) → has (setOf (c .units)) k ≡ t → Upto c s p (10000 + k)
+    → s .place .n ≤ s .place .bus → s .place .unit < k → 1 ≤ k → k ≤ s .place .n
+    → ((v : Reader) (o : ℕ) → Upto c v o (10000 + k + 1) → v .place .n ≤ v .place .bus → v .place .unit < k + 1
+    → Readable c v (members Pmu (setOf (c .units)) (k + 1) m ++ rs))
+    → Readable c s (cond t (Pmu k ∷ members Pmu (setOf (c .units)) (k + 1) m) (members Pmu (setOf (c .units)) (k + 1) m) ++ rs)
 unit-turn c rs m k s p true t u l z h i on =
     let e = accept (s .place) (Pmu k) (past-is (s .place) (u .stand .grid) l) (inside (s .place .n) k h i) (lt-ltb (s .place .unit) k z) in
     read-on (Pmu k) e (on (next s (Pmu k)) (10000 + k) (take-next (Pmu k) u e refl (unit-answer c s k t h)) l (omega arith))
 unit-turn c rs m k s p false t u l z h i on = on s p (skip (10000 + k + 1) (omega arith) u (unit-none c k t)) l (omega arith)
 
-pub read-units : (c : Case) (rs : List Record) (m k : ℕ) (s : Reader) (p : ℕ) → Upto c s p (10000 + k) → s .place .n ≤ s .place .bus → s .place .unit < k → 1 ≤ k → k + m ≡ c .n + 1 →
-    ((t : Reader) (o : ℕ) → Upto c t o (10000 + (c .n + 1)) → t .place .n ≤ t .place .bus → Readable c t rs) → Readable c s (members Pmu (setOf (c .units)) k m ++ rs)
+pub read-units : (c : Case) (rs : List Record) (m k : ℕ) (s : Reader) (p : ℕ) → Upto c s p (10000 + k) → s .place .n ≤ s .place .bus
+    → s .place .unit < k → 1 ≤ k → k + m ≡ c .n + 1
+    → ((t : Reader) (o : ℕ) → Upto c t o (10000 + (c .n + 1)) → t .place .n ≤ t .place .bus → Readable c t rs)
+    → Readable c s (members Pmu (setOf (c .units)) k m ++ rs)
 unfolding members
 read-units c rs zero k s p u l z h e on =
     let f : 10000 + k ≡ 10000 + (c .n + 1) = omega arith in
@@ -205,8 +217,9 @@ above-is a b c d h k l =
     (λ (s : c ≤ a). let e : a ≡ c = omega arith in rw (le-ltb a c s, eq-eqb a c e, lt-ltb b d (omega arith)))
     (below-or a c)
 
-line-answer : (c : Case) (s : Reader) (a b : ℕ) → length (s .rows) ≡ 64 → Pair a b → has (neighbours (c .nbr) a) b ≡ true → (q : Ask) → Proper q → place q ≡ 1000 + (a * 128 + b) →
-    answer c q ≡ answer (caseOf (next s (Line a b))) q
+line-answer : (c : Case) (s : Reader) (a b : ℕ) → length (s .rows) ≡ 64 → Pair a b → has (neighbours (c .nbr) a) b ≡ true → (q : Ask)
+    → Proper q → place q ≡ 1000 + (a * 128 + b)
+    → answer c q ≡ answer (caseOf (next s (Line a b))) q
 line-answer c s a b l y t (zeroAt j) h e = absurd (omega (arith, y .one))
 line-answer c s a b l y t (siteAt j) h e = absurd (omega (arith, y .one))
 line-answer c s a b l y t (unitAt j) h e = absurd (omega (arith, y .less, y .high))
@@ -215,9 +228,11 @@ line-answer c s a b l y t (lineAt i j) h e =
     let yh = y .high in
     let f : i ≡ a = omega arith in
     let g : j ≡ b = omega arith in
-    ap₂ (λ (x z : ℕ). joined (c .nbr) x z) f g ∙ eqb-true _ 1 t ∙ sym (line-here (s .rows) a b l y) ∙ ap₂ (λ (x z : ℕ). joined (next s (Line a b) .rows) x z) (sym f) (sym g)
+    ap₂ (λ (x z : ℕ). joined (c .nbr) x z) f g ∙ eqb-true _ 1 t ∙ sym (line-here (s .rows) a b l y)
+    ∙ ap₂ (λ (x z : ℕ). joined (next s (Line a b) .rows) x z) (sym f) (sym g)
 
-line-none : (c : Case) (a b : ℕ) → Pair a b → has (neighbours (c .nbr) a) b ≡ false → (q : Ask) → Proper q → 1000 + (a * 128 + b) ≤ place q → place q < 1000 + (a * 128 + (b + 1)) → answer c q ≡ 0
+line-none : (c : Case) (a b : ℕ) → Pair a b → has (neighbours (c .nbr) a) b ≡ false → (q : Ask) → Proper q → 1000 + (a * 128 + b) ≤ place q
+    → place q < 1000 + (a * 128 + (b + 1)) → answer c q ≡ 0
 line-none c a b y t (zeroAt j) h k l = let m = h .most in absurd (omega arith)
 line-none c a b y t (siteAt j) h k l = let m = h .most in absurd (omega arith)
 line-none c a b y t (unitAt j) h k l = absurd (omega (arith, y .less, y .high))
@@ -236,8 +251,9 @@ pub record Lining (c : Case) (s : Reader) (p a b left : ℕ) : Type 0 where
   pub below : s .place .a * 128 + s .place .b < a * 128 + b
   pub room : s .place .lines + left ≤ 256
 
-line-turn : (c : Case) (ls rs : List Record) (a b : ℕ) (s : Reader) (p : ℕ) (t : Bool) → has (neighbours (c .nbr) a) b ≡ t → Pair a b → b ≤ c .n →
-    Lining c s p a b (length (cond t (Line a b ∷ ls) ls)) →
+line-turn : (c : Case) (ls rs : List Record) (a b : ℕ) (s : Reader) (p : ℕ) (t : Bool) → has (neighbours (c .nbr) a) b ≡ t → Pair a b
+    → b ≤ c .n
+    → Lining c s p a b (length (cond t (Line a b ∷ ls) ls)) →
     ((v : Reader) (o : ℕ) → Lining c v o a (b + 1) (length ls) → Readable c v (ls ++ rs)) →
     Readable c s (cond t (Line a b ∷ ls) ls ++ rs)
 line-turn c ls rs a b s p true t y l g on =
@@ -256,7 +272,9 @@ line-turn c ls rs a b s p true t y l g on =
     let f : 1000 + (a * 128 + b) + 1 ≡ 1000 + (a * 128 + (b + 1)) = omega arith in
     read-on (Line a b) e (on (next s (Line a b)) (1000 + (a * 128 + b))
     (record {
-      upto = subst (λ (w : ℕ). Upto c (next s (Line a b)) (1000 + (a * 128 + b)) w) f (take-next (Line a b) u e refl (line-answer c s a b (u .stand .at .rows) y t));
+      upto =
+          subst (λ (w : ℕ). Upto c (next s (Line a b)) (1000 + (a * 128 + b)) w) f
+          (take-next (Line a b) u e refl (line-answer c s a b (u .stand .at .rows) y t));
       past = g .past;
       none = g .none;
       below = omega arith;
@@ -310,14 +328,17 @@ pub record Writable (c : Case) : Type 0 where
   pub above : (q : Ask) → Proper q → Above (c .n) q → answer c q ≡ 0
 
 -- the places after row a and before row a + 1
-row-gap : (c : Case) (a : ℕ) → Writable c → a ≤ c .n → (q : Ask) → Proper q → 1000 + (a * 128 + (c .n + 1)) ≤ place q → place q < 1000 + ((a + 1) * 128 + (a + 1 + 1)) → answer c q ≡ 0
+row-gap : (c : Case) (a : ℕ) → Writable c → a ≤ c .n → (q : Ask) → Proper q → 1000 + (a * 128 + (c .n + 1)) ≤ place q
+    → place q < 1000 + ((a + 1) * 128 + (a + 1 + 1)) → answer c q ≡ 0
 row-gap c a w l (zeroAt k) h x y = let m = h .most in absurd (omega arith)
 row-gap c a w l (siteAt k) h x y = let m = h .most in absurd (omega arith)
 row-gap c a w l (unitAt k) h x y = let m = w .most in absurd (omega arith)
 row-gap c a w l (lineAt i j) h x y = let m = w .most in let hl = h .less in let hh = h .high in w .above (lineAt i j) h (omega arith)
 
-pub read-lines : (c : Case) (rs : List Record) → Writable c → (m a : ℕ) (s : Reader) (p : ℕ) → 1 ≤ a → a + m ≡ c .n + 1 → Lining c s p a (a + 1) (length (lineRecords (neighbours (c .nbr)) a m)) →
-    ((v : Reader) (o : ℕ) → Lining c v o (c .n + 1) (c .n + 1 + 1) 0 → Readable c v rs) → Readable c s (lineRecords (neighbours (c .nbr)) a m ++ rs)
+pub read-lines : (c : Case) (rs : List Record) → Writable c → (m a : ℕ) (s : Reader) (p : ℕ) → 1 ≤ a → a + m ≡ c .n + 1
+    → Lining c s p a (a + 1) (length (lineRecords (neighbours (c .nbr)) a m))
+    → ((v : Reader) (o : ℕ) → Lining c v o (c .n + 1) (c .n + 1 + 1) 0 → Readable c v rs)
+    → Readable c s (lineRecords (neighbours (c .nbr)) a m ++ rs)
 unfolding lineRecords
 read-lines c rs w zero a s p h e g on =
     let f : a ≡ c .n + 1 = omega arith in
@@ -342,7 +363,8 @@ bus-gap c w (siteAt k) h x y = w .above (siteAt k) h (omega arith)
 bus-gap c w (unitAt k) h x y = let m = h .most in absurd (omega arith)
 bus-gap c w (lineAt i j) h x y = let o = h .one in let l = h .less in absurd (omega arith)
 
-line-gap : (c : Case) → Writable c → (q : Ask) → Proper q → 1000 + ((c .n + 1) * 128 + (c .n + 1 + 1)) ≤ place q → place q < 10000 + 1 → answer c q ≡ 0
+line-gap : (c : Case) → Writable c → (q : Ask) → Proper q → 1000 + ((c .n + 1) * 128 + (c .n + 1 + 1)) ≤ place q → place q < 10000 + 1
+    → answer c q ≡ 0
 line-gap c w (zeroAt k) h x y = let m = h .most in absurd (omega arith)
 line-gap c w (siteAt k) h x y = let m = h .most in absurd (omega arith)
 line-gap c w (unitAt k) h x y = let m = h .most in absurd (omega arith)
@@ -362,7 +384,8 @@ no-place c n (lineAt i j) h l = absurd (omega arith)
 
 pub readable : (c : Case) → Writable c → Readable c start (records c)
 readable c w =
-    let e : verdict (start .place) (Grid (c .n)) ≡ Next = accept (start .place) (Grid (c .n)) refl (inside 64 (c .n) (w .one) (w .most)) refl in
+    let e : verdict (start .place) (Grid (c .n)) ≡ Next =
+    accept (start .place) (Grid (c .n)) refl (inside 64 (c .n) (w .one) (w .most)) refl in
     let k = w .most in
     read-on (Grid (c .n)) e
     (read-buses c _ (c .n) 1 (next start (Grid (c .n))) 0
@@ -370,6 +393,13 @@ readable c w =
     refl (omega arith) (record { unit = refl; a = refl; b = refl; lines = refl })
     (λ s p u b z. let n = u .size in
     read-lines c _ w (c .n) 1 s p (omega arith) (omega arith)
-    (record { upto = skip (1000 + (1 * 128 + (1 + 1))) (omega arith) u (bus-gap c w); past = omega arith; none = z .unit; below = omega (arith, z .a, z .b); room = omega (arith, w .few, z .lines) })
-    (λ t o g. read-units c _ (c .n) 1 t o (skip (10000 + 1) (omega arith) (g .upto) (line-gap c w)) (g .past) (omega (arith, g .none)) (omega arith) (omega arith)
+    (record {
+      upto = skip (1000 + (1 * 128 + (1 + 1))) (omega arith) u (bus-gap c w);
+      past = omega arith;
+      none = z .unit;
+      below = omega (arith, z .a, z .b);
+      room = omega (arith, w .few, z .lines);
+    })
+    (λ t o g. read-units c _ (c .n) 1 t o (skip (10000 + 1) (omega arith) (g .upto) (line-gap c w)) (g .past) (omega (arith, g .none))
+    (omega arith) (omega arith)
     (λ v r x l. read-end (skip 10065 (omega arith) x (unit-gap c w)) l))))

@@ -55,7 +55,8 @@ module _ (s : Place) (r : Record) where
 
   pub last-place : verdict s r ≡ Last → inPlace s r ≡ true
   unfolding verdict
-  last-place e = passed (inPlace s r) (inRange s r) (inOrder s r) {v = accepted r} e (λ z. apart (cc)) (λ z. apart (cc)) (λ z. apart (cc)) .0
+  last-place e =
+      passed (inPlace s r) (inRange s r) (inOrder s r) {v = accepted r} e (λ z. apart (cc)) (λ z. apart (cc)) (λ z. apart (cc)) .0
 
   pub goes-of : verdict s r ≡ Next → accepted r ≡ Next
   unfolding verdict

@@ -43,15 +43,17 @@ module _ (p q : ℕ) where
 
 -- ---- the fields of a line
 
-pub by-first : {A : Type 0} (f : List ℕ → List (List ℕ) → A) {s : List ℕ} {e : ℕ} {r : A} → PieceEnd 9 s 0 e → r ≡ f (part s 0 e) (after 9 s e) →
-    r ≡ f (split 9 s .first) (split 9 s .rest)
+pub by-first : {A : Type 0} (f : List ℕ → List (List ℕ) → A) {s : List ℕ} {e : ℕ} {r : A} → PieceEnd 9 s 0 e
+    → r ≡ f (part s 0 e) (after 9 s e)
+    → r ≡ f (split 9 s .first) (split 9 s .rest)
 by-first f p h = rw (p .cut) h
 
 module _ {A : Type 0} (f : List (List ℕ) → A) where
   pub by-none : (s : List ℕ) (e : ℕ) → length s ≤ e → f [] ≡ f (after 9 s e)
   by-none s e h = sym (ap f (after-none 9 s e h))
 
-  pub by-next : {s : List ℕ} {a e : ℕ} {r : A} → a < length s → PieceEnd 9 s (a + 1) e → r ≡ f (part s (a + 1) e ∷ after 9 s e) → r ≡ f (after 9 s a)
+  pub by-next : {s : List ℕ} {a e : ℕ} {r : A} → a < length s → PieceEnd 9 s (a + 1) e → r ≡ f (part s (a + 1) e ∷ after 9 s e)
+      → r ≡ f (after 9 s a)
   by-next h p i = i ∙ sym (ap f (after-next h p))
 
 module _ {A : Type 0} (w : A) (g : List ℕ → A) where
@@ -63,7 +65,8 @@ module _ {A : Type 0} (w : A) (g : List ℕ → A) where
   unfolding one
   one-more {s} {a} {e} h p l = sym (rw (after-next h p, after-some 9 s e l))
 
-  pub one-is : {s : List ℕ} {a e : ℕ} {r : A} → a < length s → PieceEnd 9 s (a + 1) e → length s ≤ e → r ≡ g (part s (a + 1) e) → r ≡ one w g (after 9 s a)
+  pub one-is : {s : List ℕ} {a e : ℕ} {r : A} → a < length s → PieceEnd 9 s (a + 1) e → length s ≤ e → r ≡ g (part s (a + 1) e)
+      → r ≡ one w g (after 9 s a)
   unfolding one
   one-is {s} {a} {e} h p l i = i ∙ sym (rw (after-next h p, after-none 9 s e l))
 
@@ -80,7 +83,9 @@ pub bus-one : {s : List ℕ} {a e : ℕ} → a < length s → PieceEnd 9 s (a + 
 unfolding busFields
 bus-one {s} {a} {e} h p l = sym (rw (after-next h p, after-none 9 s e l))
 
-pub bus-is : {s : List ℕ} {a e d : ℕ} {n : Numeral} {x y : Mark} {r : Record} → a < length s → PieceEnd 9 s (a + 1) e → e < length s → PieceEnd 9 s (e + 1) d →
-    n ≡ numberOf (part s (a + 1) e) → x ≡ classOf (part s (e + 1) d) → y ≡ oneSite (after 9 s d) → r ≡ busOf n x y → r ≡ busFields (after 9 s a)
+pub bus-is : {s : List ℕ} {a e d : ℕ} {n : Numeral} {x y : Mark} {r : Record} → a < length s → PieceEnd 9 s (a + 1) e → e < length s
+    → PieceEnd 9 s (e + 1) d
+    → n ≡ numberOf (part s (a + 1) e) → x ≡ classOf (part s (e + 1) d) → y ≡ oneSite (after 9 s d) → r ≡ busOf n x y
+    → r ≡ busFields (after 9 s a)
 unfolding busFields
 bus-is h p l q i j k m = rw (after-next h p, after-next l q, ← i, ← j, ← k) m

@@ -14,11 +14,13 @@ use Rattle.text_field.specs.declared.Numeral.the-variants.{Is, Wrong as NoNumbe
 use Rattle.text_field.proofs.Cutting.{Free, AllFree, same-is, split-join, join-split, free-join}
 use Rattle.text_field.proofs.Digits.{read-number, written-number, number-free}
 use Rattle.case_line.specs.Fields.{markOf, classOf, siteOf, one, none}
-use Rattle.case_line.specs.Record.{wordOf, gridOf, pmuOf, lineOf, busOf, lineFields, busFields, byWord, recordOf, letter, wordText, fieldTexts, recordText, Formed}
+use Rattle.case_line.specs.Record.{wordOf, gridOf, pmuOf, lineOf, busOf, lineFields, busFields, byWord}
+use Rattle.case_line.specs.Record.{recordOf, letter, wordText, fieldTexts, recordText, Formed}
 use Rattle.case_line.specs.declared.Record.{Record}
 use Rattle.case_line.specs.declared.Record.the-variants.{Grid, Bus, Line, Pmu, End, Wrong}
 use Rattle.case_line.specs.declared.Word.{Word}
-use Rattle.case_line.specs.declared.Word.the-variants.{Grid as GridWord, Bus as BusWord, Line as LineWord, Pmu as PmuWord, End as EndWord, Other}
+use Rattle.case_line.specs.declared.Word.the-variants.{Grid as GridWord, Bus as BusWord, Line as LineWord}
+use Rattle.case_line.specs.declared.Word.the-variants.{Pmu as PmuWord, End as EndWord, Other}
 use Rattle.case_line.specs.declared.Mark.{Mark}
 use Rattle.case_line.specs.declared.Mark.the-variants.{Is as Letter, Neither}
 
@@ -39,8 +41,13 @@ word-free c Wrong h = tt
 
 pub fields-free : (c : ℕ) (r : Record) → c < 48 → Formed r → AllFree c (fieldTexts r)
 fields-free c (Grid n) h f = (number-free c n h f, tt)
-fields-free c (Bus n z o) h f =
-    (number-free c n h f, (letter-free c 90 73 z (λ e. omega arith) (λ e. omega arith), (letter-free c 89 78 o (λ e. omega arith) (λ e. omega arith), tt)))
+fields-free c (Bus n z o) h f = (
+  number-free c n h f,
+  (
+    letter-free c 90 73 z (λ e. omega arith) (λ e. omega arith),
+    (letter-free c 89 78 o (λ e. omega arith) (λ e. omega arith), tt),
+  ),
+)
 fields-free c (Line a b) h f = (number-free c a h (f .0), (number-free c b h (f .1), tt))
 fields-free c (Pmu n) h f = (number-free c n h f, tt)
 fields-free c End h f = tt
@@ -60,7 +67,8 @@ read-fields Wrong f = absurd f
 
 pub read-record : (r : Record) → Formed r → recordOf (recordText r) ≡ r
 unfolding recordOf recordText
-read-record r f = rw (split-join 9 (wordText r) (fieldTexts r) (word-free 9 r (omega arith)) (fields-free 9 r (omega arith) f)) (read-fields r f)
+read-record r f =
+    rw (split-join 9 (wordText r) (fieldTexts r) (word-free 9 r (omega arith)) (fields-free 9 r (omega arith) f)) (read-fields r f)
 
 -- ---- read, then written
 
@@ -94,7 +102,8 @@ unfolding markOf
 mark-told p q [] t e = let z : _≡_ {A = ℕ} 0 1 = cc in absurd (omega arith)
 mark-told p q (b ∷ []) t e = first (eqb b p) (eqb b q) (eqb-true b p) (eqb-true b q) e
   where
-    first : (x y : Bool) → (x ≡ true → b ≡ p) → (y ≡ true → b ≡ q) → cond x (Letter true) (cond y (Letter false) Neither) ≡ Letter t → letter t p q ≡ b ∷ []
+    first : (x y : Bool) → (x ≡ true → b ≡ p) → (y ≡ true → b ≡ q) → cond x (Letter true) (cond y (Letter false) Neither) ≡ Letter t
+        → letter t p q ≡ b ∷ []
     first true y f g e = let h : true ≡ t = cc in rw (← h) (ap (λ (x : ℕ). x ∷ []) (sym (f refl)))
     first false true f g e = let h : false ≡ t = cc in rw (← h) (ap (λ (x : ℕ). x ∷ []) (sym (g refl)))
     first false false f g e = let z : _≡_ {A = ℕ} 0 1 = cc in absurd (omega arith)
@@ -116,7 +125,8 @@ line-spells w f g (Is a) (Is b) e h i =
 line-spells w f g (Is a) NoNumber e h i = inl refl
 line-spells w f g NoNumber y e h i = inl refl
 
-bus-spells : (w f g h : List ℕ) (x : Numeral) (c s : Mark) → w ≡ bytes "bus" → numberOf f ≡ x → classOf g ≡ c → siteOf h ≡ s → Spells (busOf x c s) w (f ∷ g ∷ h ∷ [])
+bus-spells : (w f g h : List ℕ) (x : Numeral) (c s : Mark) → w ≡ bytes "bus" → numberOf f ≡ x → classOf g ≡ c → siteOf h ≡ s
+    → Spells (busOf x c s) w (f ∷ g ∷ h ∷ [])
 bus-spells w f g h (Is n) (Letter z) (Letter o) e i j k =
     let t = written-number f n i in
     let u = mark-told 90 73 g z j in
@@ -175,4 +185,5 @@ spelt l n =
 -- no line feed stands in a record's text
 pub text-free : (r : Record) → Formed r → Free 10 (recordText r)
 unfolding recordText
-text-free r f = free-join 10 9 (wordText r) (fieldTexts r) (λ e. omega arith) (word-free 10 r (omega arith)) (fields-free 10 r (omega arith) f)
+text-free r f =
+    free-join 10 9 (wordText r) (fieldTexts r) (λ e. omega arith) (word-free 10 r (omega arith)) (fields-free 10 r (omega arith) f)

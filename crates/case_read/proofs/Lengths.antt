@@ -32,7 +32,8 @@ members-length f s k (suc m) = shorter (has s k) (f k) (members f s (k + 1) m) (
 rows-length : (nbr : ℕ → ℕ) (a m : ℕ) → m ≤ 64 → length (lineRecords nbr a m) ≤ 64 * m
 unfolding lineRecords
 rows-length nbr a zero h = omega arith
-rows-length nbr a (suc m) h = simp length-append (omega (arith, members-length (Line a) (nbr a) (a + 1) m, rows-length nbr (a + 1) m (omega arith)))
+rows-length nbr a (suc m) h =
+    simp length-append (omega (arith, members-length (Line a) (nbr a) (a + 1) m, rows-length nbr (a + 1) m (omega arith)))
 
 -- ---- bounds for up to 64 buses
 

@@ -40,8 +40,9 @@ module _ {A : Type 0} (f : List ℕ → List (List ℕ) → A) (text : List ℕ)
   unfolding split
   end-none h = rw (drop-of-length-le text h)
 
-  pub end-more : {r : A} → ((m : List ℕ) (ms : List (List ℕ)) → r ≡ f [] (m ∷ ms)) → ((b : ℕ) (l : List ℕ) (ms : List (List ℕ)) → r ≡ f (b ∷ l) ms) →
-      e + 1 < length text → r ≡ f (split 10 (drop (e + 1) text) .first) (split 10 (drop (e + 1) text) .rest)
+  pub end-more : {r : A} → ((m : List ℕ) (ms : List (List ℕ)) → r ≡ f [] (m ∷ ms))
+      → ((b : ℕ) (l : List ℕ) (ms : List (List ℕ)) → r ≡ f (b ∷ l) ms)
+      → e + 1 < length text → r ≡ f (split 10 (drop (e + 1) text) .first) (split 10 (drop (e + 1) text) .rest)
   unfolding split
   end-more {r} p q h = rw (drop-cons text (e + 1) 0 h) (go (eqb (getD text (e + 1) 0) 10) refl)
     where
@@ -63,24 +64,28 @@ pub record Going (text : List ℕ) (from′ first : ℕ) (s : Place) (rows : Lis
   pub small : s .n ≤ mostBuses
   pub is : readText first (drop from′ text) ≡ from (record { place = s; rows = rows; marks = m }) k (drop at text)
 
-pub going-first : {text : List ℕ} {from′ first : ℕ} → from′ ≤ length text → length text ≤ mostBytes → first ≤ mostBytes → Going text from′ first (start .place) noRows noMarks first from′
+pub going-first : {text : List ℕ} {from′ first : ℕ} → from′ ≤ length text → length text ≤ mostBytes → first ≤ mostBytes
+    → Going text from′ first (start .place) noRows noMarks first from′
 unfolding readText
 going-first h l f = record { high = h; few = omega arith; long = l; soon = f; small = omega arith; is = refl }
 
-module _ {text : List ℕ} {f₀ k₀ : ℕ} {s : Place} {rows : List ℕ} {m : Marks} {k at e : ℕ} (g : Going text f₀ k₀ s rows m k at) (p : PieceEnd 10 text at e) where
+module _ {text : List ℕ} {f₀ k₀ : ℕ} {s : Place} {rows : List ℕ} {m : Marks} {k at e : ℕ} (g : Going text f₀ k₀ s rows m k at)
+    (p : PieceEnd 10 text at e) where
   pub no-feed : {x : CaseRead} → length text ≤ e → x ≡ refused (WrongForm k) → x ≡ readText k₀ (drop f₀ text)
   unfolding readLines
   no-feed h xi = xi ∙ sym (g .is ∙ rw (p .cut, after-none 10 text e h))
 
-  module _ {r : Record} {v w : Verdict} (h : e < length text) (ri : r ≡ recordOf (part text at e)) (vi : v ≡ verdict s r) (told : v ≡ w) where
+  module _ {r : Record} {v w : Verdict} (h : e < length text) (ri : r ≡ recordOf (part text at e))
+      (vi : v ≡ verdict s r) (told : v ≡ w) where
     pub line-said : {x : CaseRead} →
         x ≡ said w k (from (record { place = nextPlace s r; rows = nextRows rows r; marks = nextMarks m r }) (k + 1) (drop (e + 1) text))
         (ending (caseOf (record { place = s; rows = rows; marks = m })) (k + 1) (drop (e + 1) text)) → x ≡ readText k₀ (drop f₀ text)
     unfolding readLines
     line-said xi = xi ∙ sym (g .is ∙ rw (p .cut, after-some 10 text e h, ← ri, ← vi, told, add-one e))
 
-  pub going-on : {r : Record} {v : Verdict} {t : Place} {rows′ : List ℕ} {m′ : Marks} → e < length text → r ≡ recordOf (part text at e) → v ≡ verdict s r → v ≡ Next →
-      t ≡ nextPlace s r → rows′ ≡ nextRows rows r → m′ ≡ nextMarks m r → Going text f₀ k₀ t rows′ m′ (k + 1) (e + 1)
+  pub going-on : {r : Record} {v : Verdict} {t : Place} {rows′ : List ℕ} {m′ : Marks} → e < length text → r ≡ recordOf (part text at e)
+      → v ≡ verdict s r → v ≡ Next
+      → t ≡ nextPlace s r → rows′ ≡ nextRows rows r → m′ ≡ nextMarks m r → Going text f₀ k₀ t rows′ m′ (k + 1) (e + 1)
   going-on {r} {v} {t} {rows′} {m′} h ri vi told ti wi mi =
       let l = p .low in
       record {

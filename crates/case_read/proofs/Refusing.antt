@@ -28,7 +28,8 @@ abbrev pub PlacedBy : ℕ → ReadAnswer → Type 0
 PlacedBy m Read = Unit {0}
 PlacedBy m (Refused q) = placeOf q ≤ m
 
-said-placed : (m k : ℕ) (v : Verdict) (on end : CaseRead) → k ≤ m → PlacedBy m (on .answer) → PlacedBy m (end .answer) → PlacedBy m (said v k on end .answer)
+said-placed : (m k : ℕ) (v : Verdict) (on end : CaseRead) → k ≤ m → PlacedBy m (on .answer) → PlacedBy m (end .answer)
+    → PlacedBy m (said v k on end .answer)
 said-placed m k Next on end h p q = p
 said-placed m k Last on end h p q = q
 said-placed m k Form on end h p q = h
@@ -41,17 +42,20 @@ closed-placed m k c [] (l ∷ ms) h = h
 closed-placed m k c (b ∷ l) ms h = h
 
 -- from line k on, with so many pieces after it
-pub lines-placed : (m : ℕ) (ms : List (List ℕ)) (s : Reader) (k : ℕ) (l : List ℕ) → k + length ms ≤ m → PlacedBy m (readLines s k l ms .answer)
+pub lines-placed : (m : ℕ) (ms : List (List ℕ)) (s : Reader) (k : ℕ) (l : List ℕ) → k + length ms ≤ m
+    → PlacedBy m (readLines s k l ms .answer)
 unfolding readLines
 lines-placed m [] s k l h = omega arith
 lines-placed m (n ∷ ms) s k l h =
-    said-placed m k (verdict (s .place) (recordOf l)) (readLines (next s (recordOf l)) (k + 1) n ms) (closed (caseOf s) (k + 1) n ms) (omega arith)
+    said-placed m k (verdict (s .place) (recordOf l)) (readLines (next s (recordOf l)) (k + 1) n ms)
+    (closed (caseOf s) (k + 1) n ms) (omega arith)
     (lines-placed m ms (next s (recordOf l)) (k + 1) n (omega arith)) (closed-placed m (k + 1) (caseOf s) n ms (omega arith))
 
 -- a text whose first line is line k
 pub text-placed : (m k : ℕ) (text : List ℕ) → k + length text ≤ m → PlacedBy m (readText k text .answer)
 unfolding readText
-text-placed m k text h = lines-placed m (split lineFeed text .rest) start k (split lineFeed text .first) (omega (arith, rest-few lineFeed text))
+text-placed m k text h =
+    lines-placed m (split lineFeed text .rest) start k (split lineFeed text .first) (omega (arith, rest-few lineFeed text))
 
 -- a case text
 pub case-placed : (text : List ℕ) → PlacedBy (1 + mostBytes) (readCase text .answer)

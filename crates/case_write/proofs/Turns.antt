@@ -28,7 +28,8 @@ lines-cons r rs = sym (append-assoc (recordText r) (10 ∷ []) (linesText rs))
 lines-append : (rs qs : List Record) → linesText (rs ++ qs) ≡ linesText rs ++ linesText qs
 unfolding linesText
 lines-append [] qs = refl
-lines-append (r ∷ rs) qs = ap (λ (t : List ℕ). recordText r ++ 10 ∷ t) (lines-append rs qs) ∙ sym (append-assoc (recordText r) (10 ∷ linesText rs) (linesText qs))
+lines-append (r ∷ rs) qs =
+    ap (λ (t : List ℕ). recordText r ++ 10 ∷ t) (lines-append rs qs) ∙ sym (append-assoc (recordText r) (10 ∷ linesText rs) (linesText qs))
 
 pub line-length : (r : Record) → length (lineText r) ≤ 15
 unfolding lineText
@@ -59,7 +60,8 @@ module _ {recs : ℕ → ℕ → List Record} {most first count n : ℕ} {l : Li
       record { low = omega arith; high = h; last = refl; near = omega arith; left = left-none (ap (λ (x : ℕ). linesText (recs first x)) e) }
 
   turn-next : {end k b q : ℕ} {m t o : List ℕ} → Turn recs most first count n l at end m k b → b < end →
-      linesText (recs b (suc (n - b))) ≡ t ++ linesText (recs (b + 1) (n - b)) → length t ≤ most → Put m k t o q → Turn recs most first count n l at end o q (b + 1)
+      linesText (recs b (suc (n - b))) ≡ t ++ linesText (recs (b + 1) (n - b)) → length t ≤ most → Put m k t o q
+      → Turn recs most first count n l at end o q (b + 1)
   unfolding rest
   turn-next {end} {k} {b} {q} {m} {t} {o} w h e s p =
       let i : n + 1 - b ≡ suc (n - b) = omega arith in
@@ -72,7 +74,8 @@ module _ {recs : ℕ → ℕ → List Record} {most first count n : ℕ} {l : Li
         left = left-more (w .left) (ap (λ (x : ℕ). linesText (recs b x)) i ∙ e ∙ ap (λ (x : ℕ). t ++ linesText (recs (b + 1) x)) j) p;
       }
 
-  pub turn-all : {end k b : ℕ} {m : List ℕ} → Turn recs most first count n l at end m k b → end ≤ b → recs b 0 ≡ [] → Put l at (linesText (recs first count)) m k
+  pub turn-all : {end k b : ℕ} {m : List ℕ} → Turn recs most first count n l at end m k b → end ≤ b → recs b 0 ≡ []
+      → Put l at (linesText (recs first count)) m k
   unfolding rest linesText
   turn-all {end} {k} {b} w h e =
       let i : n + 1 - b ≡ 0 = omega arith in
@@ -91,8 +94,8 @@ module _ {first count n : ℕ} {l m o : List ℕ} {at end k b q : ℕ} where
   unfolding busRecords
   turn-bus zeros sites w h p = turn-next w h (lines-cons _ _) (line-length _) p
 
-  pub turn-member : (f : ℕ → Record) (s : ℕ) {t : Bool} → Turn (members f s) 15 first count n l at end m k b → b < end → Decides (In s b) t →
-      Put m k (cond t (lineText (f b)) []) o q → Turn (members f s) 15 first count n l at end o q (b + 1)
+  pub turn-member : (f : ℕ → Record) (s : ℕ) {t : Bool} → Turn (members f s) 15 first count n l at end m k b → b < end → Decides (In s b) t
+      → Put m k (cond t (lineText (f b)) []) o q → Turn (members f s) 15 first count n l at end o q (b + 1)
   unfolding members
   turn-member f s {t} w h d p = turn-next w h (rw (← has-is s b t d) (taken t _)) (lined-length t (f b)) p
     where

@@ -26,13 +26,15 @@ use Rattle.place_calls.specs.declared.Verdict.{Verdict}
 use Rattle.place_calls.specs.declared.Verdict.the-variants as verdict
 use Rattle.place_calls.specs.declared.Fewest.{Fewest}
 use Rattle.place_calls.specs.declared.Fewest.the-variants as fewest
-use Rattle.estimator.specs.Answers.{ofObserved, ofVerdict, ofFewest, ofReplay, Said, ObservedFor, UnconfirmedFor, FewestFor, ReplayFor, OfRead, OfText}
+use Rattle.estimator.specs.Answers.{ofObserved, ofVerdict, ofFewest, ofReplay, Said, ObservedFor}
+use Rattle.estimator.specs.Answers.{UnconfirmedFor, FewestFor, ReplayFor, OfRead, OfText}
 use Rattle.estimator_reply.specs.Results.{farthest, Placed}
 use Rattle.estimator_reply.specs.declared.Answer.{Answer}
 
 -- ---- of a case
 
-said-placed : {R : Type 0} (promise : R → Type 0) (of : R → Answer) → ((x : R) → promise x → Placed (of x)) → (a : Answer) → Said promise of a → Placed a
+said-placed : {R : Type 0} (promise : R → Type 0) (of : R → Answer) → ((x : R) → promise x → Placed (of x)) → (a : Answer)
+    → Said promise of a → Placed a
 said-placed promise of u a p = subst⁻¹ Placed (p .is) (u (p .reply) (p .meets))
 
 observed-small : (c : Case) (x : Observed) → ObservedReply c x → Placed (ofObserved x)
@@ -45,7 +47,8 @@ verdict-small c (verdict.Refused q) p = failed-place farthest (verdictChecks c) 
 
 fewest-small : (c : Case) (budget : ℕ) (x : Fewest) → FewestReply c budget x → Placed (ofFewest x)
 fewest-small c budget (fewest.Sites s) p = tt
-fewest-small c budget (fewest.Refused q) p = failed-place farthest (fewestChecks c budget) q (omega arith, (omega arith, (omega arith, tt))) p
+fewest-small c budget (fewest.Refused q) p =
+    failed-place farthest (fewestChecks c budget) q (omega arith, (omega arith, (omega arith, tt))) p
 
 replay-small : (c : Case) (text : List ℕ) (x : TextReplayed) → TextReplayReply c text x → Placed (ofReplay x)
 replay-small c text x p = go (readSteps text) refl x p
@@ -60,7 +63,8 @@ replay-small c text x p = go (readSteps text) refl x p
 
 -- ---- of a text
 
-text-placed : (text : List ℕ) (P : Case → Answer → Type 0) → ((c : Case) (a : Answer) → P c a → Placed a) → (a : Answer) → OfText text P a → Placed a
+text-placed : (text : List ℕ) (P : Case → Answer → Type 0) → ((c : Case) (a : Answer) → P c a → Placed a) → (a : Answer) → OfText text P a
+    → Placed a
 text-placed text P u a p = go (readCase text .answer) refl p
   where
     go : (r : ReadAnswer) → readCase text .answer ≡ r → OfRead r (readCase text .case) P a → Placed a

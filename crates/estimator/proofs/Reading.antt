@@ -19,4 +19,5 @@ module _ (text : List ℕ) (P : Case → Answer → Type 0) {r : CaseRead} (e : 
 
   pub of-refused : {q : Refusal} → r .answer ≡ read.Refused q → OfText text P (Refused q)
   of-refused {q} t =
-      subst (λ (x : CaseRead). OfRead (x .answer) (x .case) P (Refused q)) e (subst⁻¹ (λ (x : ReadAnswer). OfRead x (r .case) P (Refused q)) t refl)
+      subst (λ (x : CaseRead). OfRead (x .answer) (x .case) P (Refused q)) e
+      (subst⁻¹ (λ (x : ReadAnswer). OfRead x (r .case) P (Refused q)) t refl)

@@ -8,7 +8,8 @@ use Rattle.busset.specs.Bytes.{byteOf, setBytes}
 use Rattle.busset.proofs.Packing.{byte-at}
 use Rattle.step.proofs.Writing.{Written, written-more}
 
-pub filled-more : (s : ℕ) {lent room : List ℕ} {i b : ℕ} → Written (setBytes s) lent room i → i < 8 → 8 ≤ length lent → b ≡ byteOf s i → Written (setBytes s) lent (set room i b) (i + 1)
+pub filled-more : (s : ℕ) {lent room : List ℕ} {i b : ℕ} → Written (setBytes s) lent room i → i < 8 → 8 ≤ length lent → b ≡ byteOf s i
+    → Written (setBytes s) lent (set room i b) (i + 1)
 filled-more s {lent} {room} {i} {b} w l m e =
     subst (λ (x : ℕ). Written (setBytes s) lent (set room i x) (i + 1)) (byte-at s i l ∙ sym e) (written-more 0 w l (omega arith))
 

@@ -33,7 +33,8 @@ has-room x y l = rw (le-ltb _ _ l) refl
 
 -- a result of 0 says that there is room for a set
 pub room-for : (a : Answer) (room : ℕ) → resultOf a room ≡ 0 → 8 ≤ room
-room-for (Set s) room e = ⊎-elim (λ (l : room < 8). absurd (code-some NoRoom (sym (no-room _ _ l) ∙ e))) (λ (l : 8 ≤ room). l) (below-or room 8)
+room-for (Set s) room e =
+    ⊎-elim (λ (l : room < 8). absurd (code-some NoRoom (sym (no-room _ _ l) ∙ e))) (λ (l : 8 ≤ room). l) (below-or room 8)
 room-for (Refused q) room e = absurd (code-some q e)
 room-for (Unread q) room e = absurd (omega arith)
 
@@ -44,7 +45,8 @@ bytes-filled (Refused q) lent e = absurd (code-some q e)
 bytes-filled (Unread q) lent e = absurd (omega arith)
 
 pub bytes-kept : (a : Answer) (lent : List ℕ) → (resultOf a (length lent) ≡ 0 → ⊥) → lent ≡ leftBy a lent
-bytes-kept (Set s) lent n = ⊎-elim (λ (l : length lent < 8). sym (no-room _ _ l)) (λ (l : 8 ≤ length lent). absurd (n (has-room _ _ l))) (below-or (length lent) 8)
+bytes-kept (Set s) lent n =
+    ⊎-elim (λ (l : length lent < 8). sym (no-room _ _ l)) (λ (l : 8 ≤ length lent). absurd (n (has-room _ _ l))) (below-or (length lent) 8)
 bytes-kept (Refused q) lent n = refl
 bytes-kept (Unread q) lent n = refl
 

@@ -62,11 +62,13 @@ module _ (degree observed : ℕ) (hd : degree ≤ 64) (ho : observed ≤ 65) whe
 
 -- ---- the figure
 
-pub figure-law : (nbr : ℕ → ℕ) (s i j : ℕ) {m b o degree seen others : ℕ} {z : ℤ} → m ≡ nbr i → degree ≡ size m → Both m s b → Without b j o → others ≡ size o → seen ≡ bit s i
+pub figure-law : (nbr : ℕ → ℕ) (s i j : ℕ) {m b o degree seen others : ℕ} {z : ℤ} → m ≡ nbr i → degree ≡ size m → Both m s b → Without b j o
+    → others ≡ size o → seen ≡ bit s i
     → z ≡ pos 1 -ℤ pos degree +ℤ pos (seen + others) → z ≡ figure nbr s i j
 unfolding figure
 figure-law nbr s i j {m} {b} {o} {degree} {seen} {others} {z} em ed both without eo es ez =
-    ez ∙ ap (λ (y : ℤ). pos 1 -ℤ pos degree +ℤ y) (sym (pos-+ℤ-pos seen others)) ∙ sym (+ℤ-assoc (pos 1 -ℤ pos degree) (pos seen) (pos others))
+    ez ∙ ap (λ (y : ℤ). pos 1 -ℤ pos degree +ℤ y) (sym (pos-+ℤ-pos seen others))
+    ∙ sym (+ℤ-assoc (pos 1 -ℤ pos degree) (pos seen) (pos others))
     ∙ (λ k. pos 1 -ℤ pos (degree-is k) +ℤ pos (es k) +ℤ pos (others-is k))
   where
     degree-is : degree ≡ size (nbr i)

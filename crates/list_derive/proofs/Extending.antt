@@ -43,7 +43,8 @@ extends-few {g} {s} {l} {x} v most n e =
     grown : Proper g → NextIs g s x → Extends g s l → Within (g .n) (add s (x .bus))
     grown v n e = add-of {P = Bus (g .n)} s (x .bus) (allowed-bus v (n .allowed)) (e .within)
 
-pub extends-more : {g : Grid} {s : ℕ} {l : StepList} {x : Step} {m : StepList} {t : ℕ} → Proper g → g .n ≤ 64 → NextIs g s x → Extends g s l → Pushed l x m → With s (x .bus) t → Extends g t m
+pub extends-more : {g : Grid} {s : ℕ} {l : StepList} {x : Step} {m : StepList} {t : ℕ} → Proper g → g .n ≤ 64 → NextIs g s x → Extends g s l
+    → Pushed l x m → With s (x .bus) t → Extends g t m
 extends-more {g} {s} {l} {x} {m} {t} v most n e p w = record {
   sofar = e .sofar ++ (x ∷ []);
   is = pushed-list (e .sofar) (e .is) (omega (arith, e .count, extends-few v most n e)) p;
@@ -55,4 +56,8 @@ extends-more {g} {s} {l} {x} {m} {t} v most n e p w = record {
 }
 
 pub extends-all : {g : Grid} {s : ℕ} {l : StepList} → Extends g s l → Finished g s → Derives g l
-extends-all {g} e f = record { steps = e .sofar; derived = subst (Derivation g) (append-nil (e .sofar)) (e .whole [] (finished f)); is = e .is }
+extends-all {g} e f = record {
+  steps = e .sofar;
+  derived = subst (Derivation g) (append-nil (e .sofar)) (e .whole [] (finished f));
+  is = e .is;
+}

@@ -47,12 +47,14 @@ pub clear-more : {g : Grid} {s b : ℕ} → Clear g s b → ((r : Reason) → Ou
 clear-more {g} {s} {b} h n = record {
   low = λ y a. ⊎-elim
       (λ (e : y .bus ≡ b). absurd (n (y .reason) (subst (Out s) e (a .new)) (subst (λ (x : ℕ). Holds g s x (y .reason)) e (a .holds))))
-      (λ (ne : y .bus ≡ b → ⊥). ⊎-elim (λ (l : b < y .bus). omega arith) (λ (l : y .bus ≤ b). absurd (ne (omega (arith, h .low y a)))) (below-or b (y .bus)))
+      (λ (ne : y .bus ≡ b → ⊥). ⊎-elim (λ (l : b < y .bus). omega arith) (λ (l : y .bus ≤ b). absurd (ne (omega (arith, h .low y a))))
+      (below-or b (y .bus)))
       (same-or (y .bus) b);
 }
 
 -- every reason fails
-pub none-holds : {g : Grid} {s b p w : ℕ} → Proper g → (In (g .units) b → ⊥) → g .n + 1 ≤ p → Lacks (ByUnit (g .neighbours) (g .units) b) p → g .n + 1 ≤ w → Lacks (ByZero (g .neighbours) (g .zeros) s b) w
+pub none-holds : {g : Grid} {s b p w : ℕ} → Proper g → (In (g .units) b → ⊥) → g .n + 1 ≤ p → Lacks (ByUnit (g .neighbours) (g .units) b) p
+    → g .n + 1 ≤ w → Lacks (ByZero (g .neighbours) (g .zeros) s b) w
     → (r : Reason) → Holds g s b r → ⊥
 none-holds v own lp u lw z OwnUnit h = own h
 none-holds v own lp u lw z (NeighbourOf q) h = let m = v .units q (h .unit) .most in u .below q (omega arith) h
@@ -63,7 +65,8 @@ finished-by {g} {s} v l h y a = let m = allowed-bus v a .most in omega (arith, h
 
 -- ---- the first reason that holds
 
-pub next-by : {g : Grid} {s b : ℕ} (r : Reason) → Clear g s b → Out s b → Holds g s b r → ((q : Reason) → Holds g s b q → TakenFirst r q) → NextIs g s (record { bus = b; reason = r })
+pub next-by : {g : Grid} {s b : ℕ} (r : Reason) → Clear g s b → Out s b → Holds g s b r → ((q : Reason) → Holds g s b q → TakenFirst r q)
+    → NextIs g s (record { bus = b; reason = r })
 next-by {g} {s} {b} r c n h f = record {
   allowed = record { new = n; holds = h };
   lowest = λ y a. c .low y a;
@@ -73,12 +76,14 @@ next-by {g} {s} {b} r c n h f = record {
 pub first-own : (g : Grid) (s b : ℕ) (q : Reason) → Holds g s b q → TakenFirst OwnUnit q
 first-own g s b q h = tt
 
-pub first-near : (g : Grid) (s : ℕ) {b p : ℕ} → (In (g .units) b → ⊥) → Lacks (ByUnit (g .neighbours) (g .units) b) p → (q : Reason) → Holds g s b q → TakenFirst (NeighbourOf p) q
+pub first-near : (g : Grid) (s : ℕ) {b p : ℕ} → (In (g .units) b → ⊥) → Lacks (ByUnit (g .neighbours) (g .units) b) p → (q : Reason)
+    → Holds g s b q → TakenFirst (NeighbourOf p) q
 first-near g s own u OwnUnit h = own h
 first-near g s own u (NeighbourOf q) h = lacks-first u q h
 first-near g s own u (ZeroInjection w) h = tt
 
-pub first-zero : {g : Grid} {s b p w : ℕ} → Proper g → (In (g .units) b → ⊥) → g .n + 1 ≤ p → Lacks (ByUnit (g .neighbours) (g .units) b) p → Lacks (ByZero (g .neighbours) (g .zeros) s b) w
+pub first-zero : {g : Grid} {s b p w : ℕ} → Proper g → (In (g .units) b → ⊥) → g .n + 1 ≤ p → Lacks (ByUnit (g .neighbours) (g .units) b) p
+    → Lacks (ByZero (g .neighbours) (g .zeros) s b) w
     → (q : Reason) → Holds g s b q → TakenFirst (ZeroInjection w) q
 first-zero v own lp u z OwnUnit h = own h
 first-zero v own lp u z (NeighbourOf q) h = let m = v .units q (h .unit) .most in u .below q (omega arith) h

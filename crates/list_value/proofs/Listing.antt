@@ -22,7 +22,8 @@ push-law l x = record {
 }
 
 -- a list with one step more, and one blank fewer
-pub list-push : (xs : List Step) (x : Step) → length xs < 64 → record { n = suc (length xs); steps = set (listOf xs .steps) (length xs) x } ≡ listOf (xs ++ (x ∷ []))
+pub list-push : (xs : List Step) (x : Step) → length xs < 64
+    → record { n = suc (length xs); steps = set (listOf xs .steps) (length xs) x } ≡ listOf (xs ++ (x ∷ []))
 list-push xs x l = λ i. record { n = count i; steps = steps i }
   where
     count : suc (length xs) ≡ length (xs ++ (x ∷ []))
@@ -35,11 +36,14 @@ list-push xs x l = λ i. record { n = count i; steps = steps i }
 
     steps : set (listOf xs .steps) (length xs) x ≡ listOf (xs ++ (x ∷ [])) .steps
     steps =
-        ap (λ (bs : List Step). set (xs ++ bs) (length xs) x) blanks ∙ set-append-seam xs noStep (replicate (64 - length (xs ++ (x ∷ []))) noStep) x
+        ap (λ (bs : List Step). set (xs ++ bs) (length xs) x) blanks
+        ∙ set-append-seam xs noStep (replicate (64 - length (xs ++ (x ∷ []))) noStep) x
         ∙ sym (append-snoc xs x (replicate (64 - length (xs ++ (x ∷ []))) noStep))
 
-pub pushed-list : {l : StepList} {x : Step} {r : StepList} (xs : List Step) → l ≡ listOf xs → length xs < 64 → Pushed l x r → r ≡ listOf (xs ++ (x ∷ []))
-pushed-list {l} {x} {r} xs e few p = p .is ∙ ap (λ (m : StepList). record { n = suc (m .n); steps = set (m .steps) (m .n) x }) e ∙ list-push xs x few
+pub pushed-list : {l : StepList} {x : Step} {r : StepList} (xs : List Step) → l ≡ listOf xs → length xs < 64 → Pushed l x r
+    → r ≡ listOf (xs ++ (x ∷ []))
+pushed-list {l} {x} {r} xs e few p =
+    p .is ∙ ap (λ (m : StepList). record { n = suc (m .n); steps = set (m .steps) (m .n) x }) e ∙ list-push xs x few
 
 abbrev place : Bool → StepList → ℕ → Step
 place b l i = cond b (getD (l .steps) i noStep) noStep

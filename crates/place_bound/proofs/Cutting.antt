@@ -28,7 +28,8 @@ module _ {sites x rest : ℕ} (w : Without sites x rest) where
 abbrev pub IdleBut : (ℕ → ℕ) → ℕ → ℕ → ℕ → Type 0
 IdleBut nbr c left tries = (x : ℕ) → In left x → Out tries x → Idle nbr c x
 
-pub idle-tried : {nbr : ℕ → ℕ} {c left tries x left′ tries′ : ℕ} → IdleBut nbr c left tries → Without left x left′ → Without tries x tries′ → IdleBut nbr c left′ tries′
+pub idle-tried : {nbr : ℕ → ℕ} {c left tries x left′ tries′ : ℕ} → IdleBut nbr c left tries → Without left x left′ → Without tries x tries′
+    → IdleBut nbr c left′ tries′
 idle-tried {nbr} {c} {left} {tries} {x} {left′} {tries′} idle w o y h =
     ⊎-elim
     (λ (e : y ≡ x). λ z. absurd (omega (arith, ap (bit left′) e, w .here)))
@@ -36,7 +37,8 @@ idle-tried {nbr} {c} {left} {tries} {x} {left′} {tries′} idle w o y h =
     (same-or y x)
 
 -- none is left to try: no cover
-pub idle-no-cover : {g : Grid} {c left tries : ℕ} (k : ℕ) → Closed g c → (Full (g .n) c → ⊥) → IdleBut (g .neighbours) c left tries → tries ≡ empty → NoCover g left k
+pub idle-no-cover : {g : Grid} {c left tries : ℕ} (k : ℕ) → Closed g c → (Full (g .n) c → ⊥) → IdleBut (g .neighbours) c left tries → tries ≡ empty
+    → NoCover g left k
 idle-no-cover {left = left} k cl lacks idle e v w =
     cover-not-idle w cl lacks (λ x h. idle x (let sub = w .of x in omega arith) (ap (λ (s : ℕ). bit s x) e ∙ bit-zero x))
 

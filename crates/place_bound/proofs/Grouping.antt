@@ -25,7 +25,11 @@ pub shrunk-same : (n : ℕ) (nbr : ℕ → ℕ) (zeros c : ℕ) → Shrunk n nbr
 shrunk-same n nbr zeros c = record { grows = λ b. le-refl (bit c b); fired = λ f. f; lacks = λ l. l }
 
 pub shrunk-more : {n : ℕ} {nbr : ℕ → ℕ} {zeros c r d : ℕ} → Shrunk n nbr zeros c r → Shrunk n nbr zeros r d → Shrunk n nbr zeros c d
-shrunk-more p q = record { grows = λ b. omega (arith, p .grows b, q .grows b); fired = λ f. q .fired (p .fired f); lacks = λ l. q .lacks (p .lacks l) }
+shrunk-more p q = record {
+  grows = λ b. omega (arith, p .grows b, q .grows b);
+  fired = λ f. q .fired (p .fired f);
+  lacks = λ l. q .lacks (p .lacks l);
+}
 
 pub shrunk-spread : {n : ℕ} {nbr : ℕ → ℕ} {zeros c h t d : ℕ} → Union c h t → Spread nbr zeros t d → (Full n d → ⊥) → Shrunk n nbr zeros c d
 shrunk-spread u sp lacks = record { grows = λ b. omega (arith, u .at b, sp .grows b); fired = λ f. sp .fired; lacks = λ l. lacks }
@@ -56,7 +60,8 @@ group-by {n} {nbr} {a} {sites} {c} {dark} {near} {r} lines al m st h bus = recor
 
 -- ---- group after group
 
-module _ {g : Grid} {sites q t m c next : ℕ} (gr : Grouped g sites q t m) (lacks : Full (g .n) t → ⊥) (sh : Shrunk (g .n) (g .neighbours) (g .zeros) t c) (d : Group (g .neighbours) sites c next) where
+module _ {g : Grid} {sites q t m c next : ℕ} (gr : Grouped g sites q t m) (lacks : Full (g .n) t → ⊥)
+    (sh : Shrunk (g .n) (g .neighbours) (g .zeros) t c) (d : Group (g .neighbours) sites c next) where
   -- an empty group: no cover
   pub no-group : (k : ℕ) → next ≡ empty → NoCover g sites k
   no-group k e =

@@ -67,17 +67,20 @@ sifted-none nbr units {alone} e = record {
   only = λ b h. absurd (omega (arith, ap (λ (s : ℕ). bit s b) e, bit-zero b));
 }
 
-pub sifted-yes : {nbr : ℕ → ℕ} {units alone left p more rest : ℕ} → Sifted nbr units alone left → Unconfirmed nbr units p → With alone p more → Without left p rest → Sifted nbr units more rest
+pub sifted-yes : {nbr : ℕ → ℕ} {units alone left p more rest : ℕ} → Sifted nbr units alone left → Unconfirmed nbr units p
+    → With alone p more → Without left p rest → Sifted nbr units more rest
 sifted-yes {nbr} {units} {alone} {left} {p} {more} {rest} s u w o = record {
   of = λ b. omega (arith, without-sub o b, s .of b);
   all = without-of {P = λ b. Unconfirmed nbr units b → In more b} o (λ v. w .here) (λ b z v. kept b (s .all b z v));
-  only = subst⁻¹ (λ (x : ℕ). (b : ℕ) → In x b → Unconfirmed nbr units b) (with-add w) (add-of {P = Unconfirmed nbr units} alone p u (s .only));
+  only =
+      subst⁻¹ (λ (x : ℕ). (b : ℕ) → In x b → Unconfirmed nbr units b) (with-add w) (add-of {P = Unconfirmed nbr units} alone p u (s .only));
 }
   where
     kept : (b : ℕ) → In alone b → In more b
     kept b i = omega (arith, add-grows alone p b, ap (λ (x : ℕ). bit x b) (with-add w))
 
-pub sifted-no : {nbr : ℕ → ℕ} {units alone left p rest : ℕ} → Sifted nbr units alone left → (Unconfirmed nbr units p → ⊥) → Without left p rest → Sifted nbr units alone rest
+pub sifted-no : {nbr : ℕ → ℕ} {units alone left p rest : ℕ} → Sifted nbr units alone left → (Unconfirmed nbr units p → ⊥)
+    → Without left p rest → Sifted nbr units alone rest
 sifted-no {nbr} {units} {alone} {left} {p} {rest} s n o = record {
   of = λ b. omega (arith, without-sub o b, s .of b);
   all = without-of {P = λ b. Unconfirmed nbr units b → In alone b} o (λ v. absurd (n v)) (s .all);

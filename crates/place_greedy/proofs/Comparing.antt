@@ -57,13 +57,19 @@ module _ {g : Grid} {n s left most site x rest t m : ℕ} (c : Compared g s left
 
   all : (b : ℕ) → most ≤ b → m ≤ b → (y v : ℕ) → Out rest y → choosing.With g y v → size v ≤ b
   all b p q y v o =
-      without-of {P = λ z. choosing.With g z v → size v ≤ b} w (λ h. omega (arith, same v h)) (λ z o h. omega (arith, c .passed z v o h)) y o
+      without-of {P = λ z. choosing.With g z v → size v ≤ b} w (λ h. omega (arith, same v h)) (λ z o h. omega (arith, c .passed z v o h))
+      y o
 
   pub compared-no : m ≤ most → Compared g s rest most site
   compared-no k = record { free = freed; base = c .base; passed = all most (omega arith) k; best = c .best }
 
   pub compared-yes : most < m → Compared g s rest m x
-  compared-yes k = record { free = freed; base = omega (arith, c .base); passed = all m (omega arith) (omega arith); best = go x (low .bus .some) refl }
+  compared-yes k = record {
+    free = freed;
+    base = omega (arith, c .base);
+    passed = all m (omega arith) (omega arith);
+    best = go x (low .bus .some) refl;
+  }
     where
       go : (y : ℕ) → 1 ≤ y → y ≡ x → SoFar g s m y
       go zero p q = absurd (omega arith)
@@ -94,8 +100,10 @@ compared-all {g} {s} {left} {most} (suc i) c e l = record {
     gone : (left y : ℕ) → left ≡ empty → Out left y
     gone left y e = ap (λ (x : ℕ). bit x y) e ∙ bit-zero y
 
-pub compared-to : {g : Grid} {s left most site most′ site′ : ℕ} → Compared g s left most site → site′ ≡ site → most′ ≡ most → Compared g s left most′ site′
-compared-to {g} {s} {left} {most} {site} {most′} {site′} c p q = subst⁻¹ (λ (x : ℕ). Compared g s left most′ x) p (subst⁻¹ (λ (m : ℕ). Compared g s left m site) q c)
+pub compared-to : {g : Grid} {s left most site most′ site′ : ℕ} → Compared g s left most site → site′ ≡ site → most′ ≡ most
+    → Compared g s left most′ site′
+compared-to {g} {s} {left} {most} {site} {most′} {site′} c p q =
+    subst⁻¹ (λ (x : ℕ). Compared g s left most′ x) p (subst⁻¹ (λ (m : ℕ). Compared g s left m site) q c)
 
 -- the best site is a site
 pub chosen-site : (g : Grid) (x : ℕ) → ChosenIs g x → (x ≡ 0 → ⊥) → In (g .sites) x
@@ -112,19 +120,28 @@ pub record Adding (g : Grid) (budget count u s : ℕ) (sites : List ℕ) : Type 
   pub rest : (ys : List ℕ) → Greedy (withUnits g u) (budget - count) ys → Greedy g budget (take count sites ++ ys)
 
 pub adding-none : {g : Grid} {s : ℕ} (budget : ℕ) {sites : List ℕ} → length sites ≡ 64 → ObservedSet g s → Adding g budget 0 (g .units) s sites
-adding-none {g} budget r l = record { room = r; most = omega arith; least = l; rest = λ ys h. subst (λ (k : ℕ). Greedy g k ys) (whole budget) h }
+adding-none {g} budget r l = record {
+  room = r;
+  most = omega arith;
+  least = l;
+  rest = λ ys h. subst (λ (k : ℕ). Greedy g k ys) (whole budget) h;
+}
   where
     whole : (budget : ℕ) → budget - 0 ≡ budget
     whole budget = omega arith
 
-pub adding-more : {g : Grid} {budget count u s v t : ℕ} {sites : List ℕ} (x : ℕ) → Adding g budget count u s sites → count < budget → count < 64
+pub adding-more : {g : Grid} {budget count u s v t : ℕ} {sites : List ℕ} (x : ℕ) → Adding g budget count u s sites → count < budget
+    → count < 64
     → (x ≡ 0 → ⊥) → ChosenIs (withUnits g u) x → v ≡ add u x → ObservedSet (withUnits g (add u x)) t → Adding g budget (count + 1) v t (set sites count x)
 adding-more zero a l r ne b e lt = absurd (ne refl)
 adding-more {g} {budget} {count} {u} {s} {v} {t} {sites} (suc i) a l r ne b e lt = record {
   room = simp length-set (a .room);
   most = omega arith;
   least = subst⁻¹ (λ (w : ℕ). ObservedSet (withUnits g w) t) e lt;
-  rest = λ ys h. subst (Greedy g budget) (moved ys) (a .rest (suc i ∷ ys) (subst⁻¹ (λ (k : ℕ). Greedy (withUnits g u) k (suc i ∷ ys)) left (b, subst (λ (w : ℕ). Greedy (withUnits g w) (budget - (count + 1)) ys) e h)));
+  rest =
+      λ ys h. subst (Greedy g budget) (moved ys)
+      (a .rest (suc i ∷ ys) (subst⁻¹ (λ (k : ℕ). Greedy (withUnits g u) k (suc i ∷ ys)) left
+      (b, subst (λ (w : ℕ). Greedy (withUnits g w) (budget - (count + 1)) ys) e h)));
 }
   where
     left : budget - count ≡ suc (budget - (count + 1))
@@ -137,7 +154,8 @@ adding-more {g} {budget} {count} {u} {s} {v} {t} {sites} (suc i) a l r ne b e lt
         ∙ ap (λ (k : ℕ). take k (set sites count (suc i)) ++ ys) (sym (add-one count))
 
 -- it stops where no site adds a bus
-pub adding-stop : {g : Grid} {budget count u s : ℕ} {sites : List ℕ} (x : ℕ) → Adding g budget count u s sites → count < budget → x ≡ 0 → ChosenIs (withUnits g u) x → Listed g budget count sites
+pub adding-stop : {g : Grid} {budget count u s : ℕ} {sites : List ℕ} (x : ℕ) → Adding g budget count u s sites → count < budget → x ≡ 0
+    → ChosenIs (withUnits g u) x → Listed g budget count sites
 adding-stop {g} {budget} {count} {u} {s} {sites} zero a l e none = record {
   room = a .room;
   most = a .most;
@@ -149,7 +167,8 @@ adding-stop {g} {budget} {count} {u} {s} {sites} zero a l e none = record {
 adding-stop (suc i) a l e none = absurd (omega arith)
 
 -- or the budget is spent
-pub adding-all : {g : Grid} {budget count u s : ℕ} {sites : List ℕ} → Adding g budget count u s sites → budget ≤ count → Listed g budget count sites
+pub adding-all : {g : Grid} {budget count u s : ℕ} {sites : List ℕ} → Adding g budget count u s sites → budget ≤ count
+    → Listed g budget count sites
 adding-all {g} {budget} {count} {u} {s} {sites} a l = record {
   room = a .room;
   most = a .most;

@@ -25,7 +25,8 @@ idle-more : {nbr : ℕ → ℕ} {c d x : ℕ} → Sub c d → Idle nbr c x → I
 idle-more {nbr} {c} {d} {x} sub i = record { own = omega (arith, sub x, i .own); near = λ b. omega (arith, sub b, i .near b) }
 
 -- every cover has a site from which a unit observes directly some bus that c lacks
-pub cover-not-idle : {g : Grid} {sites k v c : ℕ} → Cover g sites k v → Closed g c → (Full (g .n) c → ⊥) → ((x : ℕ) → In v x → Idle (g .neighbours) c x) → ⊥
+pub cover-not-idle : {g : Grid} {sites k v c : ℕ} → Cover g sites k v → Closed g c → (Full (g .n) c → ⊥)
+    → ((x : ℕ) → In v x → Idle (g .neighbours) c x) → ⊥
 cover-not-idle {c = c} v cl lacks idle = lacks (v .full c cl idle)
 
 -- ---- ways are covers
@@ -34,12 +35,16 @@ way-cover : {g : Grid} {sites k : ℕ} {xs : List ℕ} → Way g sites k xs → 
 way-cover {g} {sites} {k} {xs} w = record {
   of = sub-of (placed empty xs) sites (placed-of {P = In sites} 0 xs empty (w .rising) (λ x h. absurd (omega (arith, bit-zero x))));
   few = omega (arith, size-placed xs empty, size-empty, w .many);
-  full = λ s cl idle. w .covers s (record { o1 = record { own = λ b h. all s cl idle b h .own; near = λ b h. all s cl idle b h .near }; o2 = cl .o2 });
+  full =
+      λ s cl idle. w .covers s (record
+      { o1 = record { own = λ b h. all s cl idle b h .own; near = λ b h. all s cl idle b h .near }; o2 = cl .o2 });
 }
   where
-    all : (s : ℕ) → Closed g s → ((x : ℕ) → In (placed empty xs) x → Idle (g .neighbours) s x) → (b : ℕ) → In (placed (g .units) xs) b → Idle (g .neighbours) s b
+    all : (s : ℕ) → Closed g s → ((x : ℕ) → In (placed empty xs) x → Idle (g .neighbours) s x) → (b : ℕ) → In (placed (g .units) xs) b
+        → Idle (g .neighbours) s b
     all s cl idle b h =
-        ⊎-elim (λ (p : In (g .units) b). closed-idle cl p) (λ (p : Out (g .units) b). idle b (omega (arith, placed-max xs (g .units) b))) (in-or (g .units) b)
+        ⊎-elim (λ (p : In (g .units) b). closed-idle cl p) (λ (p : Out (g .units) b). idle b (omega (arith, placed-max xs (g .units) b)))
+        (in-or (g .units) b)
 
 pub no-cover-way : {g : Grid} {sites k : ℕ} → NoCover g sites k → NoWay g sites k
 no-cover-way n xs w = n (placed empty xs) (way-cover w)
@@ -60,7 +65,8 @@ grouped-none {g} {q} sites e cl = record {
 }
 
 -- a set that satisfies the rules, holds lit and lacks a bus takes one site more of every cover from those that are not idle in it
-module _ {g : Grid} {sites q lit m c group r : ℕ} (gr : Grouped g sites q lit m) (cl : Closed g c) (holds : Sub lit c) (lacks : Full (g .n) c → ⊥)
+module _ {g : Grid} {sites q lit m c group r : ℕ} (gr : Grouped g sites q lit m) (cl : Closed g c) (holds : Sub lit c)
+    (lacks : Full (g .n) c → ⊥)
     (d : Group (g .neighbours) sites c group) (u : Union q group r) where
   one-more : (k v : ℕ) → Cover g sites k v → size (meet q v) < size (meet r v)
   one-more k v w =
@@ -75,10 +81,12 @@ module _ {g : Grid} {sites q lit m c group r : ℕ} (gr : Grouped g sites q lit 
       idle e x h =
           ⊎-elim
           (λ (p : In q x). idle-more holds (gr .idle x p))
-          (λ (p : Out q x). d .rest x (omega (arith, w .of x)) (omega (arith, meet-at q v x, meet-at r v x, ap (λ (s : ℕ). bit s x) e, u .at x)))
+          (λ (p : Out q x). d .rest x (omega (arith, w .of x))
+          (omega (arith, meet-at q v x, meet-at r v x, ap (λ (s : ℕ). bit s x) e, u .at x)))
           (in-or q x)
 
-  pub grouped-more : {lit′ : ℕ} → Closed g lit′ → Sub lit lit′ → ((x : ℕ) → In group x → Idle (g .neighbours) lit′ x) → Grouped g sites r lit′ (m + 1)
+  pub grouped-more : {lit′ : ℕ} → Closed g lit′ → Sub lit lit′ → ((x : ℕ) → In group x → Idle (g .neighbours) lit′ x)
+      → Grouped g sites r lit′ (m + 1)
   grouped-more {lit′} cl′ grows idle = record {
     closed = cl′;
     idle = λ x h. ⊎-elim (λ (p : In q x). idle-more grows (gr .idle x p)) (λ (p : Out q x). idle x (omega (arith, u .at x))) (in-or q x);
@@ -109,13 +117,15 @@ grouped-lacks gr lacks v w = cover-not-idle w (gr .closed) lacks (λ x h. gr .id
 -- ---- one site, in a cover or not
 
 -- a cover that has x is, without it, a cover of what is left to place once x has a unit
-pub cover-less : {g : Grid} {sites rest k v : ℕ} (x : ℕ) → Cover g sites k v → In v x → Sub (less v x) rest → 0 < k → Cover (withUnits g (add (g .units) x)) rest (k - 1) (less v x)
+pub cover-less : {g : Grid} {sites rest k v : ℕ} (x : ℕ) → Cover g sites k v → In v x → Sub (less v x) rest → 0 < k
+    → Cover (withUnits g (add (g .units) x)) rest (k - 1) (less v x)
 cover-less {g} {sites} {rest} {k} {v} x w h sub p = record {
   of = sub;
   few = omega (arith, size-less v x h, w .few);
   full = λ s cl idle. w .full s (closed-fewer g (add-grows (g .units) x) cl)
       (λ y i. ⊎-elim
-      (λ (e : y ≡ x). subst⁻¹ (Idle (g .neighbours) s) e (record { own = cl .o1 .own x (add-here (g .units) x); near = cl .o1 .near x (add-here (g .units) x) }))
+      (λ (e : y ≡ x). subst⁻¹ (Idle (g .neighbours) s) e
+      (record { own = cl .o1 .own x (add-here (g .units) x); near = cl .o1 .near x (add-here (g .units) x) }))
       (λ (ne : y ≡ x → ⊥). idle y (less-there v x y ne ∙ i))
       (same-or y x));
 }

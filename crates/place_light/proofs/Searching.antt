@@ -86,7 +86,11 @@ module _ {n sites x rest : ℕ} (low : Lowest n sites x) (w : Without sites x re
     way-rest {xs} v = record { rising = later xs (v .rising .2); many = omega (arith, v .many); covers = v .covers }
 
     way-with : {xs : List ℕ} → 0 < k → Way (withUnits g (add (g .units) x)) rest (k - 1) xs → Way g sites k (x ∷ xs)
-    way-with {xs} p v = record { rising = (low .bus .some, low .has, earlier xs (v .rising)); many = omega (arith, v .many); covers = v .covers }
+    way-with {xs} p v = record {
+      rising = (low .bus .some, low .has, earlier xs (v .rising));
+      many = omega (arith, v .many);
+      covers = v .covers;
+    }
 
     -- the first way with x is the first of all
     pub first-take : {m : ℕ} → 0 < k → FirstWay (withUnits g (add (g .units) x)) rest (k - 1) m → FirstWay g sites k (add m x)
@@ -117,7 +121,11 @@ module _ {n sites x rest : ℕ} (low : Lowest n sites x) (w : Without sites x re
             (λ (ne : y ≡ x → ⊥).
             let l = above y (w .there y ne ∙ v .rising .1) in
             record {
-              rising = (v .rising .0, stays y l (v .rising .1), rising-to y y ys (omega arith) (λ z m h. stays z (omega arith) h) (v .rising .2));
+              rising = (
+                v .rising .0,
+                stays y l (v .rising .1),
+                rising-to y y ys (omega arith) (λ z m h. stays z (omega arith) h) (v .rising .2),
+              );
               many = v .many;
               covers = v .covers;
             })

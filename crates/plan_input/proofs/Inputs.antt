@@ -46,14 +46,16 @@ module _ {x : List ℕ} {e : ℕ} (l : length x ≤ mostBytes) (p : PieceEnd 10 
   unfolding readPlan planLines
   no-feed h is = is ∙ sym (rw (le-ltb _ _ l, p .cut, after-none 10 x e h))
 
-  pub asked-by : {a : Asked} {b w : Numeral} → e < length x → b ≡ budgetOf (part x 0 e) → b ≡ w → a ≡ askedWith w (readText 2 (drop (e + 1) x)) → a ≡ readPlan x
+  pub asked-by : {a : Asked} {b w : Numeral} → e < length x → b ≡ budgetOf (part x 0 e) → b ≡ w
+      → a ≡ askedWith w (readText 2 (drop (e + 1) x)) → a ≡ readPlan x
   unfolding readPlan planLines readText
   asked-by h i t is = is ∙ sym (rw (le-ltb _ _ l, p .cut, after-some 10 x e h, ← i, t, add-one e))
 
 -- ---- what is read
 
 -- what holds of the refusals 1 and 2 at line 1 and of the lines from line 2 on
-module _ (P : CaseRead → Type 0) (long : P (refused TextTooLong)) (form : P (refused (WrongForm 1))) (lines : (l : List ℕ) (ms : List (List ℕ)) → length ms < mostBytes → P (readLines start 2 l ms)) where
+module _ (P : CaseRead → Type 0) (long : P (refused TextTooLong)) (form : P (refused (WrongForm 1)))
+    (lines : (l : List ℕ) (ms : List (List ℕ)) → length ms < mostBytes → P (readLines start 2 l ms)) where
   by-budget : (b : Numeral) (r : CaseRead) → P r → P (askedWith b r .read)
   by-budget (Is v) r p = p
   by-budget Wrong r p = form
@@ -67,7 +69,8 @@ module _ (P : CaseRead → Type 0) (long : P (refused TextTooLong)) (form : P (r
   unfolding readPlan
   by-input x = go (ltb mostBytes (length x)) refl
     where
-      go : (b : Bool) → ltb mostBytes (length x) ≡ b → P (cond b (unasked TextTooLong) (planLines (split 10 x .first) (split 10 x .rest)) .read)
+      go : (b : Bool) → ltb mostBytes (length x) ≡ b
+          → P (cond b (unasked TextTooLong) (planLines (split 10 x .first) (split 10 x .rest)) .read)
       go true e = long
       go false e = by-lines (split 10 x .first) (split 10 x .rest) (omega (arith, rest-few 10 x, ltb-false mostBytes (length x) e))
 

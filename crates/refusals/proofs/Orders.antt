@@ -6,7 +6,9 @@ use Prim.Native.Nat.{ℕ, _≤_}
 use native.Mathlib.Omega.{arith}
 use lib.ListN.{getD}
 use Rattle.refusals.specs.declared.Refusal.{Refusal}
-use Rattle.refusals.specs.declared.Refusal.the-variants.{TextTooLong, WrongForm, OutOfRange, OutOfOrder, InvalidCase, NoRoom, NoSuchBus, AlreadyObserved, ReasonFails, OverBudget, NoCover, TooManySteps, NotJoined}
+use Rattle.refusals.specs.declared.Refusal.the-variants.{TextTooLong, WrongForm, OutOfRange, OutOfOrder}
+use Rattle.refusals.specs.declared.Refusal.the-variants.{InvalidCase, NoRoom, NoSuchBus, AlreadyObserved}
+use Rattle.refusals.specs.declared.Refusal.the-variants.{ReasonFails, OverBudget, NoCover, TooManySteps, NotJoined}
 use Rattle.refusals.specs.Refusals.{numberOf, placeOf, Is, Check, Passed, Failed}
 
 -- the refusal with a number and a place

@@ -44,7 +44,8 @@ day-unique text s t = go (readCase text .answer) (readCase text .case)
 
 -- ---- how long it is
 
-text-fits : (count n alone : ℕ) (xs : List Step) → count ≤ width → n ≤ width → alone ≤ width → length xs ≤ width → Each (Names width) xs → length (dayText count n xs alone) ≤ 860
+text-fits : (count n alone : ℕ) (xs : List Step) → count ≤ width → n ≤ width → alone ≤ width → length xs ≤ width → Each (Names width) xs
+    → length (dayText count n xs alone) ≤ 860
 text-fits count n alone xs h k l m e =
     let first = printed (bytes "observed") (numberText count ∷ numberText n ∷ []) in
     let verdict = printed (bytes "xv") (verdictFields alone) in
@@ -74,7 +75,8 @@ report-fits c t v p =
     omega (
       arith,
       ap length (p .is),
-      text-fits (size (p .observed)) (c .n) (size (p .unconfirmed)) (p .steps) (omega arith) most (omega arith) (omega arith) (derivation-named (v .proper) most (p .derived)),
+      text-fits (size (p .observed)) (c .n) (size (p .unconfirmed)) (p .steps) (omega arith) most (omega arith) (omega arith)
+          (derivation-named (v .proper) most (p .derived)),
     )
 
 pub day-fits : (text t : List ℕ) → Day text t → length t ≤ 860

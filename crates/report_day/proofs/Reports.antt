@@ -54,13 +54,24 @@ listed-of : (xs : List Step) → listed (listOf xs) ≡ xs
 listed-of xs = take-append-seam xs (replicate (64 - length xs) noStep)
 
 pub derived-named : {c : Case} {l : StepList} → Valid c → Derives (gridOf c) l → Named l
-derived-named {c} {l} v d = subst⁻¹ Named (d .is) (record { few = few; room = room; named = subst⁻¹ (Each (Names width)) (listed-of xs) (derivation-named (v .proper) (v .buses .most) (d .derived)) })
+derived-named {c} {l} v d =
+    subst⁻¹ Named (d .is) (record {
+      few = few;
+      room = room;
+      named = subst⁻¹ (Each (Names width)) (listed-of xs) (derivation-named (v .proper) (v .buses .most) (d .derived));
+    })
   where
     xs : List Step
     xs = d .steps
 
     few : length xs ≤ width
-    few = omega (arith, derivation-length (gridOf c) xs (d .derived), observed-few (v .proper) (derivation-least (gridOf c) xs (d .derived)), v .buses .most)
+    few =
+        omega (
+          arith,
+          derivation-length (gridOf c) xs (d .derived),
+          observed-few (v .proper) (derivation-least (gridOf c) xs (d .derived)),
+          v .buses .most,
+        )
 
     room : length (xs ++ replicate (64 - length xs) noStep) ≡ width
     room = omega (arith, length-append xs (replicate (64 - length xs) noStep), length-replicate (64 - length xs) noStep, few)
@@ -68,7 +79,8 @@ derived-named {c} {l} v d = subst⁻¹ Named (d .is) (record { few = few; room =
 -- ---- its text
 
 -- the text put is the report: the list has one step for each observed bus
-pub reported : (c : Case) {l : StepList} {alone k : ℕ} → Derives (gridOf c) l → UnconfirmedSet (neighbours (c .nbr)) (setOf (c .units)) alone → Counted width alone k
+pub reported : (c : Case) {l : StepList} {alone k : ℕ} → Derives (gridOf c) l
+    → UnconfirmedSet (neighbours (c .nbr)) (setOf (c .units)) alone → Counted width alone k
     → (t : List ℕ) → IsDay (l .n) (c .n) (listed l) k t → DayReport c t
 reported c {l} {alone} {k} d u counted t e = record {
   observed = reached (d .steps);

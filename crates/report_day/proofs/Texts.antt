@@ -38,7 +38,12 @@ steps-cons x xs = sym (append-snoc (stepText x) lineFeed (stepsText xs))
 pub steps-length : (xs : List Step) → Each (Names width) xs → length (stepsText xs) ≤ 13 * length xs
 steps-length [] e = unfold stepsText in omega arith
 steps-length (x ∷ xs) e =
-    rw (steps-cons x xs) (omega (arith, length-append (stepText x ++ lineFeed ∷ []) (stepsText xs), step-length x (e .0), steps-length xs (e .1)))
+    rw (steps-cons x xs) (omega (
+      arith,
+      length-append (stepText x ++ lineFeed ∷ []) (stepsText xs),
+      step-length x (e .0),
+      steps-length xs (e .1),
+    ))
 
 -- what is left to put after i steps
 unfoldable pub restSteps : StepList → ℕ → List ℕ
@@ -52,7 +57,8 @@ module _ (l : StepList) (h : Named l) where
   nth-is i k = getD-take (l .n) (l .steps) i noStep k ∙ nth-in l i (omega (arith, h .few))
 
   pub nth-named : (i : ℕ) (x : Step) → x ≡ nthOf l i → i < l .n → Names width x
-  nth-named i x e k = subst (Names width) (nth-is i k ∙ sym e) (each-at (Names width) (listed l) i (h .named) (omega (arith, listed-length)))
+  nth-named i x e k =
+      subst (Names width) (nth-is i k ∙ sym e) (each-at (Names width) (listed l) i (h .named) (omega (arith, listed-length)))
 
   pub rest-first : restSteps l 0 ≡ stepsText (listed l)
   rest-first = unfold restSteps in refl

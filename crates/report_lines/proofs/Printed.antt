@@ -17,14 +17,22 @@ use Rattle.report_lines.specs.Printing.{refusedText, Printed, NotPrinted
 use Rattle.text_put.proofs.Whole.{put-whole, put-count}
 
 -- a text that P asks for, counted and then put from the first byte on
-pub put-printed : {P : List ℕ → Type 0} {lent other left right t : List ℕ} {k m : ℕ} → P t → Put other 0 t right m → m ≤ length lent → Put lent 0 t left k → Printed P lent left k
+pub put-printed : {P : List ℕ → Type 0} {lent other left right t : List ℕ} {k m : ℕ} → P t → Put other 0 t right m → m ≤ length lent
+    → Put lent 0 t left k → Printed P lent left k
 put-printed {lent = lent} {t = t} asked counted fits p =
     let room : length t ≤ length lent = omega (arith, put-count counted) in
     record { text = t; asked = asked; room = room; count = put-count p; written = put-whole p room }
 
 -- a text that P asks for, counted, where there is no room for it
-pub not-printed : {P : List ℕ → Type 0} {lent other left t : List ℕ} {k : ℕ} → P t → Put other 0 t left k → length lent < k → NotPrinted P lent lent NoRoom
-not-printed {t = t} asked p more = record { text = t; asked = asked; more = omega (arith, put-count p); refusal = itself NoRoom; kept = refl }
+pub not-printed : {P : List ℕ → Type 0} {lent other left t : List ℕ} {k : ℕ} → P t → Put other 0 t left k → length lent < k
+    → NotPrinted P lent lent NoRoom
+not-printed {t = t} asked p more = record {
+  text = t;
+  asked = asked;
+  more = omega (arith, put-count p);
+  refusal = itself NoRoom;
+  kept = refl;
+}
 
 -- what is printed is within the bytes left
 pub printed-within : {P : List ℕ → Type 0} {lent left : List ℕ} {k : ℕ} → Printed P lent left k → k ≤ length left
@@ -35,13 +43,27 @@ module _ {P : List ℕ → Type 0} (lent left : List ℕ) {r : Written} where
   pub in-bytes : {k : ℕ} → r ≡ Bytes k → PrintedReply P lent left r → Printed P lent left k
   in-bytes e p = rw e at p
 
-  pub no-refusal : {A : Type 0} {q : Refusal} → r ≡ Refused q → PrintedReply P lent left r → ((t : List ℕ) → P t → length t ≤ length lent) → A
+  pub no-refusal : {A : Type 0} {q : Refusal} → r ≡ Refused q → PrintedReply P lent left r → ((t : List ℕ) → P t → length t ≤ length lent)
+      → A
   no-refusal e p fits = let n = rw e at p in absurd (omega (arith, n .more, fits (n .text) (n .asked)))
 
 -- where Q asks for every text that P asks for
-pub printed-by : {P Q : List ℕ → Type 0} → ((t : List ℕ) → P t → Q t) → (lent left : List ℕ) (r : Written) → PrintedReply P lent left r → PrintedReply Q lent left r
-printed-by f lent left (Bytes k) p = record { text = p .text; asked = f (p .text) (p .asked); room = p .room; count = p .count; written = p .written }
-printed-by f lent left (Refused r) p = record { text = p .text; asked = f (p .text) (p .asked); more = p .more; refusal = p .refusal; kept = p .kept }
+pub printed-by : {P Q : List ℕ → Type 0} → ((t : List ℕ) → P t → Q t) → (lent left : List ℕ) (r : Written) → PrintedReply P lent left r
+    → PrintedReply Q lent left r
+printed-by f lent left (Bytes k) p = record {
+  text = p .text;
+  asked = f (p .text) (p .asked);
+  room = p .room;
+  count = p .count;
+  written = p .written;
+}
+printed-by f lent left (Refused r) p = record {
+  text = p .text;
+  asked = f (p .text) (p .asked);
+  more = p .more;
+  refusal = p .refusal;
+  kept = p .kept;
+}
 
 -- a reply, with the bytes that it leaves
 pub record PrintReply : Type 0 where
@@ -50,7 +72,8 @@ pub record PrintReply : Type 0 where
 
 -- where P asks for one text, two replies are equal
 pub printed-unique : {P : List ℕ → Type 0} → ((s t : List ℕ) → P s → P t → s ≡ t) → (lent : List ℕ) (a b : Written) (left right : List ℕ)
-    → PrintedReply P lent left a → PrintedReply P lent right b → _≡_ {A = PrintReply} (record { reply = a; left = left }) (record { reply = b; left = right })
+    → PrintedReply P lent left a → PrintedReply P lent right b
+    → _≡_ {A = PrintReply} (record { reply = a; left = left }) (record { reply = b; left = right })
 printed-unique one lent (Bytes k) (Bytes m) left right p q =
     let e : p .text ≡ q .text = one _ _ (p .asked) (q .asked) in
     let f : Bytes k ≡ Bytes m = ap Bytes (p .count ∙ ap length e ∙ sym (q .count)) in

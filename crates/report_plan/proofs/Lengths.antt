@@ -47,13 +47,15 @@ fewest-few : {g : Grid} {budget m : ℕ} → Fewest g budget m → size m ≤ bu
 fewest-few f = omega (arith, ap size (f .set), size-placed (f .list) empty, size-empty, f .plan .within)
 
 report-fits : (c : Case) (budget : ℕ) (t : List ℕ) → Valid c → PlanReport c budget t → length t ≤ 69
-report-fits c budget t v (found m p f i) = omega (arith, ap length i, text-fits (c .n) m (v .buses .most) (omega (arith, fewest-few f, p .0)))
+report-fits c budget t v (found m p f i) =
+    omega (arith, ap length i, text-fits (c .n) m (v .buses .most) (omega (arith, fewest-few f, p .0)))
 report-fits c budget t v (none q p i) = omega (arith, ap length i, refused-length q)
 
 -- 69 bytes are room for whatever is printed
 pub plan-fits : (input t : List ℕ) → Plan input t → length t ≤ 69
 plan-fits input t = go (readPlan input .read .answer) refl
   where
-    go : (a : ReadAnswer) → readPlan input .read .answer ≡ a → PlanFor a (readPlan input .read .case) (readPlan input .budget) t → length t ≤ 69
+    go : (a : ReadAnswer) → readPlan input .read .answer ≡ a → PlanFor a (readPlan input .read .case) (readPlan input .budget) t
+        → length t ≤ 69
     go Read e p = report-fits (readPlan input .read .case) (readPlan input .budget) t (plan-valid input e) p
     go (Refused q) e p = omega (arith, ap length p, refused-length q)

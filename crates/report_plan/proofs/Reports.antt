@@ -27,8 +27,9 @@ use Rattle.report_plan.specs.Plan.{planText, PlanText, PlanReport, PlanF
 use Rattle.report_plan.specs.Plan.PlanReport.{found, none}
 
 -- the lines of the fewest, put one after another
-pub plan-put : {l m₁ m₂ m₃ m₄ : List ℕ} {k₁ k₂ k₃ k₄ count sites : ℕ} (n : ℕ) → Counted width sites count → Put l 0 (join tab (bytes "fewest") (numberText count ∷ [])) m₁ k₁ → Put m₁ k₁ (lineFeed ∷ []) m₂ k₂ →
-    Put m₂ k₂ (linesText (members Pmu sites 1 n)) m₃ k₃ → Put m₃ k₃ (printed (bytes "end") []) m₄ k₄ → Put l 0 (planText n sites) m₄ k₄
+pub plan-put : {l m₁ m₂ m₃ m₄ : List ℕ} {k₁ k₂ k₃ k₄ count sites : ℕ} (n : ℕ) → Counted width sites count
+    → Put l 0 (join tab (bytes "fewest") (numberText count ∷ [])) m₁ k₁ → Put m₁ k₁ (lineFeed ∷ []) m₂ k₂
+    → Put m₂ k₂ (linesText (members Pmu sites 1 n)) m₃ k₃ → Put m₃ k₃ (printed (bytes "end") []) m₄ k₄ → Put l 0 (planText n sites) m₄ k₄
 plan-put n c p q u e = rw (← c .is) (put-then (put-then p q) (put-then u e))
 
 pub over-budget : {c : Case} {budget : ℕ} → 8 < budget → (t : List ℕ) → RefusedText (OverBudget 1) t → PlanReport c budget t
@@ -43,7 +44,8 @@ module _ (c : Case) (budget : ℕ) {r : Found} (h : budget ≤ 8) (is : FewestIs
   fewest-found e t i = let f = rw e at is in found _ (h, (fewest-some f, tt)) f i
 
 -- what is printed for what was read is what the input asks for
-pub plan-by : (x : List ℕ) {a : Asked} {r : ReadAnswer} → a ≡ readPlan x → a .read .answer ≡ r → (t : List ℕ) → PlanFor r (a .read .case) (a .budget) t → Plan x t
+pub plan-by : (x : List ℕ) {a : Asked} {r : ReadAnswer} → a ≡ readPlan x → a .read .answer ≡ r → (t : List ℕ)
+    → PlanFor r (a .read .case) (a .budget) t → Plan x t
 plan-by x {a} {r} is told t p =
     subst (λ (b : Asked). PlanFor (b .read .answer) (b .read .case) (b .budget) t) is
     (subst⁻¹ (λ (q : ReadAnswer). PlanFor q (a .read .case) (a .budget) t) told p)

@@ -32,9 +32,11 @@ full-covers g l full t cl b bus = omega (arith, l .least t cl b, full b bus)
 -- ---- rising lists
 
 -- another condition, and a lower start
-pub rising-to : {P Q : ℕ → Type 0} (low from : ℕ) (xs : List ℕ) → from ≤ low → ((x : ℕ) → low < x → P x → Q x) → Rising P low xs → Rising Q from xs
+pub rising-to : {P Q : ℕ → Type 0} (low from : ℕ) (xs : List ℕ) → from ≤ low → ((x : ℕ) → low < x → P x → Q x) → Rising P low xs
+    → Rising Q from xs
 rising-to low from [] l h r = tt
-rising-to low from (x ∷ xs) l h r = (omega (arith, r .0), h x (r .0) (r .1), rising-to x x xs (omega arith) (λ y m. h y (omega (arith, r .0))) (r .2))
+rising-to low from (x ∷ xs) l h r =
+    (omega (arith, r .0), h x (r .0) (r .1), rising-to x x xs (omega arith) (λ y m. h y (omega (arith, r .0))) (r .2))
 
 -- a higher start, where P says so
 pub rising-above : {P : ℕ → Type 0} (low : ℕ) (xs : List ℕ) → ((x : ℕ) → P x → low < x) → Rising P 0 xs → Rising P low xs
@@ -44,7 +46,8 @@ rising-above low (x ∷ xs) h r = (h x (r .1), r .1, r .2)
 -- ---- the units with a list of sites
 
 -- what holds of u and of the numbers of a list holds of u with them
-pub placed-of : {P : ℕ → Type 0} (low : ℕ) (xs : List ℕ) (u : ℕ) → Rising P low xs → ((x : ℕ) → In u x → P x) → (x : ℕ) → In (placed u xs) x → P x
+pub placed-of : {P : ℕ → Type 0} (low : ℕ) (xs : List ℕ) (u : ℕ) → Rising P low xs → ((x : ℕ) → In u x → P x) → (x : ℕ) → In (placed u xs) x
+    → P x
 placed-of low [] u r h = h
 placed-of low (x ∷ xs) u r h = placed-of x xs (add u x) (r .2) (add-of u x (r .1) h)
 

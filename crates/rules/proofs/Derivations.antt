@@ -35,7 +35,8 @@ none-after : {g : Grid} {s : ℕ} {ys : List Step} → Finished g s → DerivedF
 none-after f (finished h) = refl
 none-after f (next {x = x} n d) = absurd (f x (n .allowed))
 
-same-after : {g : Grid} {s : ℕ} {ys : List Step} (x : Step) (xs : List Step) → NextIs g s x → ((zs : List Step) → DerivedFrom g (add s (x .bus)) zs → xs ≡ zs)
+same-after : {g : Grid} {s : ℕ} {ys : List Step} (x : Step) (xs : List Step) → NextIs g s x
+    → ((zs : List Step) → DerivedFrom g (add s (x .bus)) zs → xs ≡ zs)
     → DerivedFrom g s ys → x ∷ xs ≡ ys
 same-after x xs n ih (finished f) = absurd (f x (n .allowed))
 same-after {g} x xs n ih (next {s = s} {x = y} {xs = zs} m d) =

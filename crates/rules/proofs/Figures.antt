@@ -1,4 +1,5 @@
--- The firing figure of a bus towards a neighbour: 1 or 0, less the other neighbours that are not observed. So on k + 2 buses it runs from -k
+-- The firing figure of a bus towards a neighbour: 1 or 0, less the other neighbours that are not observed.
+-- So on k + 2 buses it runs from -k
 -- to 1, and it is 1 exactly when the bus and all its other neighbours are observed.
 use mathlib.Core.Path.{_≡_, refl, sym, ap, _∙_, subst⁻¹}
 use mathlib.Core.Logic.{⊎-elim}
@@ -97,7 +98,8 @@ other-neighbours g k s i j v most joined =
     neighbour : (b : ℕ) → In (lack (less (g .neighbours i) j) s) b → In (g .neighbours i) b × (b ≡ j → ⊥)
     neighbour b h =
         let m : In (less (g .neighbours i) j) b = omega (arith, lack-at (less (g .neighbours i) j) s b) in
-        let ne : b ≡ j → ⊥ = λ e. let o : Out (less (g .neighbours i) j) b = subst⁻¹ (Out (less (g .neighbours i) j)) e (less-here (g .neighbours i) j) in omega arith in
+        let ne : b ≡ j → ⊥ = λ e. let o : Out (less (g .neighbours i) j) b = subst⁻¹ (Out (less (g .neighbours i) j)) e (less-here (g .neighbours i) j) in
+        omega arith in
         (omega (arith, less-there (g .neighbours i) j b ne), ne)
 
     no-i : Out (lack (less (g .neighbours i) j) s) i
@@ -105,7 +107,12 @@ other-neighbours g k s i j v most joined =
 
     no-j : Out (add (lack (less (g .neighbours i) j) s) i) j
     no-j =
-        omega (arith, add-there (lack (less (g .neighbours i) j) s) i j (λ e. line .differ (sym e)), lack-at (less (g .neighbours i) j) s j, less-here (g .neighbours i) j)
+        omega (
+          arith,
+          add-there (lack (less (g .neighbours i) j) s) i j (λ e. line .differ (sym e)),
+          lack-at (less (g .neighbours i) j) s j,
+          less-here (g .neighbours i) j,
+        )
 
     within : Within (g .n) (add (add (lack (less (g .neighbours i) j) s) i) j)
     within =

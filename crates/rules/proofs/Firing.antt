@@ -12,7 +12,8 @@ use Rattle.rules.specs.Observation.{AllBut, Fired}
 only-lack : (m s b : ℕ) → In m b → AllBut m b s → Out s b → size (lack m s) ≡ 1
 only-lack m s b h others o =
     size-single (lack m s) b (omega (arith, lack-at m s b))
-    (λ a ne. ⊎-elim (λ (p : In m a). omega (arith, lack-at m s a, others a p ne)) (λ (p : Out m a). omega (arith, lack-at m s a)) (in-or m a))
+    (λ a ne. ⊎-elim (λ (p : In m a). omega (arith, lack-at m s a, others a p ne)) (λ (p : Out m a). omega (arith, lack-at m s a))
+    (in-or m a))
 
 -- where s does not lack exactly one, there is nothing to give
 pub fired-by : (m s : ℕ) → (size (lack m s) ≡ 1 → ⊥) → Fired m s

@@ -1,4 +1,5 @@
--- Accepted lists: they stay inside every closed set; a finished one reaches the observed set; and they have as many steps as they reach buses.
+-- Accepted lists: they stay inside every closed set; a finished one reaches the observed set;
+-- and they have as many steps as they reach buses.
 use mathlib.Core.Path.{_≡_, ap, _∙_}
 use mathlib.Core.List.{List, [], _∷_}
 use mathlib.Core.Logic.{⊎-elim}
@@ -26,7 +27,8 @@ pub stays-inside : (g : Grid) (s t : ℕ) (xs : List Step) → Closed g t → Su
 stays-inside g s t [] cl sub p = sub
 stays-inside g s t (x ∷ xs) cl sub p =
     stays-inside g (add s (x .bus)) t xs cl
-    (add-sub s t (x .bus) sub (closed-reasoned g t cl (x .bus) (x .reason) (holds-more g s t (x .bus) sub (x .reason) (p .0 .holds)))) (p .1)
+    (add-sub s t (x .bus) sub (closed-reasoned g t cl (x .bus) (x .reason) (holds-more g s t (x .bus) sub (x .reason) (p .0 .holds))))
+    (p .1)
 
 pub accepted-inside : (g : Grid) (t : ℕ) (xs : List Step) → Closed g t → Accepted g xs → Sub (reached xs) t
 accepted-inside g t xs cl p = stays-inside g empty t xs cl (empty-sub t) p

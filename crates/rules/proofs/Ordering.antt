@@ -26,7 +26,8 @@ earlier-antisym xs ys (inr l) (inr m) = before-antisym xs ys (l .1) (m .1)
 -- the sites of the fewest are one set
 pub fewest-set-unique : {g : Grid} {budget m k : ℕ} → Fewest g budget m → Fewest g budget k → m ≡ k
 fewest-set-unique p q =
-    p .set ∙ ap (placed empty) (earlier-antisym (p .list) (q .list) (p .first (q .list) (q .plan)) (q .first (p .list) (p .plan))) ∙ sym (q .set)
+    p .set ∙ ap (placed empty) (earlier-antisym (p .list) (q .list) (p .first (q .list) (q .plan)) (q .first (p .list) (p .plan)))
+    ∙ sym (q .set)
 
 -- where there is a fewest, some addition within the budget covers
 pub fewest-some : {g : Grid} {budget m : ℕ} → Fewest g budget m → SomePlan g budget

@@ -1,4 +1,5 @@
--- Demand 3: weaving any shuffle of lists that are each accepted alone. No reason is named here: that one goes on holding is all that is used.
+-- Demand 3: weaving any shuffle of lists that are each accepted alone.
+-- No reason is named here: that one goes on holding is all that is used.
 use mathlib.Core.Path.{_≡_, refl, subst, subst⁻¹}
 use mathlib.Core.List.{List, [], _∷_}
 use mathlib.Core.Logic.{_⊎_, inl, inr, ⊎-elim}
@@ -45,7 +46,8 @@ taken-first g s (there {x = x} {xs = xs} k) w =
     let f = taken-first g s k (w .1) in
     (f .0, (weavable-more g s (add s (x .bus)) xs (add-grows s (x .bus)) (w .0), f .1))
 
-shuffle-weavable : (g : Grid) (s : ℕ) {xss : List (List Step)} {zs : List Step} → Shuffle xss zs → Each (WeavableFrom g s) xss → WeavableFrom g s zs
+shuffle-weavable : (g : Grid) (s : ℕ) {xss : List (List Step)} {zs : List Step} → Shuffle xss zs → Each (WeavableFrom g s) xss
+    → WeavableFrom g s zs
 shuffle-weavable g s (none e) w = tt
 shuffle-weavable g s (next {x = x} k r) w =
     let f = taken-first g s k w in
@@ -54,16 +56,20 @@ shuffle-weavable g s (next {x = x} k r) w =
 -- ---- what is written
 
 -- what is written is accepted, and reaches what the received list names
-written : (g : Grid) (s : ℕ) (xs : List Step) → WeavableFrom g s xs → AcceptedFrom g s (wovenFrom s xs) × (reachedFrom s (wovenFrom s xs) ≡ reachedFrom s xs)
+written : (g : Grid) (s : ℕ) (xs : List Step) → WeavableFrom g s xs
+    → AcceptedFrom g s (wovenFrom s xs) × (reachedFrom s (wovenFrom s xs) ≡ reachedFrom s xs)
 written g s [] w = (tt, refl)
 written g s (x ∷ xs) w = go (bit s (x .bus)) refl (written g (add s (x .bus)) xs (w .1))
   where
     go : (d : ℕ) → bit s (x .bus) ≡ d
-        → AcceptedFrom g (add s (x .bus)) (wovenFrom (add s (x .bus)) xs) × (reachedFrom (add s (x .bus)) (wovenFrom (add s (x .bus)) xs) ≡ reachedFrom (add s (x .bus)) xs)
-        → AcceptedFrom g s (unlessSeen d x (wovenFrom (add s (x .bus)) xs)) × (reachedFrom s (unlessSeen d x (wovenFrom (add s (x .bus)) xs)) ≡ reachedFrom (add s (x .bus)) xs)
+        → AcceptedFrom g (add s (x .bus)) (wovenFrom (add s (x .bus)) xs)
+        × (reachedFrom (add s (x .bus)) (wovenFrom (add s (x .bus)) xs) ≡ reachedFrom (add s (x .bus)) xs)
+        → AcceptedFrom g s (unlessSeen d x (wovenFrom (add s (x .bus)) xs))
+        × (reachedFrom s (unlessSeen d x (wovenFrom (add s (x .bus)) xs)) ≡ reachedFrom (add s (x .bus)) xs)
     go zero e ih = ((record { new = e; holds = w .0 e }, ih .0), ih .1)
     go (suc d) e ih =
-        subst (λ (t : ℕ). AcceptedFrom g t (wovenFrom (add s (x .bus)) xs) × (reachedFrom t (wovenFrom (add s (x .bus)) xs) ≡ reachedFrom (add s (x .bus)) xs))
+        subst (λ (t : ℕ). AcceptedFrom g t (wovenFrom (add s (x .bus)) xs)
+        × (reachedFrom t (wovenFrom (add s (x .bus)) xs) ≡ reachedFrom (add s (x .bus)) xs))
         (add-again s (x .bus) (omega arith)) ih
 
 -- ---- the buses that a list names are those that it reaches
@@ -75,7 +81,8 @@ reached-for : (s b : ℕ) (xs : List Step) → In (reachedFrom s xs) b → In s 
 reached-for s b [] h = inl h
 reached-for s b (x ∷ xs) h =
     ⊎-elim
-    (λ (p : In (add s (x .bus)) b). add-of {P = λ a. In s a ⊎ ((x .bus ≡ a) ⊎ Some (For b) xs)} s (x .bus) (inr (inl refl)) (λ a m. inl m) b p)
+    (λ (p : In (add s (x .bus)) b). add-of {P = λ a. In s a ⊎ ((x .bus ≡ a) ⊎ Some (For b) xs)} s (x .bus)
+    (inr (inl refl)) (λ a m. inl m) b p)
     (λ (p : Some (For b) xs). inr (inr p))
     (reached-for (add s (x .bus)) b xs h)
 
@@ -134,12 +141,14 @@ each-to [] f p = tt
 each-to (xs ∷ xss) f p = (f xs (p .0), each-to xss f (p .1))
 
 -- a set that has what each desk reached holds each of those sets
-each-inside : (r : ℕ) (xss : List (List Step)) → ((b : ℕ) → Some (λ xs. In (reached xs) b) xss → In r b) → Each (λ xs. Sub (reached xs) r) xss
+each-inside : (r : ℕ) (xss : List (List Step)) → ((b : ℕ) → Some (λ xs. In (reached xs) b) xss → In r b)
+    → Each (λ xs. Sub (reached xs) r) xss
 each-inside r [] h = tt
 each-inside r (xs ∷ xss) h = (sub-of (reached xs) r (λ b p. h b (inl p)), each-inside r xss (λ b q. h b (inr q)))
 
 -- what follows for any desk follows where something holds of one of them
-meets : {P Q R : List Step → Type 0} {S : Type 0} (xss : List (List Step)) → Each P xss → Each Q xss → ((xs : List Step) → P xs → Q xs → R xs → S) → Some R xss → S
+meets : {P Q R : List Step → Type 0} {S : Type 0} (xss : List (List Step)) → Each P xss → Each Q xss
+    → ((xs : List Step) → P xs → Q xs → R xs → S) → Some R xss → S
 meets (xs ∷ xss) p q f (inl r) = f xs (p .0) (q .0) r
 meets (xs ∷ xss) p q f (inr r) = meets xss (p .1) (q .1) f r
 
@@ -160,7 +169,8 @@ pub record Woven (g : Grid) (desks : List (List Step)) (received : List Step) : 
   pub least : Some (λ xs. Finished g (reached xs)) desks → ObservedSet g (reached (woven received))
 
 -- demand 3, for any number of desks
-pub weaving-shuffles : (g : Grid) (desks : List (List Step)) (received : List Step) → Each (Accepted g) desks → Shuffle desks received → Woven g desks received
+pub weaving-shuffles : (g : Grid) (desks : List (List Step)) (received : List Step) → Each (Accepted g) desks → Shuffle desks received
+    → Woven g desks received
 weaving-shuffles g desks received ok sh = record {
   weavable = fine;
   accepted = out .0;
@@ -182,7 +192,8 @@ weaving-shuffles g desks received ok sh = record {
         subst⁻¹ (λ (t : ℕ). In t b) (out .1)
         (for-reached empty b received
         (shuffle-from (For b) sh
-        (some-to desks (λ xs p. ⊎-elim (λ (q : In empty b). absurd (omega (arith, bit-zero b))) (λ (q : Some (For b) xs). q) (reached-for empty b xs p)) h)))
+        (some-to desks (λ xs p. ⊎-elim (λ (q : In empty b). absurd (omega (arith, bit-zero b))) (λ (q : Some (For b) xs). q)
+        (reached-for empty b xs p)) h)))
 
     only : (b : ℕ) → In (reached (woven received)) b → Some (λ xs. In (reached xs) b) desks
     only b h =
@@ -192,7 +203,8 @@ weaving-shuffles g desks received ok sh = record {
         (reached-for empty b received (subst (λ (t : ℕ). In t b) (out .1) h))
 
     -- all stay inside what the finished desk reached
-    finished : (xs : List Step) → Accepted g xs → Sub (reached xs) (reached (woven received)) → Finished g (reached xs) → ObservedSet g (reached (woven received))
+    finished : (xs : List Step) → Accepted g xs → Sub (reached xs) (reached (woven received)) → Finished g (reached xs)
+        → ObservedSet g (reached (woven received))
     finished xs p sub f =
         let l = finished-least g xs p f in
         subst (ObservedSet g)

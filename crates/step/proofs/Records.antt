@@ -13,10 +13,12 @@ pub put-long : (k : ℕ) (told : ℕ → Step) (before : List Step) → length (
 put-long zero told before = refl
 put-long (suc k) told before = length-set (putFirst k told before) k (told k) ∙ put-long k told before
 
-pub put-next : (k : ℕ) (told : ℕ → Step) (before : List Step) (x : Step) → x ≡ told k → set (putFirst k told before) k x ≡ putFirst (k + 1) told before
+pub put-next : (k : ℕ) (told : ℕ → Step) (before : List Step) (x : Step) → x ≡ told k
+    → set (putFirst k told before) k x ≡ putFirst (k + 1) told before
 put-next k told before x e = ap (set (putFirst k told before) k) e ∙ ap (λ (j : ℕ). putFirst j told before) (sym (add-one k))
 
-put-written : (xs before : List Step) (told : ℕ → Step) (k : ℕ) → ((i : ℕ) → i < k → told i ≡ getD xs i noStep) → k ≤ length xs → k ≤ length before
+put-written : (xs before : List Step) (told : ℕ → Step) (k : ℕ) → ((i : ℕ) → i < k → told i ≡ getD xs i noStep) → k ≤ length xs
+    → k ≤ length before
     → Written xs before (putFirst k told before) k
 put-written xs before told zero is few fits = written-none xs before
 put-written xs before told (suc k) is few fits =
@@ -25,6 +27,7 @@ put-written xs before told (suc k) is few fits =
     (written-more noStep (put-written xs before told k (λ i l. is i (omega arith)) (omega arith) (omega arith)) few fits))
 
 -- the first k records hold the first k steps of xs, and the others what they held
-pub put-first : (xs before : List Step) (told : ℕ → Step) (k : ℕ) → ((i : ℕ) → i < k → told i ≡ getD xs i noStep) → k ≤ length xs → k ≤ length before
+pub put-first : (xs before : List Step) (told : ℕ → Step) (k : ℕ) → ((i : ℕ) → i < k → told i ≡ getD xs i noStep) → k ≤ length xs
+    → k ≤ length before
     → putFirst k told before ≡ take k xs ++ drop k before
 put-first xs before told k is few fits = put-written xs before told k is few fits .is

@@ -16,8 +16,12 @@ pub written-none : {A : Type 0} (list lent : List A) → Written list lent lent 
 written-none list lent = record { is = cc; long = cc }
 
 -- d is whatever stands past the end of a list
-pub written-more : {A : Type 0} (d : A) {list lent room : List A} {i : ℕ} → Written list lent room i → i < length list → i < length lent → Written list lent (set room i (getD list i d)) (i + 1)
-written-more {A} d {list} {lent} {room} {i} w hl hr = record { is = ap (λ (r : List A). set r i (getD list i d)) (w .is) ∙ turn ∙ ap (λ (k : ℕ). take k list ++ drop k lent) (sym (add-one i)); long = simp length-set (w .long) }
+pub written-more : {A : Type 0} (d : A) {list lent room : List A} {i : ℕ} → Written list lent room i → i < length list → i < length lent
+    → Written list lent (set room i (getD list i d)) (i + 1)
+written-more {A} d {list} {lent} {room} {i} w hl hr = record {
+  is = ap (λ (r : List A). set r i (getD list i d)) (w .is) ∙ turn ∙ ap (λ (k : ℕ). take k list ++ drop k lent) (sym (add-one i));
+  long = simp length-set (w .long);
+}
   where
     turn : set (take i list ++ drop i lent) i (getD list i d) ≡ take (suc i) list ++ drop (suc i) lent
     turn =

@@ -22,7 +22,8 @@ use Rattle.refusals.specs.declared.Refusal.{Refusal}
 use Rattle.refusals.specs.declared.Refusal.the-variants.{TextTooLong, OutOfRange, TooManySteps}
 use Rattle.case_judge.specs.Judging.{isBus}
 use Rattle.case_judge.proofs.Judged.{inside, apart}
-use Rattle.step_text.specs.Steps.{reasonInRange, stepInRange, ended, lineSaid, stepLines, readSteps, andSteps, stepsIn, stepsFrom, stepsOf}
+use Rattle.step_text.specs.Steps.{reasonInRange, stepInRange, ended, lineSaid, stepLines}
+use Rattle.step_text.specs.Steps.{readSteps, andSteps, stepsIn, stepsFrom, stepsOf}
 use Rattle.step_text.specs.declared.StepsRead.{StepsRead}
 use Rattle.step_text.specs.declared.StepsRead.the-variants.{Steps, Refused}
 
@@ -52,7 +53,8 @@ found-end k n [] (m ∷ ms) h l e = absurd (not-steps _ e)
 found-end k n (b ∷ m) ms h l e = absurd (not-steps _ e)
 
 found-step : (k n : ℕ) (x : Step) (xs : List Step) (on : StepsRead) (a b : Bool) → stepInRange x ≡ a → ltb mostSteps k ≡ b →
-    cond a (cond b (Refused (TooManySteps k)) on) (Refused (OutOfRange k)) ≡ Steps n → (k ≤ mostSteps → on ≡ Steps n → Found (k + 1) n xs) → Found k n (x ∷ xs)
+    cond a (cond b (Refused (TooManySteps k)) on) (Refused (OutOfRange k)) ≡ Steps n → (k ≤ mostSteps → on ≡ Steps n → Found (k + 1) n xs)
+    → Found k n (x ∷ xs)
 found-step k n x xs on true true p q e ih = absurd (not-steps _ e)
 found-step k n x xs on true false p q e ih =
     let f = ih (ltb-false mostSteps k q) e in
@@ -65,18 +67,21 @@ found-line k n (StepOf x) m ms xs on h l e ih = found-step k n x xs on (stepInRa
 found-line k n End m ms xs on h l e ih = found-end k n m ms h l e
 found-line k n Wrong m ms xs on h l e ih = absurd (not-steps _ e)
 
-found-lines : (ps : List (List ℕ)) (k n : ℕ) (l : List ℕ) → 1 ≤ k → k ≤ mostSteps + 1 → stepLines k l ps ≡ Steps n → Found k n (stepsIn l ps)
+found-lines : (ps : List (List ℕ)) (k n : ℕ) (l : List ℕ) → 1 ≤ k → k ≤ mostSteps + 1 → stepLines k l ps ≡ Steps n
+    → Found k n (stepsIn l ps)
 unfolding stepLines stepsIn
 found-lines [] k n l h b e = absurd (not-steps _ e)
 found-lines (m ∷ ms) k n l h b e =
-    found-line k n (stepLineOf l) m ms (stepsIn m ms) (stepLines (k + 1) m ms) h b e (λ g f. found-lines ms (k + 1) n m (omega arith) (omega arith) f)
+    found-line k n (stepLineOf l) m ms (stepsIn m ms) (stepLines (k + 1) m ms) h b e
+    (λ g f. found-lines ms (k + 1) n m (omega arith) (omega arith) f)
 
 -- a text found to have n steps
 pub steps-found : (text : List ℕ) (n : ℕ) → readSteps text ≡ Steps n → Found 1 n (stepsOf text)
 unfolding readSteps stepsFrom
 steps-found text n e = go (ltb mostStepBytes (length text)) e
   where
-    go : (b : Bool) → cond b (Refused TextTooLong) (stepLines 1 (split 10 text .first) (split 10 text .rest)) ≡ Steps n → Found 1 n (stepsOf text)
+    go : (b : Bool) → cond b (Refused TextTooLong) (stepLines 1 (split 10 text .first) (split 10 text .rest)) ≡ Steps n
+        → Found 1 n (stepsOf text)
     go true e = absurd (not-steps _ e)
     go false e = found-lines (split 10 text .rest) 1 n (split 10 text .first) (omega arith) (omega arith) e
 

@@ -26,7 +26,8 @@ PlacedBy m (Steps n) = Unit {0}
 PlacedBy m (Refused q) = placeOf q ≤ m
 
 -- a step that is out of range, or one too many
-step-placed : (m k : ℕ) (a b : Bool) (on : StepsRead) → k ≤ m → PlacedBy m on → PlacedBy m (cond a (cond b (Refused (TooManySteps k)) on) (Refused (OutOfRange k)))
+step-placed : (m k : ℕ) (a b : Bool) (on : StepsRead) → k ≤ m → PlacedBy m on
+    → PlacedBy m (cond a (cond b (Refused (TooManySteps k)) on) (Refused (OutOfRange k)))
 step-placed m k true true on h p = h
 step-placed m k true false on h p = p
 step-placed m k false b on h p = h
@@ -52,7 +53,8 @@ text-placed : (text : List ℕ) → PlacedBy (1 + mostStepBytes) (readSteps text
 unfolding readSteps
 text-placed text = go (ltb mostStepBytes (length text)) refl
   where
-    go : (b : Bool) → ltb mostStepBytes (length text) ≡ b → PlacedBy (1 + mostStepBytes) (cond b (Refused TextTooLong) (stepLines 1 (split lineFeed text .first) (split lineFeed text .rest)))
+    go : (b : Bool) → ltb mostStepBytes (length text) ≡ b
+        → PlacedBy (1 + mostStepBytes) (cond b (Refused TextTooLong) (stepLines 1 (split lineFeed text .first) (split lineFeed text .rest)))
     go true e = omega arith
     go false e =
         lines-placed (1 + mostStepBytes) (split lineFeed text .rest) 1 (split lineFeed text .first)

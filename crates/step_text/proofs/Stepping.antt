@@ -50,7 +50,8 @@ module _ {text : List ℕ} {k at e : ℕ} (g : Going text k at) (p : PieceEnd 10
   no-feed h = sym (g .is ∙ rw (p .cut, after-none 10 text e h))
 
   module _ {r w : StepLine} (h : e < length text) (ri : r ≡ stepLineOf (part text at e)) (told : r ≡ w) where
-    pub line-said : {x : StepsRead} → x ≡ lineSaid w k (from (k + 1) (drop (e + 1) text)) (ending k (drop (e + 1) text)) → x ≡ readSteps text
+    pub line-said : {x : StepsRead} → x ≡ lineSaid w k (from (k + 1) (drop (e + 1) text)) (ending k (drop (e + 1) text))
+        → x ≡ readSteps text
     unfolding stepLines
     line-said xi = xi ∙ sym (g .is ∙ rw (p .cut, after-some 10 text e h, ← ri, told, add-one e))
 
@@ -76,7 +77,8 @@ module _ {text : List ℕ} {a e : ℕ} (p : PieceEnd 10 text a e) where
   unfolding stepsFrom stepsIn
   steps-none h = rw (p .cut, after-none 10 text e h)
 
-  pub steps-said : {r w : StepLine} {xs : List Step} → e < length text → r ≡ stepLineOf (part text a e) → r ≡ w → andSteps w (stepsFrom text (e + 1)) ≡ xs → stepsFrom text a ≡ xs
+  pub steps-said : {r w : StepLine} {xs : List Step} → e < length text → r ≡ stepLineOf (part text a e) → r ≡ w
+      → andSteps w (stepsFrom text (e + 1)) ≡ xs → stepsFrom text a ≡ xs
   unfolding stepsFrom stepsIn
   steps-said h ri told xi = rw (p .cut, after-some 10 text e h, ← ri, told, ← add-one e) xi
 

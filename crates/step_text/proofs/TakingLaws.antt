@@ -35,10 +35,12 @@ past text a l = let h : length text ≤ a = omega arith in rw (drop-of-length-le
 pub takes-past : {text : List ℕ} {a : ℕ} → length text < a → Takes text a (record { step = noStep; next = a })
 takes-past {text} {a} l = takes-none (past text a l)
 
-pub takes-nothing : {text : List ℕ} {a : ℕ} {r : NextStep} → StepAt text a r → r ≡ Nothing → Takes text a (record { step = noStep; next = a })
+pub takes-nothing : {text : List ℕ} {a : ℕ} {r : NextStep} → StepAt text a r → r ≡ Nothing
+    → Takes text a (record { step = noStep; next = a })
 takes-nothing {text} {a} p t = takes-none (subst (StepAt text a) t p)
 
-pub takes-step : {text : List ℕ} {a : ℕ} {r : NextStep} {x : Step} {e : ℕ} → StepAt text a r → r ≡ At x e → Takes text a (record { step = x; next = e })
+pub takes-step : {text : List ℕ} {a : ℕ} {r : NextStep} {x : Step} {e : ℕ} → StepAt text a r → r ≡ At x e
+    → Takes text a (record { step = x; next = e })
 takes-step {text} {a} {r} {x} {e} p t =
     let h : StepHere text a x e = subst (StepAt text a) t p in
     record { step = sym (ap (λ (xs : List Step). getD xs 0 noStep) (h .steps)); rest = sym (ap (drop 1) (h .steps)) }
@@ -76,14 +78,16 @@ abbrev pub placed : List Step → ℕ → Step
 placed xs i = getD xs i noStep
 
 -- where i steps of xs are taken, the next is the one at i, and those after it are left
-pub takes-next : {text : List ℕ} {a : ℕ} {r : Taken} (i : ℕ) (xs : List Step) → stepsFrom text a ≡ drop i xs → Takes text a r → (r .step ≡ placed xs i) × (stepsFrom text (r .next) ≡ drop (i + 1) xs)
+pub takes-next : {text : List ℕ} {a : ℕ} {r : Taken} (i : ℕ) (xs : List Step) → stepsFrom text a ≡ drop i xs → Takes text a r
+    → (r .step ≡ placed xs i) × (stepsFrom text (r .next) ≡ drop (i + 1) xs)
 takes-next i xs e t = (
   t .step ∙ ap (λ (l : List Step). placed l 0) e ∙ getD-drop i xs 0 noStep ∙ ap (placed xs) (omega arith),
   t .rest ∙ ap (drop 1) e ∙ drop-drop 1 i xs,
 )
 
 -- the reply, where as many of the text's steps are put into the records as it says
-pub read-law : (text : List ℕ) (before : List Step) (r : StepsRead) → r ≡ withRoom (length before) (readSteps text) → StepsReadReply text before (putFirst (countOf r) (placed (stepsOf text)) before) r
+pub read-law : (text : List ℕ) (before : List Step) (r : StepsRead) → r ≡ withRoom (length before) (readSteps text)
+    → StepsReadReply text before (putFirst (countOf r) (placed (stepsOf text)) before) r
 read-law text before r e = (e, go r e)
   where
     xs : List Step

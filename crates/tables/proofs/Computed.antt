@@ -20,7 +20,9 @@ pub record Observed (d : Drawing) (s : ℕ) : Type 0 where
 
 -- from two tests, where the list that derives the set is found
 observed : (d : Drawing) (s : ℕ) → validTest (caseOf d) ≡ 0 → leastTest (grid d) (derived (grid d)) s ≡ 0 → Observed d s
-observed d s v e = let ok : Valid (caseOf d) = valid-passes (caseOf d) v in record { valid = ok; least = least-passes (grid d) (derived (grid d)) s (ok .proper) e }
+observed d s v e =
+    let ok : Valid (caseOf d) = valid-passes (caseOf d) v in
+    record { valid = ok; least = least-passes (grid d) (derived (grid d)) s (ok .proper) e }
 
 -- those that the tables speak of
 pub record Known : Type 0 where
@@ -41,7 +43,8 @@ pub record Known : Type 0 where
   pub lone1 : Observed lone (set (1 ∷ []))
 
 pub known : Known
-unfolding validTest withinTest rowTest leastTest acceptedTest holdsTest closedTest subTest isOne gap given total neighbours setOf upTo less lack add ones onesIn pick reasonFor reasonAt stepFor passFrom extended derive
+unfolding validTest withinTest rowTest leastTest acceptedTest holdsTest closedTest subTest isOne gap given total neighbours setOf upTo less
+    lack add ones onesIn pick reasonFor reasonAt stepFor passFrom extended derive
 known = record {
   none = observed (seven []) (set []) refl refl;
   at2 = observed (seven (2 ∷ [])) (set (1 ∷ 2 ∷ 3 ∷ [])) refl refl;

@@ -39,7 +39,8 @@ confirm-right =
     & tt
 
 -- the units of a drawing that no other unit confirms
-alone : (d : Drawing) (s : ℕ) → validTest (caseOf d) ≡ 0 → withinTest (d .n) s ≡ 0 → unconfirmedTest (grid d) (setOf s) ≡ 0 → UnconfirmedSet (grid d .neighbours) (grid d .units) (setOf s)
+alone : (d : Drawing) (s : ℕ) → validTest (caseOf d) ≡ 0 → withinTest (d .n) s ≡ 0 → unconfirmedTest (grid d) (setOf s) ≡ 0
+    → UnconfirmedSet (grid d .neighbours) (grid d .units) (setOf s)
 unfolding withinTest
 alone d s v w e = unconfirmed-passes (grid d) (valid-passes (caseOf d) v .proper) (setOf s) (λ b h. set-bus (d .n) b (omega arith) h) e
 

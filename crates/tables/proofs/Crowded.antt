@@ -30,7 +30,9 @@ total-same (suc n) f g e = ap₂ _+_ (total-same n f g e) (e (suc n))
 -- how many lines there are, counted so
 counted : (n : ℕ) (nbr : ℕ → ℕ) → lineCount n nbr ≡ total n (λ b. onesIn (suc b) (upTo b (nbr b)))
 unfolding upTo
-counted n nbr = total-same n (λ b. size (upTo b (nbr b))) (λ b. onesIn (suc b) (upTo b (nbr b))) (λ b. ones-in (suc b) (upTo b (nbr b)) (mod-lt (nbr b) (pow-pos (suc b))))
+counted n nbr =
+    total-same n (λ b. size (upTo b (nbr b))) (λ b. onesIn (suc b) (upTo b (nbr b)))
+    (λ b. ones-in (suc b) (upTo b (nbr b)) (mod-lt (nbr b) (pow-pos (suc b))))
 
 lines-3 : lineCount 24 (neighbours (crowd 3 .nbr)) ≡ 256
 unfolding total onesIn upTo neighbours setOf

@@ -40,7 +40,8 @@ reason-passes g s b (ZeroInjection w) o e = record {
 
 pub allowed-passes : (g : Grid) (s : ℕ) (x : Step) → allowedTest g s x ≡ 0 → Allowed g s x
 unfolding allowedTest
-allowed-passes g s x e = let o : Out s (x .bus) = omega arith in record { new = o; holds = reason-passes g s (x .bus) (x .reason) o (omega arith) }
+allowed-passes g s x e =
+    let o : Out s (x .bus) = omega arith in record { new = o; holds = reason-passes g s (x .bus) (x .reason) o (omega arith) }
 
 -- ---- steps that are not
 
@@ -81,11 +82,13 @@ not-below p q l h = ⊎-elim (λ (m : q < p). absurd (h (record { some = l; most
 module _ (g : Grid) (v : Proper g) where
   no-unit : (s b k p : ℕ) → noUnit g s b k ≡ 0 → Bus k p → Holds g s b (NeighbourOf p) → ⊥
   unfolding noUnit
-  no-unit s b k p e h r = omega (arith, total-none k (λ p. 1 - holdsTest g s b (NeighbourOf p)) e p h, holds-tests g s b v (NeighbourOf p) r)
+  no-unit s b k p e h r =
+      omega (arith, total-none k (λ p. 1 - holdsTest g s b (NeighbourOf p)) e p h, holds-tests g s b v (NeighbourOf p) r)
 
   no-zero : (s b k w : ℕ) → noZero g s b k ≡ 0 → Bus k w → Holds g s b (ZeroInjection w) → ⊥
   unfolding noZero
-  no-zero s b k w e h r = omega (arith, total-none k (λ w. 1 - holdsTest g s b (ZeroInjection w)) e w h, holds-tests g s b v (ZeroInjection w) r)
+  no-zero s b k w e h r =
+      omega (arith, total-none k (λ w. 1 - holdsTest g s b (ZeroInjection w)) e w h, holds-tests g s b v (ZeroInjection w) r)
 
   no-own : (s b : ℕ) → 1 - holdsTest g s b OwnUnit ≡ 0 → Holds g s b OwnUnit → ⊥
   no-own s b e r = omega (arith, holds-tests g s b v OwnUnit r)
@@ -96,13 +99,15 @@ module _ (g : Grid) (v : Proper g) where
       let z = given-out (bit s b) ((1 - holdsTest g s b OwnUnit) + noUnit g s b (g .n) + noZero g s b (g .n)) o e in
       go r (holds-names g s b v r h) h (omega arith) (omega arith) (omega arith)
     where
-      go : (r : Reason) → ReasonNames (g .n) r → Holds g s b r → 1 - holdsTest g s b OwnUnit ≡ 0 → noUnit g s b (g .n) ≡ 0 → noZero g s b (g .n) ≡ 0 → ⊥
+      go : (r : Reason) → ReasonNames (g .n) r → Holds g s b r → 1 - holdsTest g s b OwnUnit ≡ 0 → noUnit g s b (g .n) ≡ 0
+          → noZero g s b (g .n) ≡ 0 → ⊥
       go OwnUnit n h x y z = no-own s b x h
       go (NeighbourOf p) n h x y z = no-unit s b (g .n) p y n h
       go (ZeroInjection w) n h x y z = no-zero s b (g .n) w z n h
 
   finished-passes : (s : ℕ) → total (g .n) (noReason g s) ≡ 0 → Finished g s
-  finished-passes s e x a = no-reason s (x .bus) (x .reason) (total-none (g .n) (noReason g s) e (x .bus) (allowed-bus v a)) (a .new) (a .holds)
+  finished-passes s e x a =
+      no-reason s (x .bus) (x .reason) (total-none (g .n) (noReason g s) e (x .bus) (allowed-bus v a)) (a .new) (a .holds)
 
   first-passes : (s b : ℕ) (r q : Reason) → noSooner g s b r ≡ 0 → ReasonNames (g .n) q → Holds g s b q → TakenFirst r q
   unfolding noSooner
@@ -118,8 +123,13 @@ module _ (g : Grid) (v : Proper g) where
   unfolding nextTest
   next-passes s x e = record {
     allowed = allowed-passes g s x (omega arith);
-    lowest = λ y a. not-below (x .bus) (y .bus) (allowed-bus v a .some) (λ l. no-reason s (y .bus) (y .reason) (total-none (x .bus - 1) (noReason g s) (omega arith) (y .bus) l) (a .new) (a .holds));
-    first = λ y a q. let h : Holds g s (x .bus) (y .reason) = subst (λ (b : ℕ). Holds g s b (y .reason)) q (a .holds) in first-passes s (x .bus) (x .reason) (y .reason) (omega arith) (holds-names g s (x .bus) v (y .reason) h) h;
+    lowest =
+        λ y a. not-below (x .bus) (y .bus) (allowed-bus v a .some)
+        (λ l. no-reason s (y .bus) (y .reason) (total-none (x .bus - 1) (noReason g s) (omega arith) (y .bus) l) (a .new) (a .holds));
+    first =
+        λ y a q. let h : Holds g s (x .bus) (y .reason) =
+        subst (λ (b : ℕ). Holds g s b (y .reason)) q (a .holds) in
+        first-passes s (x .bus) (x .reason) (y .reason) (omega arith) (holds-names g s (x .bus) v (y .reason) h) h;
   }
 
   pub derived-passes : (s : ℕ) (xs : List Step) → derivedTest g s xs ≡ 0 → DerivedFrom g s xs

@@ -17,7 +17,9 @@ use Rattle.rules.proofs.Covering.{covers-full, full-covers}
 use Rattle.rules.proofs.Leasts.{least-unique}
 use Rattle.rules.proofs.Ordering.{before-antisym, earlier-antisym, fewest-set-unique, fewest-some}
 use Rattle.tables.proofs.Tests.{gap, isOne, given, subTest, holdsTest, acceptedTest, closedTest, leastTest}
-use Rattle.tables.proofs.Sought.{Sought, PlanIs, pick, reasonFor, reasonAt, stepFor, passFrom, extended, derive, noBetter, bestTest, noneTest, greedyTest, greedy-passes, after, none, some, judged, judge, orElse, choose, seek, firstOf, smallest, fewest-passes}
+use Rattle.tables.proofs.Sought.{Sought, PlanIs, pick, reasonFor, reasonAt, stepFor, passFrom, extended, derive}
+use Rattle.tables.proofs.Sought.{noBetter, bestTest, noneTest, greedyTest, greedy-passes, after, none, some}
+use Rattle.tables.proofs.Sought.{judged, judge, orElse, choose, seek, firstOf, smallest, fewest-passes}
 use Rattle.grid.specs.declared.Case.{Case}
 use Rattle.grid.specs.Cases.{neighbours, gridOf}
 use Rattle.tables.proofs.Drawn.{withinTest, rowTest, validTest, valid-passes}
@@ -75,7 +77,8 @@ covers-right =
     & tt
 
 -- two sites that cover, within a budget of two or more
-two : (g : Grid) (x y budget : ℕ) → 0 < x → x < y → Free g x → Free g y → Covers g (placed (g .units) (x ∷ y ∷ [])) → 2 ≤ budget → Plan g budget (x ∷ y ∷ [])
+two : (g : Grid) (x y budget : ℕ) → 0 < x → x < y → Free g x → Free g y → Covers g (placed (g .units) (x ∷ y ∷ [])) → 2 ≤ budget
+    → Plan g budget (x ∷ y ∷ [])
 two g x y budget l m p q c k = record { within = k; rising = (l, p, (m, q, tt)); covers = c }
 
 pub plan-right : AllRight tables.plan
@@ -83,17 +86,24 @@ unfolding add setOf
 plan-right =
     at14 2 (omega arith)
     & at14 8 (omega arith)
-    & two (sevenGrid []) 3 4 2 (omega arith) (omega arith) (record { site = refl; bare = refl }) (record { site = refl; bare = refl }) (full-covers (sevenGrid []) (known .at34 .least) full) (omega arith)
+    & two (sevenGrid []) 3 4 2 (omega arith) (omega arith) (record { site = refl; bare = refl }) (record { site = refl; bare = refl })
+    (full-covers (sevenGrid []) (known .at34 .least) full) (omega arith)
     & (λ h. omega (arith, h .within))
     & (λ h. omega (arith, h .rising .2 .0))
     & (λ h. uncovered (h .covers))
-    & record { within = omega arith; rising = (omega arith, record { site = refl; bare = refl }, tt); covers = full-covers (sevenGrid (4 ∷ [])) (known .at14 .least) full }
+    & record {
+      within = omega arith;
+      rising = (omega arith, record { site = refl; bare = refl }, tt);
+      covers = full-covers (sevenGrid (4 ∷ [])) (known .at14 .least) full;
+    }
     & (λ h. omega (arith, h .rising .2 .1 .bare))
     & (λ h. omega (arith, h .rising .1 .site))
     & tt
   where
     at14 : (budget : ℕ) → 2 ≤ budget → Plan (sevenGrid []) budget (1 ∷ 4 ∷ [])
-    at14 budget = two (sevenGrid []) 1 4 budget (omega arith) (omega arith) (record { site = refl; bare = refl }) (record { site = refl; bare = refl }) (full-covers (sevenGrid []) (known .at14 .least) full)
+    at14 budget =
+        two (sevenGrid []) 1 4 budget (omega arith) (omega arith) (record { site = refl; bare = refl })
+        (record { site = refl; bare = refl }) (full-covers (sevenGrid []) (known .at14 .least) full)
 
 -- ---- which comes first
 
@@ -127,9 +137,11 @@ earlier-right =
 -- ---- the fewest and greedy, computed
 
 -- what the search finds on a valid case
-found : (c : Case) (budget : ℕ) (a : Sought) → validTest c ≡ 0 → smallest (gridOf c) (lack (gridOf c .sites) (gridOf c .units)) (budget + 1) 0 ≡ a → PlanIs (gridOf c) budget a
+found : (c : Case) (budget : ℕ) (a : Sought) → validTest c ≡ 0
+    → smallest (gridOf c) (lack (gridOf c .sites) (gridOf c .units)) (budget + 1) 0 ≡ a → PlanIs (gridOf c) budget a
 found c budget a v e =
-    fewest-passes (gridOf c) (valid-passes c v .proper) (lack (gridOf c .sites) (gridOf c .units)) (record { at = lack-at (gridOf c .sites) (gridOf c .units) }) budget a e
+    fewest-passes (gridOf c) (valid-passes c v .proper) (lack (gridOf c .sites) (gridOf c .units))
+    (record { at = lack-at (gridOf c .sites) (gridOf c .units) }) budget a e
 
 -- what greedy adds on a valid case
 adds : (c : Case) (budget : ℕ) (xs : List ℕ) → validTest c ≡ 0 → greedyTest (gridOf c) budget xs ≡ 0 → Greedy (gridOf c) budget xs
@@ -152,7 +164,9 @@ pub record Placed : Type 0 where
   pub greedyBarred : Greedy (barred []) 1 (2 ∷ [])
 
 pub known-places : Placed
-unfolding validTest withinTest rowTest leastTest acceptedTest holdsTest closedTest subTest isOne gap given total neighbours setOf upTo less lack add ones onesIn pick reasonFor reasonAt stepFor passFrom extended derive after judged judge orElse choose seek firstOf smallest noBetter bestTest noneTest greedyTest
+unfolding validTest withinTest rowTest leastTest acceptedTest holdsTest closedTest subTest isOne gap given total neighbours setOf upTo less
+    lack add ones onesIn pick reasonFor reasonAt stepFor passFrom extended derive after judged judge orElse choose seek firstOf smallest
+    noBetter bestTest noneTest greedyTest
 known-places = record {
   fewest1 = found (caseOf (seven [])) 1 none refl refl;
   fewest2 = found (caseOf (seven [])) 2 (some (set (1 ∷ 4 ∷ []))) refl refl;

@@ -58,7 +58,8 @@ other : (i : ℕ) (s t : List ℕ) → s ≡ t → (getD s i 0 ≡ getD t i 0 �
 other i s t e ne = ne (ap (λ (x : List ℕ). getD x i 0) e)
 
 pub days-right : AllRight tables.days
-unfolding readCase readText readLines verdict isBus isAfter pastBuses recordOf wordOf lineFields busFields markOf one none split same isDigit takes numberFrom numberOf held.hold held.wordOf add setOf stepsText stepText refusedText join digits ones onesIn
+unfolding readCase readText readLines verdict isBus isAfter pastBuses recordOf wordOf lineFields busFields markOf one none split same
+    isDigit takes numberFrom numberOf held.hold held.wordOf add setOf stepsText stepText refusedText join digits ones onesIn
 days-right =
     day
     & day-none
@@ -91,7 +92,9 @@ days-right =
     }
 
 pub plans-right : AllRight tables.plans
-unfolding readPlan planLines budgetOf planFields readCase readText readLines verdict isBus isAfter pastBuses recordOf wordOf lineFields busFields markOf one none split same isDigit takes numberFrom numberOf held.hold held.wordOf add setOf refusedText members linesText recordText join digits ones onesIn
+unfolding readPlan planLines budgetOf planFields readCase readText readLines verdict isBus isAfter pastBuses recordOf wordOf lineFields
+    busFields markOf one none split same isDigit takes numberFrom numberOf held.hold held.wordOf add setOf refusedText members linesText
+    recordText join digits ones onesIn
 plans-right =
     found (set (1 ∷ 4 ∷ [])) (omega arith, (fewest-some (known-places .fewest2), tt)) (known-places .fewest2) refl
     & no-plan NoCover (omega arith then stop (known-places .fewest1) (itself _)) refl
@@ -107,7 +110,8 @@ plans-right =
 -- ---- step texts
 
 pub replays-right : AllRight tables.replays
-unfolding readSteps stepLines stepInRange stepsFrom stepsIn stepLineOf stepWordOf letterOf reasonFields stepFields one none split same isBus isDigit takes numberFrom numberOf
+unfolding readSteps stepLines stepInRange stepsFrom stepsIn stepLineOf stepWordOf letterOf reasonFields stepFields one none split same isBus
+    isDigit takes numberFrom numberOf
 replays-right =
     replies.replays-right .0
     & refl
@@ -119,7 +123,8 @@ replays-right =
     & tt
 
 pub readings-right : AllRight tables.readings
-unfolding readSteps stepLines stepInRange stepsFrom stepsIn stepLineOf stepWordOf letterOf reasonFields stepFields one none split same isBus isDigit takes numberFrom numberOf
+unfolding readSteps stepLines stepInRange stepsFrom stepsIn stepLineOf stepWordOf letterOf reasonFields stepFields one none split same isBus
+    isDigit takes numberFrom numberOf
 readings-right =
     (refl, refl)
     & (refl, refl)
@@ -152,19 +157,25 @@ says : {R : Type 0} {promise : R → Type 0} {of : R → Answer} (reply : R) →
 says reply p = record { reply = reply; meets = p; is = refl }
 
 pub calls-right : AllRight tables.calls
-unfolding readCase readText readLines verdict isBus isAfter pastBuses recordOf wordOf lineFields busFields markOf one none split same isDigit takes numberFrom numberOf held.hold held.wordOf add setOf readSteps stepLines stepInRange stepsFrom stepsIn stepLineOf stepWordOf letterOf reasonFields stepFields byteOf
+unfolding readCase readText readLines verdict isBus isAfter pastBuses recordOf wordOf lineFields busFields markOf one none split same
+    isDigit takes numberFrom numberOf held.hold held.wordOf add setOf readSteps stepLines stepInRange stepsFrom stepsIn stepLineOf
+    stepWordOf letterOf reasonFields stepFields byteOf
 calls-right =
     gives tables.lent (Set 79) (says (observed.Set 79) (replies.sets-right .0))
     & gives tables.lent (Set 4) (says (unconfirmed.Unconfirmed 4) ((known .at3 .valid, tt), confirming.itself))
     & gives tables.lent (Set 9) (says (fewest.Sites 9) (replies.fewests-right .0))
     & gives tables.lent (Set 79) (says (replayed.Reached 79 true) (replays-right .0))
     & gives tables.lent (Refused (WrongForm 1)) refl
-    & gives tables.lent (Refused NoCover) (says (fewest.Refused NoCover) (known .none .valid then omega arith then stop (known-places .fewest1) (itself _)))
-    & gives tables.lent (Refused (OverBudget 0)) (says (fewest.Refused (OverBudget 0)) (known .none .valid then stop (λ h. omega arith) (itself _)))
+    & gives tables.lent (Refused NoCover)
+    (says (fewest.Refused NoCover) (known .none .valid then omega arith then stop (known-places .fewest1) (itself _)))
+    & gives tables.lent (Refused (OverBudget 0))
+    (says (fewest.Refused (OverBudget 0)) (known .none .valid then stop (λ h. omega arith) (itself _)))
     & gives tables.lent (Refused (OutOfRange 1)) refl
     & gives tables.lent (Refused (OutOfRange 1)) refl
     & gives tables.lent (Unread (OutOfRange 1)) (says (replayed.Unread (OutOfRange 1)) refl)
-    & gives tables.lent (Refused (ReasonFails 1)) (says (replayed.Refused (ReasonFails 1)) (known .at3 .valid then omega arith then named12 then refl then stop (λ h. omega (arith, h .observed)) (itself _)))
+    & gives tables.lent (Refused (ReasonFails 1))
+    (says (replayed.Refused (ReasonFails 1))
+    (known .at3 .valid then omega arith then named12 then refl then stop (λ h. omega (arith, h .observed)) (itself _)))
     & gives (5 ∷ []) (Set 79) (says (observed.Set 79) (replies.sets-right .0))
     & (λ h. omega (arith, h .replied .result, ap (λ (a : Answer). resultOf a 1) (h .is)))
     & tt

@@ -32,7 +32,8 @@ use Rattle.tables.specs.Reports as reports
 -- ---- case texts
 
 pub cases-right : case.CasesRight
-unfolding readCase readText readLines verdict isBus isAfter pastBuses recordOf wordOf lineFields busFields markOf one none split same isDigit takes numberFrom numberOf held.hold held.wordOf add setOf
+unfolding readCase readText readLines verdict isBus isAfter pastBuses recordOf wordOf lineFields busFields markOf one none split same
+    isDigit takes numberFrom numberOf held.hold held.wordOf add setOf
 cases-right = refl
 
 pub texts-right : case.TextsRight
@@ -40,7 +41,8 @@ unfolding busRecords members lineRecords linesText recordText join digits neighb
 texts-right = refl
 
 pub allowed-right : AllRight case.allowed
-unfolding readLines verdict isBus isAfter pastBuses recordOf wordOf lineFields busFields markOf one none split join same isDigit takes numberFrom numberOf held.hold held.wordOf add setOf
+unfolding readLines verdict isBus isAfter pastBuses recordOf wordOf lineFields busFields markOf one none split join same isDigit takes
+    numberFrom numberOf held.hold held.wordOf add setOf
 allowed-right =
     read-reads (split lineFeed (block case.oneInput) .rest) start 1 (split lineFeed (block case.oneInput) .first) case.oneCase refl
     & (λ h. not-got _ (reads-read start _ _ 1 (omega arith) h))
@@ -52,11 +54,13 @@ unfolding held.hold held.wordOf add setOf
 wired-right = refl
 
 pub whole-right : case.WholeRight
-unfolding readCase readText readLines verdict isBus isAfter pastBuses recordOf wordOf lineFields busFields markOf one none split same isDigit takes numberFrom numberOf
+unfolding readCase readText readLines verdict isBus isAfter pastBuses recordOf wordOf lineFields busFields markOf one none split same
+    isDigit takes numberFrom numberOf
 whole-right = refl
 
 pub later-right : case.LaterRight
-unfolding readCase readText readLines verdict isBus isAfter pastBuses recordOf wordOf lineFields busFields markOf one none split same isDigit takes numberFrom numberOf
+unfolding readCase readText readLines verdict isBus isAfter pastBuses recordOf wordOf lineFields busFields markOf one none split same
+    isDigit takes numberFrom numberOf
 later-right = refl
 
 pub case-limits-right : case.LimitsRight
@@ -74,11 +78,13 @@ unfolding stepInRange isBus
 ranges-right = refl
 
 pub readings-right : steps.ReadingsRight
-unfolding readSteps stepLines stepInRange isBus stepLineOf stepWordOf letterOf reasonFields stepFields one none split same isDigit takes numberFrom numberOf
+unfolding readSteps stepLines stepInRange isBus stepLineOf stepWordOf letterOf reasonFields stepFields one none split same isDigit takes
+    numberFrom numberOf
 readings-right = refl
 
 pub beyond-right : steps.BeyondRight
-unfolding stepLines stepInRange isBus stepLineOf stepWordOf letterOf reasonFields stepFields one none split same isDigit takes numberFrom numberOf
+unfolding stepLines stepInRange isBus stepLineOf stepWordOf letterOf reasonFields stepFields one none split same isDigit takes numberFrom
+    numberOf
 beyond-right = refl
 
 pub step-limits-right : steps.LimitsRight
@@ -91,8 +97,13 @@ lists-right = refl
 
 pub found-right : AllRight steps.found
 unfolding stepsFrom stepsIn stepLineOf stepWordOf letterOf reasonFields stepFields one none split same isDigit takes numberFrom numberOf
-found-right =
-    (record { bus = record { some = omega arith; most = omega arith }; reason = tt }, (record { bus = record { some = omega arith; most = omega arith }; reason = record { some = omega arith; most = omega arith } }, tt))
+found-right = (
+  record { bus = record { some = omega arith; most = omega arith }; reason = tt },
+  (
+    record { bus = record { some = omega arith; most = omega arith }; reason = record { some = omega arith; most = omega arith } },
+    tt,
+  ),
+)
     & (λ h. omega (arith, h .1 .0 .reason .most))
     & record { steps = refl; later = omega arith; high = omega arith }
     & refl
@@ -133,11 +144,13 @@ unfolding budgetOf planFields split same isDigit takes numberFrom numberOf
 budgets-right = refl
 
 pub inputs-right : reports.InputsRight
-unfolding readPlan planLines budgetOf planFields readLines verdict isBus isAfter pastBuses recordOf wordOf lineFields busFields markOf one none split same isDigit takes numberFrom numberOf
+unfolding readPlan planLines budgetOf planFields readLines verdict isBus isAfter pastBuses recordOf wordOf lineFields busFields markOf one
+    none split same isDigit takes numberFrom numberOf
 inputs-right = refl
 
 pub asked-right : reports.AskedRight
-unfolding readPlan planLines budgetOf planFields readLines verdict isBus isAfter pastBuses recordOf wordOf lineFields busFields markOf one none split same isDigit takes numberFrom numberOf held.hold held.wordOf add setOf
+unfolding readPlan planLines budgetOf planFields readLines verdict isBus isAfter pastBuses recordOf wordOf lineFields busFields markOf one
+    none split same isDigit takes numberFrom numberOf held.hold held.wordOf add setOf
 asked-right = refl
 
 pub plan-limits-right : reports.LimitsRight

@@ -107,18 +107,29 @@ refused-9 = known .at3 .valid then omega arith then named12 then refl then stop 
 
 pub replays-right : AllRight tables.replays
 unfolding reasonTest allowedTest gap neighbours lack add setOf ones onesIn
-replays-right =
-    ((v, (omega arith, accepted-checks (tables.case (3 ∷ [])) (v .proper) 1 empty derivation (derived-accepted is-derivation .0))), refl, decides-yes (derived-accepted is-derivation .1))
-    & ((v, (omega arith, (named23, (refl, (record { unit = refl; joined = refl }, tt))))), refl, decides-no (λ h. h (own 3) (allowed-passes (sevenGrid (3 ∷ [])) (set (2 ∷ [])) (own 3) refl)))
+replays-right = (
+  (v, (omega arith, accepted-checks (tables.case (3 ∷ [])) (v .proper) 1 empty derivation (derived-accepted is-derivation .0))),
+  refl,
+  decides-yes (derived-accepted is-derivation .1),
+)
+    & (
+      (v, (omega arith, (named23, (refl, (record { unit = refl; joined = refl }, tt))))),
+      refl,
+      decides-no (λ h. h (own 3) (allowed-passes (sevenGrid (3 ∷ [])) (set (2 ∷ [])) (own 3) refl)),
+    )
     & ((v, (omega arith, tt)), refl, decides-no (λ h. h (own 3) (allowed-passes (sevenGrid (3 ∷ [])) (set []) (own 3) refl)))
     & ((known .none .valid, (omega arith, tt)), refl, decides-yes none-allowed)
     & (λ h. refutes (h .2) refl none-allowed)
     & stop invalid (itself _)
     & v then stop (λ h. omega arith) (itself _)
-    & v then omega arith then named23 then refl then record { unit = refl; joined = refl } then named23 then stop (λ h. omega arith) (itself _)
+    & v then omega arith then named23 then refl then record { unit = refl; joined = refl } then named23 then stop
+    (λ h. omega arith) (itself _)
     & v then omega arith then named3 then refl then refl then stop (λ h. omega (arith, h .reason .some)) (itself _)
     & refused-9
-    & (λ h. omega (arith, ap numberOf (failed-unique (replayChecks (tables.case (3 ∷ [])) (zeroAt 1 2 ∷ own 8 ∷ [])) (ReasonFails 1) (NoSuchBus 2) refused-9 h)))
+    & (λ h. omega (
+      arith,
+      ap numberOf (failed-unique (replayChecks (tables.case (3 ∷ [])) (zeroAt 1 2 ∷ own 8 ∷ [])) (ReasonFails 1) (NoSuchBus 2) refused-9 h),
+    ))
     & tt
   where
     v : Valid (tables.case (3 ∷ []))
@@ -129,14 +140,37 @@ replays-right =
 
 pub weaves-right : AllRight tables.weaves
 unfolding neighbours add setOf
-weaves-right =
-    ((v, (omega arith, (named3, ((λ o. refl), (record { bus = bus 7 3 refl; reason = bus 7 1 refl }, ((λ o. absurd (omega arith)), (named23, ((λ o. by3), (omega arith, tt))))))))), refl, refl, refl)
+weaves-right = (
+  (
+    v,
+    (
+      omega arith,
+      (
+        named3,
+        (
+          (λ o. refl),
+          (
+            record { bus = bus 7 3 refl; reason = bus 7 1 refl },
+            ((λ o. absurd (omega arith)), (named23, ((λ o. by3), (omega arith, tt)))),
+          ),
+        ),
+      ),
+    ),
+  ),
+  refl,
+  refl,
+  refl,
+)
     & (v then omega arith then named3 then (λ o. refl) then stop (λ h. omega (arith, h .reason .most)) (itself _), refl)
     & (v then omega arith then named12 then stop (λ h. omega (arith, h refl .observed)) (itself _), refl)
     & ((v, (omega arith, (named3, ((λ o. refl), (named3, ((λ o. refl), (named3, ((λ o. refl), (omega arith, tt))))))))), refl, refl, refl)
     & (v then omega arith then named3 then (λ o. refl) then named23 then (λ o. by3) then stop (λ h. omega arith) (itself _), refl)
     & (λ h. omega (arith, ap (λ (xs : List Step). getD xs 0 noStep .bus) (h .1)))
-    & (v then omega arith then named3 then (λ o. refl) then named23 then (λ o. by3) then record { bus = bus 7 6 refl; reason = bus 7 5 refl } then stop (λ h. omega (arith, h refl .observed)) (itself _), refl)
+    & (
+      v then omega arith then named3 then (λ o. refl) then named23 then (λ o. by3) then record
+          { bus = bus 7 6 refl; reason = bus 7 5 refl } then stop (λ h. omega (arith, h refl .observed)) (itself _),
+      refl,
+    )
     & tt
   where
     v : Valid (tables.case (3 ∷ []))
@@ -161,12 +195,15 @@ sets-right =
     & tt
 
 -- what greedy adds has room
-roomy : (budget k : ℕ) (xs : List ℕ) → Greedy (sevenGrid []) budget xs → length xs ≤ k → (ys : List ℕ) → Greedy (sevenGrid []) budget ys → length ys ≤ k
+roomy : (budget k : ℕ) (xs : List ℕ) → Greedy (sevenGrid []) budget xs → length xs ≤ k → (ys : List ℕ) → Greedy (sevenGrid []) budget ys
+    → length ys ≤ k
 roomy budget k xs g l ys h = omega (arith, ap length (greedy-unique (sevenGrid []) budget xs ys g h))
 
 pub greedies-right : AllRight tables.greedies
-greedies-right =
-    ((v, (omega arith, (roomy 2 3 (3 ∷ 4 ∷ []) (known-places .greedy2) (omega arith), tt))), record { list = 3 ∷ 4 ∷ []; greedy = known-places .greedy2; count = refl; written = refl })
+greedies-right = (
+  (v, (omega arith, (roomy 2 3 (3 ∷ 4 ∷ []) (known-places .greedy2) (omega arith), tt))),
+  record { list = 3 ∷ 4 ∷ []; greedy = known-places .greedy2; count = refl; written = refl },
+)
     & (stop invalid (itself _), refl)
     & (v then stop (λ h. omega arith) (itself _), refl)
     & (v then omega arith then stop (λ h. omega (arith, h (3 ∷ 4 ∷ []) (known-places .greedy2))) (itself _), refl)
@@ -193,7 +230,8 @@ fewests-right =
     over = v then stop (λ h. omega arith) (itself _)
 
 pub texts-right : AllRight tables.texts
-unfolding readCase readText readLines readSteps stepLines stepLineOf stepWordOf none split same validTest withinTest rowTest gap total upTo busRecords members lineRecords linesText recordText join digits neighbours setOf ones onesIn
+unfolding readCase readText readLines readSteps stepLines stepLineOf stepWordOf none split same validTest withinTest rowTest gap total upTo
+    busRecords members lineRecords linesText recordText join digits neighbours setOf ones onesIn
 texts-right =
     refl
     & refl

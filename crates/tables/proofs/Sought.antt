@@ -48,7 +48,8 @@ given-none (suc d) x h = h (omega arith)
 unfoldable pub reasonFor : Grid → ℕ → ℕ → ℕ → ℕ
 reasonFor g s b zero = 0
 reasonFor g s b (suc p) =
-    pick (holdsTest g s b (NeighbourOf (suc p))) (2 + (suc p + suc p)) (pick (holdsTest g s b (ZeroInjection (suc p))) (3 + (suc p + suc p)) (reasonFor g s b p))
+    pick (holdsTest g s b (NeighbourOf (suc p))) (2 + (suc p + suc p))
+    (pick (holdsTest g s b (ZeroInjection (suc p))) (3 + (suc p + suc p)) (reasonFor g s b p))
 
 unfoldable pub reasonAt : ℕ → ℕ → Reason
 reasonAt p zero = NeighbourOf p
@@ -115,14 +116,17 @@ unconfirmedTest g s = total (g .n) (λ b. gap (bit s b) (aloneTest g b))
 module _ (g : Grid) (v : Proper g) where
   apart : (a b : ℕ) → (a ≡ b → ⊥) → 0 < gap a b
   unfolding gap
-  apart a b ne = ⊎-elim (λ (l : a < b). omega arith) (λ (l : b ≤ a). ⊎-elim (λ (m : b < a). omega arith) (λ (m : a ≤ b). absurd (ne (omega arith))) (below-or b a)) (below-or a b)
+  apart a b ne =
+      ⊎-elim (λ (l : a < b). omega arith)
+      (λ (l : b ≤ a). ⊎-elim (λ (m : b < a). omega arith) (λ (m : a ≤ b). absurd (ne (omega arith))) (below-or b a)) (below-or a b)
 
   alone-none : (b : ℕ) → total (g .n) (confirmTest g b) ≡ 0 → (a : ℕ) → In (g .units) a → (a ≡ b → ⊥) → Confirm (g .neighbours) a b → ⊥
   unfolding confirmTest
   alone-none b e a u ne c =
       go c
       (given-some (gap a b) (bit (g .neighbours a) b + size (meet (g .neighbours a) (g .neighbours b))) (apart a b ne)
-      (given-passes (bit (g .units) a) (given (gap a b) (bit (g .neighbours a) b + size (meet (g .neighbours a) (g .neighbours b)))) u (total-none (g .n) (confirmTest g b) e a (v .units a u))))
+      (given-passes (bit (g .units) a) (given (gap a b) (bit (g .neighbours a) b + size (meet (g .neighbours a) (g .neighbours b)))) u
+      (total-none (g .n) (confirmTest g b) e a (v .units a u))))
     where
       go : Confirm (g .neighbours) a b → bit (g .neighbours a) b + size (meet (g .neighbours a) (g .neighbours b)) ≡ 0 → ⊥
       go (joined j) z = omega arith
@@ -139,7 +143,8 @@ module _ (g : Grid) (v : Proper g) where
           let far = out-of (g .neighbours a) b (λ j. u .none a h ne (joined j)) in
           let nothing = empty-of (meet (g .neighbours a) (g .neighbours b))
           (λ x. out-of (meet (g .neighbours a) (g .neighbours b)) x
-          (λ m. u .none a h ne (share x (let e = meet-at (g .neighbours a) (g .neighbours b) x in omega arith) (let e = meet-at (g .neighbours a) (g .neighbours b) x in omega arith)))) in
+          (λ m. u .none a h ne (share x (let e = meet-at (g .neighbours a) (g .neighbours b) x in omega arith)
+          (let e = meet-at (g .neighbours a) (g .neighbours b) x in omega arith)))) in
           omega (arith, ap size nothing, size-empty)
 
   pub unconfirmed-passes : (s : ℕ) → Within (g .n) s → unconfirmedTest g s ≡ 0 → UnconfirmedSet (g .neighbours) (g .units) s
@@ -165,9 +170,11 @@ module _ (g : Grid) (v : Proper g) where
 
 -- ---- greedy
 
--- how far from allowed, observed and no better than `most` a unit at y is: 0 where y is not free, or with it at most `most` buses are observed
+-- how far from allowed, observed and no better than `most` a unit at y is: 0 where y is not free, or with it at most `most` buses are
+-- observed
 unfoldable pub noBetter : Grid → ℕ → ℕ → ℕ
-noBetter g most y = given (bit (g .sites) y - bit (g .units) y) (seenTest (withUnits g (add (g .units) y)) + (size (seen (withUnits g (add (g .units) y))) - most))
+noBetter g most y =
+    given (bit (g .sites) y - bit (g .units) y) (seenTest (withUnits g (add (g .units) y)) + (size (seen (withUnits g (add (g .units) y))) - most))
 
 -- x is the best site
 unfoldable pub bestTest : Grid → ℕ → ℕ
@@ -190,7 +197,9 @@ greedyTest g (suc k) (x ∷ xs) = bestTest g x + greedyTest (withUnits g (add (g
 no-better : (g : Grid) (most y t : ℕ) → Proper g → noBetter g most y ≡ 0 → choosing.With g y t → size t ≤ most
 unfolding noBetter
 no-better g most y t v e w =
-    let f = given-some (bit (g .sites) y - bit (g .units) y) (seenTest (withUnits g (add (g .units) y)) + (size (seen (withUnits g (add (g .units) y))) - most)) (let a = w .free .site in let b = w .free .bare in omega arith) e in
+    let f = given-some (bit (g .sites) y - bit (g .units) y)
+    (seenTest (withUnits g (add (g .units) y)) + (size (seen (withUnits g (add (g .units) y))) - most))
+    (let a = w .free .site in let b = w .free .bare in omega arith) e in
     let l = seen-least (withUnits g (add (g .units) y)) (proper-with y v (w .free .site)) (omega arith) in
     omega (arith, ap size (least-unique (withUnits g (add (g .units) y)) t (seen (withUnits g (add (g .units) y))) (w .observed) l))
 
@@ -200,7 +209,11 @@ greedy-passes g zero [] v e = tt
 greedy-passes g zero (x ∷ xs) v e = absurd (omega arith)
 greedy-passes g (suc k) [] v e = λ y s t l w.
     let base = seen-least g v (omega arith) in
-    omega (arith, no-better g (size (seen g)) y t v (total-none (g .n) (noBetter g (size (seen g))) (omega arith) y (v .sites y (w .free .site))) w, ap size (least-unique g s (seen g) l base))
+    omega (
+      arith,
+      no-better g (size (seen g)) y t v (total-none (g .n) (noBetter g (size (seen g))) (omega arith) y (v .sites y (w .free .site))) w,
+      ap size (least-unique g s (seen g) l base),
+    )
 greedy-passes g (suc k) (x ∷ xs) v e =
     let most = size (seen (withUnits g (add (g .units) x))) in
     let free : Free g x = record { site = omega arith; bare = omega arith } in (
@@ -211,7 +224,12 @@ greedy-passes g (suc k) (x ∷ xs) v e =
         with = record { free = free; observed = seen-least (withUnits g (add (g .units) x)) (proper-with x v (free .site)) (omega arith) };
         adds = omega arith;
         largest = λ y t w. no-better g most y t v (total-none (g .n) (noBetter g most) (omega arith) y (v .sites y (w .free .site))) w;
-        lowest = λ y t w b. omega (arith, no-better g (most - 1) y t v (total-none (x - 1) (noBetter g (most - 1)) (omega arith) y (record { some = v .sites y (w .free .site) .some; most = omega arith })) w);
+        lowest =
+            λ y t w b. omega (
+              arith,
+              no-better g (most - 1) y t v (total-none (x - 1) (noBetter g (most - 1)) (omega arith) y
+                  (record { some = v .sites y (w .free .site) .some; most = omega arith })) w,
+            );
       },
       greedy-passes (withUnits g (add (g .units) x)) k xs (proper-with x v (free .site)) (omega arith),
     )
@@ -235,25 +253,34 @@ after-skip x s o = ext (after x s) (after (suc x) s) (λ b. ⊎-elim
     (λ (l : b < suc x). after-out x s b (omega arith) ∙ sym (after-out (suc x) s b (omega arith)))
     (λ (l : suc x ≤ b). ⊎-elim
     (λ (m : suc x < b). after-in x s b (omega arith) ∙ sym (after-in (suc x) s b m))
-    (λ (m : b ≤ suc x). let e : b ≡ suc x = omega arith in subst⁻¹ (λ (c : ℕ). bit (after x s) c ≡ bit (after (suc x) s) c) e (after-in x s (suc x) (omega arith) ∙ o ∙ sym (after-out (suc x) s (suc x) (omega arith))))
+    (λ (m : b ≤ suc x). let e : b ≡ suc x = omega arith in
+    subst⁻¹ (λ (c : ℕ). bit (after x s) c ≡ bit (after (suc x) s) c) e
+    (after-in x s (suc x) (omega arith) ∙ o ∙ sym (after-out (suc x) s (suc x) (omega arith))))
     (below-or (suc x) b))
     (below-or b (suc x)))
 
 module _ (x s : ℕ) (h : In s (suc x)) where
   after-lowest : Lowest (suc x) (after x s) (suc x)
-  after-lowest = record { has = after-in x s (suc x) (omega arith) ∙ h; below = λ a l. after-out x s a (omega arith); bus = record { some = omega arith; most = omega arith } }
+  after-lowest = record {
+    has = after-in x s (suc x) (omega arith) ∙ h;
+    below = λ a l. after-out x s a (omega arith);
+    bus = record { some = omega arith; most = omega arith };
+  }
 
   after-without : Without (after x s) (suc x) (after (suc x) s)
   after-without = record {
     here = after-out (suc x) s (suc x) (omega arith);
     there = there;
-    fewer = λ i. one-more (after (suc x) s) (after x s) (suc x) (after-lowest .has) (after-out (suc x) s (suc x) (omega arith)) (λ a ne. sym (there a ne));
+    fewer =
+        λ i. one-more (after (suc x) s) (after x s) (suc x) (after-lowest .has) (after-out (suc x) s (suc x) (omega arith))
+        (λ a ne. sym (there a ne));
   }
     where
       there : (a : ℕ) → (a ≡ suc x → ⊥) → bit (after (suc x) s) a ≡ bit (after x s) a
       there a ne = ⊎-elim
           (λ (l : a < suc x). after-out (suc x) s a (omega arith) ∙ sym (after-out x s a (omega arith)))
-          (λ (l : suc x ≤ a). ⊎-elim (λ (m : suc x < a). after-in (suc x) s a m ∙ sym (after-in x s a (omega arith))) (λ (m : a ≤ suc x). absurd (ne (omega arith))) (below-or (suc x) a))
+          (λ (l : suc x ≤ a). ⊎-elim (λ (m : suc x < a). after-in (suc x) s a m ∙ sym (after-in x s a (omega arith)))
+          (λ (m : a ≤ suc x). absurd (ne (omega arith))) (below-or (suc x) a))
           (below-or a (suc x))
 
 pub data Sought : Type 0 where
@@ -289,20 +316,28 @@ choose x (suc d) a b = orElse x a b
 unfoldable pub seek : Grid → ℕ → ℕ → ℕ → ℕ → Sought
 seek g free f x zero = judge g
 seek g free zero x (suc k) = none
-seek g free (suc f) x (suc k) = choose (suc x) (bit free (suc x)) (seek (withUnits g (add (g .units) (suc x))) free f (suc x) k) (seek g free f (suc x) (suc k))
+seek g free (suc f) x (suc k) =
+    choose (suc x) (bit free (suc x)) (seek (withUnits g (add (g .units) (suc x))) free f (suc x) k) (seek g free f (suc x) (suc k))
 
 lacks-none : (n s : ℕ) → Full n s → total n (λ b. 1 - bit s b) ≡ 0
 unfolding total
 lacks-none zero s full = refl
-lacks-none (suc n) s full = omega (arith, lacks-none n s (λ b h. full b (record { some = h .some; most = let m = h .most in omega arith })), full (suc n) (record { some = omega arith; most = omega arith }))
+lacks-none (suc n) s full =
+    omega (
+      arith,
+      lacks-none n s (λ b h. full b (record { some = h .some; most = let m = h .most in omega arith })),
+      full (suc n) (record { some = omega arith; most = omega arith }),
+    )
 
 judge-right : (g : Grid) (sites : ℕ) → Proper g → SoughtIs g sites 0 (judge g)
 unfolding judge judged
 judge-right g sites v = go (total (g .n) (λ b. 1 - bit (seen g) b)) (seenTest g) refl refl
   where
     go : (l b : ℕ) → total (g .n) (λ b. 1 - bit (seen g) b) ≡ l → seenTest g ≡ b → SoughtIs g sites 0 (judged l b)
-    go zero zero e d = way-none refl refl (full-covers g (seen-least g v d) (λ b h. omega (arith, total-none (g .n) (λ b. 1 - bit (seen g) b) e b h)))
-    go (suc l) zero e d = no-way-none refl (λ c. let full = covers-full g (seen-least g v d) c in omega (arith, lacks-none (g .n) (seen g) full))
+    go zero zero e d =
+        way-none refl refl (full-covers g (seen-least g v d) (λ b h. omega (arith, total-none (g .n) (λ b. 1 - bit (seen g) b) e b h)))
+    go (suc l) zero e d =
+        no-way-none refl (λ c. let full = covers-full g (seen-least g v d) c in omega (arith, lacks-none (g .n) (seen g) full))
     go zero (suc b) e d = tt
     go (suc l) (suc b) e d = tt
 
@@ -310,26 +345,33 @@ less-one : (k : ℕ) → suc k - 1 ≡ k
 less-one k = omega arith
 
 -- one site: the answers with it and without it
-seek-turn : (g : Grid) (free x k d : ℕ) (a b : Sought) → bit free (suc x) ≡ d → (In free (suc x) → SoughtIs (withUnits g (add (g .units) (suc x))) (after (suc x) free) k a)
+seek-turn : (g : Grid) (free x k d : ℕ) (a b : Sought) → bit free (suc x) ≡ d
+    → (In free (suc x) → SoughtIs (withUnits g (add (g .units) (suc x))) (after (suc x) free) k a)
     → SoughtIs g (after (suc x) free) (suc k) b → SoughtIs g (after x free) (suc k) (choose (suc x) d a b)
 unfolding choose orElse
 seek-turn g free x k zero a b e ha hb = subst⁻¹ (λ (s : ℕ). SoughtIs g s (suc k) b) (after-skip x free e) hb
 seek-turn g free x k (suc d) none none e ha hb =
-    passed-no (passed-lowest (after-lowest x free (omega arith)) (after-without x free (omega arith)) (omega arith) (subst⁻¹ (NoWay (withUnits g (add (g .units) (suc x))) (after (suc x) free)) (less-one k) (ha (omega arith)))) hb
+    passed-no (passed-lowest (after-lowest x free (omega arith)) (after-without x free (omega arith)) (omega arith)
+    (subst⁻¹ (NoWay (withUnits g (add (g .units) (suc x))) (after (suc x) free)) (less-one k) (ha (omega arith)))) hb
 seek-turn g free x k (suc d) none (some m) e ha hb =
-    passed-first (passed-lowest (after-lowest x free (omega arith)) (after-without x free (omega arith)) (omega arith) (subst⁻¹ (NoWay (withUnits g (add (g .units) (suc x))) (after (suc x) free)) (less-one k) (ha (omega arith)))) hb
+    passed-first (passed-lowest (after-lowest x free (omega arith)) (after-without x free (omega arith)) (omega arith)
+    (subst⁻¹ (NoWay (withUnits g (add (g .units) (suc x))) (after (suc x) free)) (less-one k) (ha (omega arith)))) hb
 seek-turn g free x k (suc d) none unsure e ha hb = tt
 seek-turn g free x k (suc d) (some m) b e ha hb =
-    first-take (after-lowest x free (omega arith)) (after-without x free (omega arith)) (omega arith) (subst⁻¹ (λ (j : ℕ). FirstWay (withUnits g (add (g .units) (suc x))) (after (suc x) free) j m) (less-one k) (ha (omega arith)))
+    first-take (after-lowest x free (omega arith)) (after-without x free (omega arith)) (omega arith)
+    (subst⁻¹ (λ (j : ℕ). FirstWay (withUnits g (add (g .units) (suc x))) (after (suc x) free) j m) (less-one k) (ha (omega arith)))
 seek-turn g free x k (suc d) unsure b e ha hb = tt
 
-seek-right : (g : Grid) (free f x k : ℕ) → Proper g → Within (g .n) free → Sub free (g .sites) → g .n ≤ x + f → SoughtIs g (after x free) k (seek g free f x k)
+seek-right : (g : Grid) (free f x k : ℕ) → Proper g → Within (g .n) free → Sub free (g .sites) → g .n ≤ x + f
+    → SoughtIs g (after x free) k (seek g free f x k)
 unfolding seek
 seek-right g free f x zero v w s l = judge-right g (after x free) v
 seek-right g free zero x (suc k) v w s l = no-way-left (empty-of (after x free) gone) (omega arith)
   where
     gone : (b : ℕ) → Out (after x free) b
-    gone b = ⊎-elim (λ (m : x < b). out-of (after x free) b (λ h. let bus = w b (sym (after-in x free b m) ∙ h) .most in omega arith)) (λ (m : b ≤ x). after-out x free b m) (below-or x b)
+    gone b =
+        ⊎-elim (λ (m : x < b). out-of (after x free) b (λ h. let bus = w b (sym (after-in x free b m) ∙ h) .most in omega arith))
+        (λ (m : b ≤ x). after-out x free b m) (below-or x b)
 seek-right g free (suc f) x (suc k) v w s l =
     seek-turn g free x k (bit free (suc x)) (seek (withUnits g (add (g .units) (suc x))) free f (suc x) k) (seek g free f (suc x) (suc k)) refl
     (λ h. seek-right (withUnits g (add (g .units) (suc x))) free f (suc x) k (proper-with (suc x) v (omega (arith, s (suc x)))) w s (omega arith))
@@ -354,13 +396,17 @@ smallest g free (suc j) k = firstOf (seek g free (g .n) 0 k) (smallest g free j 
 
 module _ (g : Grid) (v : Proper g) (free : ℕ) (m : Minus (g .sites) (g .units) free) where
   whole : after 0 free ≡ free
-  whole = ext (after 0 free) free (λ b. ⊎-elim (λ (l : 0 < b). after-in 0 free b l) (λ (l : b ≤ 0). let e : b ≡ 0 = omega arith in after-out 0 free b l ∙ sym (out-of free b (λ h. let bus = v .sites b (omega (arith, m .at b)) .some in omega arith))) (below-or 0 b))
+  whole =
+      ext (after 0 free) free (λ b. ⊎-elim (λ (l : 0 < b). after-in 0 free b l) (λ (l : b ≤ 0). let e : b ≡ 0 = omega arith in
+      after-out 0 free b l ∙ sym (out-of free b (λ h. let bus = v .sites b (omega (arith, m .at b)) .some in omega arith)))
+      (below-or 0 b))
 
   sized : (k : ℕ) → SoughtIs g free k (seek g free (g .n) 0 k)
   sized k = subst (λ (s : ℕ). SoughtIs g s k (seek g free (g .n) 0 k)) whole
       (seek-right g free (g .n) 0 k v (λ b h. v .sites b (omega (arith, m .at b))) (λ b. omega (arith, m .at b)) (omega arith))
 
-  chosen : (budget k : ℕ) (a b : Sought) → k ≤ budget → NoFewer g free k → SoughtIs g free k a → (NoWay g free k → PlanIs g budget b) → PlanIs g budget (firstOf a b)
+  chosen : (budget k : ℕ) (a b : Sought) → k ≤ budget → NoFewer g free k → SoughtIs g free k a → (NoWay g free k → PlanIs g budget b)
+      → PlanIs g budget (firstOf a b)
   unfolding firstOf
   chosen budget k none b l h p q = q p
   chosen budget k (some s) b l h p q = first-fewest m l h p
@@ -370,7 +416,8 @@ module _ (g : Grid) (v : Proper g) (free : ℕ) (m : Minus (g .sites) (g .units)
   unfolding smallest
   smallest-right budget zero k e h = no-plan m (omega arith) h
   smallest-right budget (suc j) k e h =
-      chosen budget k (seek g free (g .n) 0 k) (smallest g free j (k + 1)) (omega arith) h (sized k) (λ n. smallest-right budget j (k + 1) (omega arith) (no-fewer-more h n))
+      chosen budget k (seek g free (g .n) 0 k) (smallest g free j (k + 1)) (omega arith) h (sized k)
+      (λ n. smallest-right budget j (k + 1) (omega arith) (no-fewer-more h n))
 
   pub fewest-passes : (budget : ℕ) (a : Sought) → smallest g free (budget + 1) 0 ≡ a → PlanIs g budget a
   fewest-passes budget a e = subst (PlanIs g budget) e (smallest-right budget (budget + 1) 0 (omega arith) (no-fewer-none g free))

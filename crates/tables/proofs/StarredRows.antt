@@ -15,14 +15,18 @@ use Rattle.step.specs.declared.Step.{Step}
 use Rattle.rules.specs.Grids.{total}
 use Rattle.rules.specs.Steps.{Names, ReasonNames}
 use Rattle.rules.specs.Figures.{figure}
-use Rattle.tables.proofs.Tests.{gap, gap-none, isOne, given, subTest, holdsTest, acceptedTest, closedTest, leastTest, least-passes, holds-tests}
-use Rattle.tables.proofs.Sought.{Sought, pick, reasonFor, reasonAt, stepFor, passFrom, extended, derive, confirmTest, aloneTest, unconfirmedTest, noBetter, bestTest, noneTest, greedyTest, after, none, some, unsure, judged, judge, orElse, choose, seek, firstOf, smallest}
+use Rattle.tables.proofs.Tests.{gap, gap-none, isOne, given, subTest, holdsTest, acceptedTest}
+use Rattle.tables.proofs.Tests.{closedTest, leastTest, least-passes, holds-tests}
+use Rattle.tables.proofs.Sought.{Sought, pick, reasonFor, reasonAt, stepFor, passFrom, extended, derive, confirmTest}
+use Rattle.tables.proofs.Sought.{aloneTest, unconfirmedTest, noBetter, bestTest, noneTest, greedyTest, after, none}
+use Rattle.tables.proofs.Sought.{some, unsure, judged, judge, orElse, choose, seek, firstOf, smallest}
 use Rattle.refusals.proofs.Orders.{itself}
 use Rattle.grid.specs.Cases.{neighbours, gridOf, Valid}
 use Rattle.tables.proofs.Drawn.{withinTest, rowTest, validTest, valid-passes}
 use Rattle.observe_calls.specs.Replies.{stated}
 use Rattle.tables.proofs.StarredSites.{grid, free, verdict-right, greedy-right, fewest-right, uncovered-right}
-use Rattle.tables.specs.Starred.{wordOf, caseOf, Row, observes, figures, fails, unconfirmed, adds, fewestIs, uncovered, Right, AllRight, table}
+use Rattle.tables.specs.Starred.{wordOf, caseOf, Row, observes, figures, fails, unconfirmed}
+use Rattle.tables.specs.Starred.{adds, fewestIs, uncovered, Right, AllRight, table}
 
 -- how far two integers are apart
 abbrev gapZ : ℤ → ℤ → ℕ
@@ -99,7 +103,8 @@ wrong (figures d bs i j z) xs =
 wrong (fails d x) xs = validTest (caseOf d) + namesTest (d .n) x + (1 - holdsTest (gridOf (caseOf d)) empty (x .bus) (x .reason))
 wrong (unconfirmed d bs) xs = validTest (caseOf d) + withinTest (d .n) (wordOf bs) + unconfirmedTest (grid d) (setOf (wordOf bs))
 wrong (adds d budget ss) xs = validTest (caseOf d) + (budget - 64) + greedyTest (grid d) budget ss
-wrong (fewestIs d budget bs) xs = validTest (caseOf d) + (budget - 8) + gapSought (smallest (grid d) (free d) (budget + 1) 0) (some (setOf (wordOf bs)))
+wrong (fewestIs d budget bs) xs =
+    validTest (caseOf d) + (budget - 8) + gapSought (smallest (grid d) (free d) (budget + 1) 0) (some (setOf (wordOf bs)))
 wrong (uncovered d budget) xs = validTest (caseOf d) + (budget - 8) + gapSought (smallest (grid d) (free d) (budget + 1) 0) none
 
 row-right : (r : Row) (xs : List Step) → wrong r xs ≡ 0 → Right r
@@ -114,11 +119,29 @@ row-right (figures d bs i j z) xs e =
     )
 row-right (fails d x) xs e =
     let v : Valid (caseOf d) = valid-passes (caseOf d) (omega arith) in
-    inr (v, inr (lit≤ tt, inr (names-pass (d .n) x (omega arith), inr (bit-zero (x .bus), inl (λ h. omega (arith, holds-tests (gridOf (caseOf d)) empty (x .bus) (v .proper) (x .reason) h), itself _)))))
+    inr (
+      v,
+      inr (
+        lit≤ tt,
+        inr (
+          names-pass (d .n) x (omega arith),
+          inr (
+            bit-zero (x .bus),
+            inl (
+              λ h. omega (arith, holds-tests (gridOf (caseOf d)) empty (x .bus) (v .proper) (x .reason) h),
+              itself _,
+            ),
+          ),
+        ),
+      ),
+    )
 row-right (unconfirmed d bs) xs e = verdict-right d bs e
 row-right (adds d budget ss) xs e = greedy-right d budget ss e
-row-right (fewestIs d budget bs) xs e = fewest-right d budget bs (omega arith) (gapSought-none (smallest (grid d) (free d) (budget + 1) 0) (some (setOf (wordOf bs))) (omega arith))
-row-right (uncovered d budget) xs e = uncovered-right d budget (omega arith) (gapSought-none (smallest (grid d) (free d) (budget + 1) 0) none (omega arith))
+row-right (fewestIs d budget bs) xs e =
+    fewest-right d budget bs (omega arith)
+    (gapSought-none (smallest (grid d) (free d) (budget + 1) 0) (some (setOf (wordOf bs))) (omega arith))
+row-right (uncovered d budget) xs e =
+    uncovered-right d budget (omega arith) (gapSought-none (smallest (grid d) (free d) (budget + 1) 0) none (omega arith))
 
 -- ---- the table
 
@@ -166,5 +189,8 @@ derivations =
 
 -- every row of the table is right
 pub table-right : AllRight table
-unfolding allWrong wrong gapSought busTest reasonTest namesTest validTest withinTest rowTest leastTest acceptedTest holdsTest closedTest subTest isOne gap given total neighbours setOf figure upTo less lack meet add ones onesIn pick reasonFor reasonAt stepFor passFrom extended derive confirmTest aloneTest unconfirmedTest noBetter bestTest noneTest greedyTest after judged judge orElse choose seek firstOf smallest
+unfolding allWrong wrong gapSought busTest reasonTest namesTest validTest withinTest rowTest leastTest acceptedTest holdsTest closedTest
+    subTest isOne gap given total neighbours setOf figure upTo less lack meet add ones onesIn pick reasonFor reasonAt stepFor passFrom
+    extended derive confirmTest aloneTest unconfirmedTest noBetter bestTest noneTest greedyTest after judged judge orElse
+    choose seek firstOf smallest
 table-right = all-right table derivations refl

@@ -35,29 +35,55 @@ fits : (n w : ℕ) → withinTest n w ≡ 0 → w < 2 ^ n
 unfolding withinTest
 fits n w e = omega arith
 
-pub verdict-right : (d : Drawing) (bs : List ℕ) → validTest (caseOf d) + withinTest (d .n) (wordOf bs) + unconfirmedTest (grid d) (setOf (wordOf bs)) ≡ 0
+pub verdict-right : (d : Drawing) (bs : List ℕ)
+    → validTest (caseOf d) + withinTest (d .n) (wordOf bs) + unconfirmedTest (grid d) (setOf (wordOf bs)) ≡ 0
     → VerdictReply (caseOf d) (verdict.Unconfirmed (wordOf bs))
 verdict-right d bs e =
-    let v : Valid (caseOf d) = valid-passes (caseOf d) (omega arith) in
-    ((v, tt), unconfirmed-passes (grid d) (v .proper) (setOf (wordOf bs)) (λ b h. set-bus (d .n) b (fits (d .n) (wordOf bs) (omega arith)) h) (omega arith))
+    let v : Valid (caseOf d) = valid-passes (caseOf d) (omega arith) in (
+      (v, tt),
+      unconfirmed-passes (grid d) (v .proper) (setOf (wordOf bs))
+          (λ b h. set-bus (d .n) b (fits (d .n) (wordOf bs) (omega arith)) h) (omega arith),
+    )
 
 pub greedy-right : (d : Drawing) (budget : ℕ) (xs : List ℕ) → validTest (caseOf d) + (budget - 64) + greedyTest (grid d) budget xs ≡ 0
-    → (entry : List ℕ) → length xs ≤ length entry → GreedyReply (caseOf d) budget entry (xs ++ drop (length xs) entry) (greedy.Added (length xs))
+    → (entry : List ℕ) → length xs ≤ length entry
+    → GreedyReply (caseOf d) budget entry (xs ++ drop (length xs) entry) (greedy.Added (length xs))
 greedy-right d budget xs e entry room =
     let v : Valid (caseOf d) = valid-passes (caseOf d) (omega arith) in
     let added = greedy-passes (grid d) budget xs (v .proper) (omega arith) in (
-      (v, (omega arith, ((λ ys h. subst (λ (zs : List ℕ). length zs ≤ length entry) (greedy-unique (grid d) budget xs ys added h) room), tt))),
+      (
+        v,
+        (
+          omega arith,
+          (
+            (λ ys h. subst (λ (zs : List ℕ). length zs ≤ length entry) (greedy-unique (grid d) budget xs ys added h) room),
+            tt,
+          ),
+        ),
+      ),
       record { list = xs; greedy = added; count = refl; written = refl },
     )
 
-pub fewest-right : (d : Drawing) (budget : ℕ) (bs : List ℕ) → validTest (caseOf d) + (budget - 8) ≡ 0 → smallest (grid d) (free d) (budget + 1) 0 ≡ some (setOf (wordOf bs))
+pub fewest-right : (d : Drawing) (budget : ℕ) (bs : List ℕ) → validTest (caseOf d) + (budget - 8) ≡ 0
+    → smallest (grid d) (free d) (budget + 1) 0 ≡ some (setOf (wordOf bs))
     → FewestReply (caseOf d) budget (fewest.Sites (wordOf bs))
 fewest-right d budget bs e found =
     let v : Valid (caseOf d) = valid-passes (caseOf d) (omega arith) in
-    let f = fewest-passes (grid d) (v .proper) (free d) (record { at = lack-at (grid d .sites) (grid d .units) }) budget (some (setOf (wordOf bs))) found in
+    let f = fewest-passes (grid d) (v .proper) (free d) (record { at = lack-at (grid d .sites) (grid d .units) }) budget
+    (some (setOf (wordOf bs))) found in
     ((v, (omega arith, (fewest-some f, tt))), f)
 
-pub uncovered-right : (d : Drawing) (budget : ℕ) → validTest (caseOf d) + (budget - 8) ≡ 0 → smallest (grid d) (free d) (budget + 1) 0 ≡ none → FewestReply (caseOf d) budget (fewest.Refused NoCover)
+pub uncovered-right : (d : Drawing) (budget : ℕ) → validTest (caseOf d) + (budget - 8) ≡ 0
+    → smallest (grid d) (free d) (budget + 1) 0 ≡ none → FewestReply (caseOf d) budget (fewest.Refused NoCover)
 uncovered-right d budget e found =
     let v : Valid (caseOf d) = valid-passes (caseOf d) (omega arith) in
-    inr (v, inr (omega arith, inl (fewest-passes (grid d) (v .proper) (free d) (record { at = lack-at (grid d .sites) (grid d .units) }) budget none found, itself _)))
+    inr (
+      v,
+      inr (
+        omega arith,
+        inl (
+          fewest-passes (grid d) (v .proper) (free d) (record { at = lack-at (grid d .sites) (grid d .units) }) budget none found,
+          itself _,
+        ),
+      ),
+    )

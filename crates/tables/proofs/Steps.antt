@@ -19,7 +19,8 @@ use Rattle.grid.specs.Cases.{neighbours}
 use Rattle.list_value.specs.declared.StepList.{StepList}
 use Rattle.tables.proofs.Rows.{_&_}
 use Rattle.tables.proofs.Computed.{known}
-use Rattle.tables.proofs.Deriving.{reasonTest, allowedTest, allowed-passes, noUnit, noZero, noReason, noSooner, nextTest, next-passes, derivedTest, derived-passes}
+use Rattle.tables.proofs.Deriving.{reasonTest, allowedTest, allowed-passes, noUnit, noZero, noReason}
+use Rattle.tables.proofs.Deriving.{noSooner, nextTest, next-passes, derivedTest, derived-passes}
 use Rattle.tables.specs.Tables.{AllRight}
 use Rattle.tables.specs.Drawings.{set, own, near, zeroAt, grid, sevenGrid, sweep, ring}
 use Rattle.tables.specs.Steps as steps
@@ -96,7 +97,8 @@ names-right =
 
 -- document 01's derivation
 pub is-derivation : Derivation (sevenGrid (3 ∷ [])) steps.derivation
-unfolding derivedTest nextTest noSooner noReason noUnit noZero allowedTest reasonTest holdsTest subTest given gap total neighbours add lack less setOf ones onesIn
+unfolding derivedTest nextTest noSooner noReason noUnit noZero allowedTest reasonTest holdsTest subTest given gap total neighbours add lack
+    less setOf ones onesIn
 is-derivation = derived-passes (sevenGrid (3 ∷ [])) (known .at3 .valid .proper) (set []) steps.derivation refl
 
 -- and that of no units
@@ -143,7 +145,8 @@ before-right =
     & tt
 
 pub next-right : AllRight derivation.next
-unfolding nextTest noSooner noReason noUnit noZero allowedTest reasonTest holdsTest subTest given gap total neighbours lack less setOf ones onesIn
+unfolding nextTest noSooner noReason noUnit noZero allowedTest reasonTest holdsTest subTest given gap total neighbours lack less setOf ones
+    onesIn
 next-right =
     next-passes (sevenGrid (3 ∷ [])) (known .at3 .valid .proper) (set []) (near 2 3) refl
     & (λ h. omega (arith, h .lowest (near 2 3) (allowed-passes (sevenGrid (3 ∷ [])) (set []) (near 2 3) refl)))
@@ -161,11 +164,13 @@ next-right =
     & tt
 
 -- a list that differs from the derivation in its length, or in the bus of its step i, is not it
-other : (g : Grid) (i : ℕ) (xs ys : List Step) → Derivation g xs → (length xs ≡ length ys → getD xs i noStep .bus ≡ getD ys i noStep .bus → ⊥) → Derivation g ys → ⊥
+other : (g : Grid) (i : ℕ) (xs ys : List Step) → Derivation g xs
+    → (length xs ≡ length ys → getD xs i noStep .bus ≡ getD ys i noStep .bus → ⊥) → Derivation g ys → ⊥
 other g i xs ys d ne h = let e = derived-unique d ys h in ne (ap length e) (ap (λ (zs : List Step). getD zs i noStep .bus) e)
 
 pub derivations-right : AllRight derivation.derivations
-unfolding derivedTest nextTest noSooner noReason noUnit noZero allowedTest reasonTest holdsTest subTest given gap total neighbours add lack less setOf ones onesIn
+unfolding derivedTest nextTest noSooner noReason noUnit noZero allowedTest reasonTest holdsTest subTest given gap total neighbours add lack
+    less setOf ones onesIn
 derivations-right =
     is-derivation
     & (λ xs d. sym (derived-unique is-derivation xs d))

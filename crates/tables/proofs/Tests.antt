@@ -146,7 +146,8 @@ closed-passes g s v e = record {
       fired-by (g .neighbours w) s
       (isOne-not (size (lack (g .neighbours w) s))
       (given-passes (bit s w) (isOne (size (lack (g .neighbours w) s))) o
-      (given-passes (bit (g .zeros) w) (given (bit s w) (isOne (size (lack (g .neighbours w) s)))) z (total-none (g .n) f (omega arith) w (v .zeros w z)))));
+      (given-passes (bit (g .zeros) w) (given (bit s w) (isOne (size (lack (g .neighbours w) s)))) z
+      (total-none (g .n) f (omega arith) w (v .zeros w z)))));
 }
 
 -- s is the observed set, as the list xs derives it
@@ -157,5 +158,7 @@ pub least-passes : (g : Grid) (xs : List Step) (s : ℕ) → Proper g → leastT
 unfolding leastTest
 least-passes g xs s v e = record {
   closed = closed-passes g s v (omega arith);
-  least = λ t cl. subst (λ (r : ℕ). Sub r t) (gap-none (reached xs) s (omega arith)) (accepted-inside g t xs cl (accepted-passes g empty xs v (omega arith)));
+  least =
+      λ t cl. subst (λ (r : ℕ). Sub r t) (gap-none (reached xs) s (omega arith))
+      (accepted-inside g t xs cl (accepted-passes g empty xs v (omega arith)));
 }

@@ -64,7 +64,9 @@ unfolding recordText join digits
 record-lines-right = refl
 
 pub formed-right : AllRight records.formed
-formed-right = omega arith & (λ h. omega arith) & omega arith & (λ h. omega arith) & (omega arith, omega arith) & (λ h. omega arith) & omega arith & tt & (λ h. h) & tt
+formed-right =
+    omega arith & (λ h. omega arith) & omega arith & (λ h. omega arith) & (omega arith, omega arith) & (λ h. omega arith) & omega
+    arith & tt & (λ h. h) & tt
 
 pub step-lines-right : records.StepLinesRight
 unfolding stepLineOf stepWordOf letterOf reasonFields stepFields one none split same isDigit takes numberFrom numberOf

@@ -60,17 +60,22 @@ runs-right =
     & tt
 
 -- the figure where i has so many neighbours, and so many of them other than j are observed
-figure-from : (nbr : ℕ → ℕ) (s i j a b : ℕ) → size (nbr i) ≡ a → size (less (meet (nbr i) s) j) ≡ b → figure nbr s i j ≡ pos 1 -ℤ pos a +ℤ pos (bit s i) +ℤ pos b
+figure-from : (nbr : ℕ → ℕ) (s i j a b : ℕ) → size (nbr i) ≡ a → size (less (meet (nbr i) s) j) ≡ b
+    → figure nbr s i j ≡ pos 1 -ℤ pos a +ℤ pos (bit s i) +ℤ pos b
 unfolding figure
 figure-from nbr s i j a b p q = ap₂ (λ (x y : ℕ). pos 1 -ℤ pos x +ℤ pos (bit s i) +ℤ pos y) p q
 
 -- the star's figure of 1 towards 2, with the digits counted
 star-figure : (s : ℕ) → less (meet (gridOf figures.star .neighbours 1) s) 2 < 2 ^ 65
-    → figure (gridOf figures.star .neighbours) s 1 2 ≡ pos 1 -ℤ pos 63 +ℤ pos (bit s 1) +ℤ pos (onesIn 65 (less (meet (gridOf figures.star .neighbours 1) s) 2))
+    → figure (gridOf figures.star .neighbours) s 1 2 ≡ pos 1 -ℤ pos 63 +ℤ pos (bit s 1) +ℤ pos
+    (onesIn 65 (less (meet (gridOf figures.star .neighbours 1) s) 2))
 unfolding neighbours setOf onesIn
-star-figure s l = figure-from (gridOf figures.star .neighbours) s 1 2 63 (onesIn 65 (less (meet (gridOf figures.star .neighbours 1) s) 2)) (ones-in 65 (gridOf figures.star .neighbours 1) (lit≤ tt)) (ones-in 65 (less (meet (gridOf figures.star .neighbours 1) s) 2) l)
+star-figure s l =
+    figure-from (gridOf figures.star .neighbours) s 1 2 63 (onesIn 65 (less (meet (gridOf figures.star .neighbours 1) s) 2))
+    (ones-in 65 (gridOf figures.star .neighbours 1) (lit≤ tt)) (ones-in 65 (less (meet (gridOf figures.star .neighbours 1) s) 2) l)
 
-star-ends : (figure (gridOf figures.star .neighbours) (set []) 1 2 ≡ negsuc 61) × (figure (gridOf figures.star .neighbours) (setOf (2 ^ 64 - 1)) 1 2 ≡ pos 1)
+star-ends : (figure (gridOf figures.star .neighbours) (set []) 1 2 ≡ negsuc 61)
+    × (figure (gridOf figures.star .neighbours) (setOf (2 ^ 64 - 1)) 1 2 ≡ pos 1)
 unfolding meet less lack neighbours setOf onesIn
 star-ends = (star-figure (set []) (lit≤ tt), star-figure (setOf (2 ^ 64 - 1)) (lit≤ tt))
 
@@ -156,7 +161,9 @@ unfolding add
 demand-right =
     weaving-shuffles (sevenGrid (3 ∷ [])) weaving.desks (own 3 ∷ near 2 3 ∷ own 3 ∷ []) accepted shuffled
     & (λ h. omega (arith, h .all 2 (inl refl)))
-    & (λ h. ⊎-elim (λ (l : In (reached (near 2 3 ∷ own 3 ∷ [])) 4). omega arith) (λ (m : In (reached (own 3 ∷ [])) 4 ⊎ ⊥). ⊎-elim (λ (l : In (reached (own 3 ∷ [])) 4). omega arith) (λ (z : ⊥). z) m) (h .only 4 refl))
+    & (λ h. ⊎-elim (λ (l : In (reached (near 2 3 ∷ own 3 ∷ [])) 4). omega arith)
+    (λ (m : In (reached (own 3 ∷ [])) 4 ⊎ ⊥). ⊎-elim (λ (l : In (reached (own 3 ∷ [])) 4). omega arith) (λ (z : ⊥). z) m)
+    (h .only 4 refl))
     & tt
 
 pub calls-right : AllRight weaving.calls

@@ -69,7 +69,8 @@ passed-at {c} {s} {a} {e} p k g =
       low = p .low;
       high = p .high;
       cut =
-          ap (split c) (parted s a e (p .low) ∙ ap (λ (t : List ℕ). part s a e ++ t) (drop-cons s e 0 k ∙ ap (λ (x : ℕ). x ∷ drop (suc e) s) g))
+          ap (split c) (parted s a e (p .low) ∙ ap (λ (t : List ℕ). part s a e ++ t)
+          (drop-cons s e 0 k ∙ ap (λ (x : ℕ). x ∷ drop (suc e) s) g))
           ∙ split-cut c (part s a e) (drop (suc e) s) (p .free)
           ∙ rw (lt-ltb e (length s) k);
     }
@@ -95,7 +96,8 @@ rest-few c [] = omega arith
 rest-few c (x ∷ s) = go (eqb x c) (split c s) (rest-few c s)
   where
     go : (b : Bool) (p : Pieces) → length (p .rest) ≤ length s →
-        length (cond {A = Pieces} b (record { first = []; rest = pieces p }) (record { first = x ∷ p .first; rest = p .rest }) .rest) ≤ suc (length s)
+        length (cond {A = Pieces} b (record { first = []; rest = pieces p }) (record { first = x ∷ p .first; rest = p .rest }) .rest)
+        ≤ suc (length s)
     go true p h = omega arith
     go false p h = omega arith
 
@@ -112,7 +114,8 @@ after-some c s e h = rw (lt-ltb e (length s) h)
 pub after-next : {c : ℕ} {s : List ℕ} {a e : ℕ} → a < length s → PieceEnd c s (a + 1) e → after c s a ≡ part s (a + 1) e ∷ after c s e
 unfolding after
 after-next {c} {s} {a} {e} h p =
-    let g : split c (drop (suc a) s) ≡ record { first = part s (a + 1) e; rest = after c s e } = ap (λ (j : ℕ). split c (drop j s)) (sym (add-one a)) ∙ p .cut in
+    let g : split c (drop (suc a) s) ≡ record { first = part s (a + 1) e; rest = after c s e } =
+    ap (λ (j : ℕ). split c (drop j s)) (sym (add-one a)) ∙ p .cut in
     rw (lt-ltb a (length s) h, g)
 
 -- ---- two texts compared
@@ -184,10 +187,12 @@ abbrev pub AllFree : ℕ → List (List ℕ) → Type 0
 AllFree c [] = Unit {0}
 AllFree c (p ∷ ps) = Free c p × AllFree c ps
 
-pub split-join : (c : ℕ) (p : List ℕ) (ps : List (List ℕ)) → Free c p → AllFree c ps → split c (join c p ps) ≡ record { first = p; rest = ps }
+pub split-join : (c : ℕ) (p : List ℕ) (ps : List (List ℕ)) → Free c p → AllFree c ps
+    → split c (join c p ps) ≡ record { first = p; rest = ps }
 unfolding join
 split-join c p [] f g = split-last c p f
-split-join c p (q ∷ ps) f g = split-cut c p (join c q ps) f ∙ ap (λ (x : Pieces). record { first = p; rest = pieces x }) (split-join c q ps (g .0) (g .1))
+split-join c p (q ∷ ps) f g =
+    split-cut c p (join c q ps) f ∙ ap (λ (x : Pieces). record { first = p; rest = pieces x }) (split-join c q ps (g .0) (g .1))
 
 pub free-join : (c d : ℕ) (p : List ℕ) (ps : List (List ℕ)) → (d ≡ c → ⊥) → Free c p → AllFree c ps → Free c (join d p ps)
 unfolding join

@@ -60,7 +60,8 @@ fuel : (k b : ℕ) → ((m : ℕ) → m < b → digits k m ≡ digits (suc k) m)
 fuel k b f m h =
     ⊎-elim
     (λ (s : m < 10). digits-few (suc k) m s ∙ sym (digits-few (suc (suc k)) m s))
-    (λ (l : 10 ≤ m). digits-many k m l ∙ ap (λ (t : List ℕ). t ++ (48 + m % 10) ∷ []) (f (m / 10) (omega arith)) ∙ sym (digits-many (suc k) m l))
+    (λ (l : 10 ≤ m). digits-many k m l ∙ ap (λ (t : List ℕ). t ++ (48 + m % 10) ∷ []) (f (m / 10) (omega arith))
+    ∙ sym (digits-many (suc k) m l))
     (few-or-many m)
 
 pub text-few : (n : ℕ) → n < 10 → numberText n ≡ (48 + n) ∷ []
@@ -114,7 +115,8 @@ read-number = by-digits (λ n. numberOf (numberText n) ≡ Is n) read-digit more
   where
     more : (n : ℕ) → 10 ≤ n → n < 10000 → numberOf (numberText (n / 10)) ≡ Is (n / 10) → numberOf (numberText n) ≡ Is n
     more n h l p =
-        let t : Taken (n / 10) (48 + n % 10) = record { digit = record { low = omega arith; high = omega arith }; some = omega arith; small = omega arith } in
+        let t : Taken (n / 10) (48 + n % 10) =
+        record { digit = record { low = omega arith; high = omega arith }; some = omega arith; small = omega arith } in
         let e : n / 10 * 10 + ((48 + n % 10) - 48) ≡ n = omega arith in
         rw (text-many n h l) (of-snoc (n / 10) (48 + n % 10) (numberText (n / 10)) p t ∙ ap Is e)
 
@@ -148,7 +150,10 @@ written-number (d ∷ s) n e =
     let g = digit-of d (p .0) in
     let f : 48 + (d - 48) ≡ d = omega (arith, g) in
     let w = from-written (d - 48) n s (omega (arith, g)) (p .1) in
-    record { small = w .small; text = w .text ∙ ap (λ (x : List ℕ). x ++ s) (text-few (d - 48) (omega (arith, g)) ∙ ap (λ (x : ℕ). x ∷ []) f) }
+    record {
+      small = w .small;
+      text = w .text ∙ ap (λ (x : List ℕ). x ++ s) (text-few (d - 48) (omega (arith, g)) ∙ ap (λ (x : ℕ). x ∷ []) f);
+    }
 
 -- ---- a number's text has digits alone
 

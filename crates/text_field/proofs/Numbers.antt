@@ -54,7 +54,8 @@ unfolding numberOf
 first-digit [] v h e f = absurd (omega arith)
 first-digit (d ∷ s) v h e f = record { is = rw (e, f); small = omega (arith, digit-of d e) }
 
-pub next-digit : {s : List ℕ} {v i : ℕ} (w : ℕ) → Sofar s v i → i < length s → takes v (getD s i 0) ≡ true → w ≡ getD s i 0 → Sofar s (v * 10 + (w - 48)) (i + 1)
+pub next-digit : {s : List ℕ} {v i : ℕ} (w : ℕ) → Sofar s v i → i < length s → takes v (getD s i 0) ≡ true → w ≡ getD s i 0
+    → Sofar s (v * 10 + (w - 48)) (i + 1)
 unfolding numberFrom
 next-digit {s} {v} {i} w p h e f =
     record { is = p .is ∙ rw (add-one, drop-cons s i 0, e, f); small = omega (arith, taken-of v (getD s i 0) e) }

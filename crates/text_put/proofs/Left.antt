@@ -16,7 +16,8 @@ pub record Left (l : List ℕ) (at : ℕ) (whole m : List ℕ) (k : ℕ) (rest :
 pub left-none : {l whole rest : List ℕ} {at : ℕ} → rest ≡ whole → Left l at whole l at rest
 left-none {l} {at = at} e = record { is = ap (sets l at) e; next = ap (λ (t : List ℕ). at + length t) e; size = refl }
 
-pub left-more : {l whole m rest t u n : List ℕ} {at k q : ℕ} → Left l at whole m k rest → rest ≡ t ++ u → Put m k t n q → Left l at whole n q u
+pub left-more : {l whole m rest t u n : List ℕ} {at k q : ℕ} → Left l at whole m k rest → rest ≡ t ++ u → Put m k t n q
+    → Left l at whole n q u
 left-more {l} {whole} {m} {rest} {t} {u} {n} {at} {k} {q} w e p = record {
   is = rw (p .put, p .next) (sets-append m t u k) ∙ ap (sets m k) (sym e) ∙ w .is;
   next = omega (arith, w .next, p .next, ap length e, length-append t u);

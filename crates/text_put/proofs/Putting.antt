@@ -57,7 +57,8 @@ pub record Filled (l : List ℕ) (at : ℕ) (s m : List ℕ) (r i : ℕ) : Type 
 pub filled-none : {l s : List ℕ} {at : ℕ} → Filled l at s l at 0
 filled-none = record { some = put-none; high = omega arith; here = omega arith }
 
-pub filled-more : {l s m n : List ℕ} {at r q i : ℕ} → Filled l at s m r i → i < length s → Put m r (getD s i 0 ∷ []) n q → Filled l at s n q (i + 1)
+pub filled-more : {l s m n : List ℕ} {at r q i : ℕ} → Filled l at s m r i → i < length s → Put m r (getD s i 0 ∷ []) n q
+    → Filled l at s n q (i + 1)
 filled-more {l} {s} {m} {n} {at} {r} {q} {i} f h p =
     record {
       some = put-same (sym (rw add-one (take-suc s i 0 h))) (put-then (f .some) p);

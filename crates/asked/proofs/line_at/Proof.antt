@@ -67,8 +67,11 @@ returns c =
     record {
       named = s4 .piece-end4 .ensures .low;
       within = omega (arith, c .after4 .ensures, s4 .piece-end4 .ensures .high);
-      onward = onward-more in-text (onward-more in-text (onward-more in-text (onward in-text (s1 .piece-end .ensures .low) (s2 .before .after .ensures))
-          (s2 .piece-end2 .ensures .low) (s3 .before .after2 .ensures)) (s3 .piece-end3 .ensures .low) (s4 .before .after3 .ensures)) (s4 .piece-end4 .ensures .low) (c .after4 .ensures);
+      onward =
+          onward-more in-text (onward-more in-text (onward-more in-text
+          (onward in-text (s1 .piece-end .ensures .low) (s2 .before .after .ensures))
+          (s2 .piece-end2 .ensures .low) (s3 .before .after2 .ensures)) (s3 .piece-end3 .ensures .low) (s4 .before .after3 .ensures))
+          (s4 .piece-end4 .ensures .low) (c .after4 .ensures);
       high = omega (arith, c .after4 .ensures);
     }
 

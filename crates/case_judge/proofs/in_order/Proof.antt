@@ -41,7 +41,13 @@ returns-2 : tie.Need-returns-2
 returns-2 c = rw (c .before .before .r .given .1) (c .is-next .ensures)
 
 returns-3 : tie.Need-returns-3
-returns-3 c = rw (c .before .before .before .before .r2 .given .1, c .both .ensures, c .before .is-after .ensures, c .before .before .is-less .ensures) refl
+returns-3 c =
+    rw (
+      c .before .before .before .before .r2 .given .1,
+      c .both .ensures,
+      c .before .is-after .ensures,
+      c .before .before .is-less .ensures,
+    ) refl
 
 returns-4 : tie.Need-returns-4
 returns-4 c = rw (c .before .before .r3 .given .1) refl

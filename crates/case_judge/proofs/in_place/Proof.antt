@@ -44,7 +44,13 @@ returns-2 : tie.Need-returns-2
 returns-2 c = rw (c .before .enum-told2 .given .1) refl
 
 returns-3 : tie.Need-returns-3
-returns-3 c = rw (c .before .before .before .enum-told3 .given .1, c .both .ensures, c .before .is-zero .ensures, c .before .before .is-past-buses .ensures) refl
+returns-3 c =
+    rw (
+      c .before .before .before .enum-told3 .given .1,
+      c .both .ensures,
+      c .before .is-zero .ensures,
+      c .before .before .is-past-buses .ensures,
+    ) refl
 
 returns-4 : tie.Need-returns-4
 returns-4 c = rw (c .before .enum-told4 .given .1) (c .is-past-buses2 .ensures)

@@ -51,7 +51,13 @@ after-mark : (c : tie.After-put-mark) → c .put-mark .result < 2 ^ 30
 after-mark c =
     let at-put-tagged2 = c .before .before .before .before in
     let at-r2 = at-put-tagged2 .before .before .before .before in
-    omega (arith, c .put-mark .ensures .next, letter-length (at-r2 .r2 .given .0 .1 .0) 90 73, at-put-tagged2 .put-tagged2 .ensures .next, text-length (at-r2 .r2 .given .0 .0))
+    omega (
+      arith,
+      c .put-mark .ensures .next,
+      letter-length (at-r2 .r2 .given .0 .1 .0) 90 73,
+      at-put-tagged2 .put-tagged2 .ensures .next,
+      text-length (at-r2 .r2 .given .0 .0),
+    )
 
 put-mark-requires-2 : tie.Need-put-mark-requires-2
 put-mark-requires-2 c κs = omega (arith, after-mark (c .before .before .before))

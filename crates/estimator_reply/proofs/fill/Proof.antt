@@ -31,8 +31,11 @@ loop-less c = search needs
 
 loop-again : tie.Need-loop-again Inv-loop μ-loop
 loop-again c =
-    let at-loop = c .before .before in
-    (search needs, filled-more (at-loop .before .before .args .s) (at-loop .loop .inv .1) (search needs) (at-loop .before .before .pre) (c .byte-of .ensures))
+    let at-loop = c .before .before in (
+      search needs,
+      filled-more (at-loop .before .before .args .s) (at-loop .loop .inv .1) (search needs)
+          (at-loop .before .before .pre) (c .byte-of .ensures),
+    )
 
 same-length : tie.Need-same-length Inv-loop μ-loop
 same-length c = c .before .loop .inv .1 .long

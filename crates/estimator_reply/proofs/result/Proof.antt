@@ -35,7 +35,11 @@ code-requires-3 c κs =
 add-result : tie.Need-add-result
 add-result c =
     let at-answer2 = c .before .before in
-    omega (arith, c .code3 .ensures, code-small (at-answer2 .answer2 .given .0 .0) (subst Placed (at-answer2 .answer2 .given .1) (at-answer2 .before .before .pre)))
+    omega (
+      arith,
+      c .code3 .ensures,
+      code-small (at-answer2 .answer2 .given .0 .0) (subst Placed (at-answer2 .answer2 .given .1) (at-answer2 .before .before .pre)),
+    )
 
 returns-2 : tie.Need-returns-2
 returns-2 c = result-set _ (c .before .enum-told .given .1) (c .if1 .left)

@@ -42,8 +42,12 @@ returns c =
     let start = degree .before .before in
     let fits : SFits w32 (c .signed-sum .result) = search needs in
     toZ-ofZ fits
-    ∙ figure-law (neighbours (start .args .nbr .now)) (setOf (start .args .s)) (start .args .i) (start .args .j) (degree .before .row .ensures) (degree .count .ensures .is)
-    (joined .both .ensures) (others .before .without .ensures) (others .count2 .ensures .is) (c .before .seen .ensures) (c .signed-sum .ensures)
+    ∙ figure-law (neighbours (start .args .nbr .now)) (setOf (start .args .s)) (start .args .i) (start .args .j)
+    (degree .before .row .ensures) (degree .count .ensures .is)
+    (joined .both .ensures) (others .before .without .ensures) (others .count2 .ensures .is) (c .before .seen .ensures)
+    (c .signed-sum .ensures)
 
 pub figure-of-spec : {M : Type 1} → statement M
-figure-of-spec = tie.close (tie.spec row-requires count-requires both-requires without-requires count-requires-2 seen-requires add-signed-sum signed-sum-requires returns)
+figure-of-spec =
+    tie.close (tie.spec row-requires count-requires both-requires without-requires count-requires-2 seen-requires add-signed-sum
+    signed-sum-requires returns)

@@ -59,7 +59,9 @@ enum-told : tie.Need-enum-told Inv-loop μ-loop
 enum-told c = search needs
 
 returns : tie.Need-returns Inv-loop μ-loop
-returns c = extends-all (c .before .before .before .loop .inv) (subst (NextAnswer _ _) (c .enum-told .given .1) (c .before .before .next-step .ensures))
+returns c =
+    extends-all (c .before .before .before .loop .inv)
+    (subst (NextAnswer _ _) (c .enum-told .given .1) (c .before .before .next-step .ensures))
 
 push-requires : tie.Need-push-requires Inv-loop μ-loop
 push-requires c κs =
@@ -78,7 +80,10 @@ loop-less c =
 loop-again : tie.Need-loop-again Inv-loop μ-loop
 loop-again c =
     let x = c .before .before .before in
-    extends-more (valid x .proper) (valid x .buses .most) (stepped x) (x .before .before .before .loop .inv) (c .before .push .ensures) (c .with .ensures)
+    extends-more (valid x .proper) (valid x .buses .most) (stepped x) (x .before .before .before .loop .inv)
+    (c .before .push .ensures) (c .with .ensures)
 
 pub derive-spec : {M : Type 1} → statement M
-derive-spec = tie.close (tie.spec Inv-loop μ-loop none-requires no-steps-requires loop-holds next-step-requires enum-known-x enum-told returns push-requires with-requires loop-less loop-again)
+derive-spec =
+    tie.close (tie.spec Inv-loop μ-loop none-requires no-steps-requires loop-holds next-step-requires enum-known-x enum-told returns
+    push-requires with-requires loop-less loop-again)

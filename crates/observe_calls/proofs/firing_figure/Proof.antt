@@ -27,10 +27,13 @@ valid c = c .before .is-valid .ensures .yes (not-false _ (c .if1 .left))
 from : (c : tie.Else2) → Bus (c .before .before .before .before .args .case .n) (c .before .before .before .before .args .i)
 from c = c .before .is-bus .ensures .yes (not-false _ (c .if2 .left))
 
-to : (c : tie.Else3) → Bus (c .before .before .before .before .before .before .args .case .n) (c .before .before .before .before .before .before .args .j)
+to : (c : tie.Else3)
+    → Bus (c .before .before .before .before .before .before .args .case .n) (c .before .before .before .before .before .before .args .j)
 to c = c .before .is-bus2 .ensures .yes (not-false _ (c .if3 .left))
 
-at-width : (c : tie.Else3) → Bus width (c .before .before .before .before .before .before .args .i) × Bus width (c .before .before .before .before .before .before .args .j)
+at-width : (c : tie.Else3)
+    → Bus width (c .before .before .before .before .before .before .args .i)
+    × Bus width (c .before .before .before .before .before .before .args .j)
 at-width c =
     let most = valid (c .before .before .before .before) .buses .most in
     (bus-more (from (c .before .before)) most, bus-more (to c) most)
@@ -54,7 +57,11 @@ is-bus-requires-2 : tie.Need-is-bus-requires-2
 is-bus-requires-2 c κs = search needs
 
 returns-3 : tie.Need-returns-3
-returns-3 c = inr (valid (c .before .before .before .before), inl (λ h. refutes (c .before .is-bus2 .ensures) (not-true _ (c .if3 .taken)) (h .1), itself _))
+returns-3 c =
+    inr (
+      valid (c .before .before .before .before),
+      inl (λ h. refutes (c .before .is-bus2 .ensures) (not-true _ (c .if3 .taken)) (h .1), itself _),
+    )
 
 row-requires : tie.Need-row-requires
 row-requires c κs = at-width (c .before .before) .0
@@ -85,9 +92,15 @@ returns-5 c =
     let third = lines .before .before .before .before .before in
     let asked = start (lines .before) .args in
     let fits : SFits w32 (c .figure-of .result) = search needs in (
-      (valid (third .before .before .before .before), ((from (third .before .before), to third), (joined (lines .before) .yes (not-false _ (lines .if4 .left)), tt))),
-      toZ-ofZ fits ∙ c .figure-of .ensures ∙ ap (λ (s : ℕ). figure (neighbours (asked .case .nbr)) s (asked .i) (asked .j)) (c .before .up-to .ensures),
+      (
+        valid (third .before .before .before .before),
+        ((from (third .before .before), to third), (joined (lines .before) .yes (not-false _ (lines .if4 .left)), tt)),
+      ),
+      toZ-ofZ fits ∙ c .figure-of .ensures ∙ ap (λ (s : ℕ). figure (neighbours (asked .case .nbr)) s (asked .i) (asked .j))
+          (c .before .up-to .ensures),
     )
 
 pub firing-figure-spec : {M : Type 1} → statement M
-firing-figure-spec = tie.close (tie.spec is-valid-requires returns is-bus-requires returns-2 is-bus-requires-2 returns-3 row-requires has-requires returns-4 up-to-requires figure-of-requires returns-5)
+firing-figure-spec =
+    tie.close (tie.spec is-valid-requires returns is-bus-requires returns-2 is-bus-requires-2 returns-3 row-requires has-requires returns-4
+    up-to-requires figure-of-requires returns-5)

@@ -57,7 +57,10 @@ has-requires c κs = names-more (named (c .before)) (valid (c .before .before .b
 returns-3 : tie.Need-returns-3
 returns-3 c =
     let second = c .before .before .before in
-    inr (valid (second .before .before), inr (named second, inl (λ o. let h = seen (c .before) .yes (c .if3 .taken) in omega arith, itself _)))
+    inr (
+      valid (second .before .before),
+      inr (named second, inl (λ o. let h = seen (c .before) .yes (c .if3 .taken) in omega arith, itself _)),
+    )
 
 holds-requires : tie.Need-holds-requires
 holds-requires c κs = names-more (named (c .before .before .before)) (valid (c .before .before .before .before .before) .buses .most)
@@ -92,4 +95,6 @@ returns-5 c =
     )
 
 pub test-step-spec : {M : Type 1} → statement M
-test-step-spec = tie.close (tie.spec is-valid-requires returns names-requires returns-2 up-to-requires has-requires returns-3 holds-requires returns-4 returns-5)
+test-step-spec =
+    tie.close (tie.spec is-valid-requires returns names-requires returns-2 up-to-requires has-requires returns-3
+    holds-requires returns-4 returns-5)

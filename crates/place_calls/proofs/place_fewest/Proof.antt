@@ -17,8 +17,11 @@ valid : (c : tie.Else1) → Valid (c .before .before .args .case)
 valid c = c .before .is-valid .ensures .yes (not-false _ (c .if1 .left))
 
 -- what the search says, as an answer known by its variant
-answer : (c : tie.After-fewest) (r : Found) → c .fewest .result ≡ r → let s = c .before .before .before .before .before .before in FewestIs (gridOf (s .args .case)) (s .args .budget) r
-answer c r e = let s = c .before .before .before .before .before .before in subst (FewestIs (gridOf (s .args .case)) (s .args .budget)) e (c .fewest .ensures)
+answer : (c : tie.After-fewest) (r : Found) → c .fewest .result ≡ r
+    → let s = c .before .before .before .before .before .before in FewestIs (gridOf (s .args .case)) (s .args .budget) r
+answer c r e =
+    let s = c .before .before .before .before .before .before in
+    subst (FewestIs (gridOf (s .args .case)) (s .args .budget)) e (c .fewest .ensures)
 
 is-valid-requires : tie.Need-is-valid-requires
 is-valid-requires c κs = search needs

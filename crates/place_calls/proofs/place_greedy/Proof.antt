@@ -17,7 +17,9 @@ valid : (c : tie.Else1) → Valid (c .before .before .before .args .case)
 valid c = c .before .is-valid .ensures .yes (not-false _ (c .if1 .left))
 
 -- what greedy adds
-listed : (c : tie.After-greedy) → let s = c .before .before .before .before .before .before .before in Listed (gridOf (s .args .case)) (s .args .budget) (c .greedy .result .count) (c .greedy .result .sites)
+listed : (c : tie.After-greedy)
+    → let s = c .before .before .before .before .before .before .before in
+    Listed (gridOf (s .args .case)) (s .args .budget) (c .greedy .result .count) (c .greedy .result .sites)
 listed c = c .greedy .ensures _
 
 is-valid-requires : tie.Need-is-valid-requires
@@ -35,8 +37,13 @@ greedy-requires c κs = search needs
 returns-3 : tie.Need-returns-3
 returns-3 c =
     let made = c .before .before in
-    let second = made .before .before .before in
-    (inr (valid (second .before), inr (second .if2 .left, inl (listed-no-room (listed made) (second .if2 .left) _ (c .if3 .taken), itself _))), refl)
+    let second = made .before .before .before in (
+      inr (
+        valid (second .before),
+        inr (second .if2 .left, inl (listed-no-room (listed made) (second .if2 .left) _ (c .if3 .taken), itself _)),
+      ),
+      refl,
+    )
 
 write-requires : tie.Need-write-requires
 write-requires c κs =
@@ -52,7 +59,13 @@ returns-4 c =
     let wrote = c .before .before in
     let made = wrote .before .before .before .before in
     let second = made .before .before .before in (
-      (valid (second .before), (second .if2 .left, (listed-room (listed made) (second .if2 .left) _ (wrote .before .before .if3 .left), tt))),
+      (
+        valid (second .before),
+        (
+          second .if2 .left,
+          (listed-room (listed made) (second .if2 .left) _ (wrote .before .before .if3 .left), tt),
+        ),
+      ),
       record {
         list = take (made .greedy .result .count) (made .greedy .result .sites);
         greedy = listed made .greedy;

@@ -42,7 +42,9 @@ abbrev search-below : ℕ → In 1 search-kinds.ps
 search-below t = and 1 search-kinds.ps (falls 1 search-kinds.ps _<_ μ-search t) search′.Pre
 
 abbrev search-Inv-loop : search-lts.InvT-loop
-search-Inv-loop n nbr zero s sites k left₀ left = Sub (setOf left) (setOf sites) × Whatever n (neighbours nbr) (setOf zero) (λ g. ObservedSet g (setOf s) → Passed g (setOf sites) k (setOf left))
+search-Inv-loop n nbr zero s sites k left₀ left =
+    Sub (setOf left) (setOf sites)
+    × Whatever n (neighbours nbr) (setOf zero) (λ g. ObservedSet g (setOf s) → Passed g (setOf sites) k (setOf left))
 
 abbrev search-μ-loop : search-lts.MeasureT-loop
 search-μ-loop n nbr zero s sites k left₀ left = size (setOf left)
@@ -71,14 +73,22 @@ calls t = (
 )
 
 -- the function's entry, and a grid that it was given, whatever its sites and units
-abbrev entry : {t : ℕ} → search-lts.At-loop (calls t) (search-at t) search′.Post search-Inv-loop search-μ-loop → search-lts.Start (calls t) (search-at t) search′.Post search-Inv-loop search-μ-loop
+abbrev entry : {t : ℕ} → search-lts.At-loop (calls t) (search-at t) search′.Post search-Inv-loop search-μ-loop
+    → search-lts.Start (calls t) (search-at t) search′.Post search-Inv-loop search-μ-loop
 entry l = l .before .before
 
 abbrev asked : {t : ℕ} → search-lts.Start (calls t) (search-at t) search′.Post search-Inv-loop search-μ-loop → ℕ → ℕ → Grid
-asked s sites units = record { n = s .args .n; neighbours = neighbours (s .args .nbr .now); zeros = setOf (s .args .zero); sites = sites; units = units }
+asked s sites units = record {
+  n = s .args .n;
+  nbr = neighbours (s .args .nbr .now);
+  zero = setOf (s .args .zero);
+  site = sites;
+  units = units;
+}
 
 -- the turn that a recursive call belongs to
-abbrev turn : {t : ℕ} → search-lts.After-lit (calls t) (search-at t) search′.Post search-Inv-loop search-μ-loop → search-lts.At-loop (calls t) (search-at t) search′.Post search-Inv-loop search-μ-loop
+abbrev turn : {t : ℕ} → search-lts.After-lit (calls t) (search-at t) search′.Post search-Inv-loop search-μ-loop
+    → search-lts.At-loop (calls t) (search-at t) search′.Post search-Inv-loop search-μ-loop
 turn c = c .before .before .before .before .before .before .before
 
 search-is-full-requires : (t : ℕ) → search-lts.Need-is-full-requires (calls t) (search-at t) search′.Post search-Inv-loop search-μ-loop
@@ -96,7 +106,8 @@ search-returns t c =
 search-returns-2 : (t : ℕ) → search-lts.Need-returns-2 (calls t) (search-at t) search′.Post search-Inv-loop search-μ-loop
 search-returns-2 t c =
     let s = c .before .before .before in
-    λ sites units l. no-way-none (c .before .before .if1 .taken) (λ covers. refutes (c .before .is-full .ensures) (c .if2 .left) (covers-full (asked s sites units) l covers))
+    λ sites units l. no-way-none (c .before .before .if1 .taken)
+    (λ covers. refutes (c .before .is-full .ensures) (c .if2 .left) (covers-full (asked s sites units) l covers))
 
 search-loop-holds : (t : ℕ) → search-lts.Need-loop-holds (calls t) (search-at t) search′.Post search-Inv-loop search-μ-loop
 search-loop-holds t c = (λ b. omega arith, λ sites units l. passed-none _ _ _)
@@ -104,7 +115,8 @@ search-loop-holds t c = (λ b. omega arith, λ sites units l. passed-none _ _ _)
 search-is-none-requires : (t : ℕ) → search-lts.Need-is-none-requires (calls t) (search-at t) search′.Post search-Inv-loop search-μ-loop
 search-is-none-requires t c κs = search needs
 
-search-is-hopeless-requires : (t : ℕ) → search-lts.Need-is-hopeless-requires (calls t) (search-at t) search′.Post search-Inv-loop search-μ-loop
+search-is-hopeless-requires : (t : ℕ)
+    → search-lts.Need-is-hopeless-requires (calls t) (search-at t) search′.Post search-Inv-loop search-μ-loop
 search-is-hopeless-requires t c κs =
     let l = c .before .before in
     (entry l .pre .1 .0, entry l .pre .1 .1, λ b h. entry l .pre .1 .2 b (omega (arith, l .loop .inv .0 b)))
@@ -112,7 +124,8 @@ search-is-hopeless-requires t c κs =
 search-returns-3 : (t : ℕ) → search-lts.Need-returns-3 (calls t) (search-at t) search′.Post search-Inv-loop search-μ-loop
 search-returns-3 t c =
     let l = c .before .before .before .before in
-    λ sites units least. passed-no (l .loop .inv .1 sites units least) (no-cover-way (c .before .is-hopeless .ensures sites units least (c .if4 .taken)))
+    λ sites units least. passed-no (l .loop .inv .1 sites units least)
+    (no-cover-way (c .before .is-hopeless .ensures sites units least (c .if4 .taken)))
 
 search-lowest-requires : (t : ℕ) → search-lts.Need-lowest-requires (calls t) (search-at t) search′.Post search-Inv-loop search-μ-loop
 search-lowest-requires t c κs =
@@ -133,8 +146,14 @@ search-search-requires t c κs =
     let l = turn c in
     let w = c .before in
     let fewer = w .without .ensures .fewer (w .before .lowest .ensures .has) in
-    let most = size-le _ _ (l .loop .inv .0) in
-    (omega arith, (entry l .pre .1 .0, entry l .pre .1 .1, λ b h. entry l .pre .1 .2 b (omega (arith, without-sub (w .without .ensures) b, l .loop .inv .0 b))))
+    let most = size-le _ _ (l .loop .inv .0) in (
+      omega arith,
+      (
+        entry l .pre .1 .0,
+        entry l .pre .1 .1,
+        λ b h. entry l .pre .1 .2 b (omega (arith, without-sub (w .without .ensures) b, l .loop .inv .0 b)),
+      ),
+    )
 
 search-enum-known-r : (t : ℕ) → search-lts.Need-enum-known-r (calls t) (search-at t) search′.Post search-Inv-loop search-μ-loop
 search-enum-known-r t c = search needs
@@ -175,7 +194,8 @@ search-loop-again t c =
 search-returns-5 : (t : ℕ) → search-lts.Need-returns-5 (calls t) (search-at t) search′.Post search-Inv-loop search-μ-loop
 search-returns-5 t c =
     let l = c .before .before in
-    λ sites units least. passed-no (l .loop .inv .1 sites units least) (no-way-left (c .before .is-none .ensures .yes (not-false _ (c .if3 .left))) (omega arith))
+    λ sites units least. passed-no (l .loop .inv .1 sites units least)
+    (no-way-left (c .before .is-none .ensures .yes (not-false _ (c .if3 .left))) (omega arith))
 
 pub +search-spec : {M : Type 1} → statement M
 +search-spec = close μ-search λ t. search-lts.spec (calls t)

@@ -13,16 +13,20 @@ use Rattle.place_fewest.proofs.fewest.Statement.{statement}
 use Rattle.place_fewest.proofs.fewest.Tie as tie
 
 abbrev Inv-loop : tie.InvT-loop
-Inv-loop n nbr zero site units budget s free k₀ k-end k = (k ≤ budget + 1) × (k-end ≡ budget + 1) × NoFewer (gridWith n nbr zero site units) (setOf free) k
+Inv-loop n nbr zero site units budget s free k₀ k-end k =
+    (k ≤ budget + 1) × (k-end ≡ budget + 1) × NoFewer (gridWith n nbr zero site units) (setOf free) k
 
 abbrev μ-loop : tie.MeasureT-loop
 μ-loop n nbr zero site units budget s free k₀ k-end k = k-end - k
 
 abbrev asked : tie.After-search Inv-loop μ-loop → Grid
-asked c = let s = c .before .before .before .before .before in gridWith (s .args .n) (s .args .nbr .now) (s .args .zero) (s .args .site) (s .args .units)
+asked c =
+    let s = c .before .before .before .before .before in
+    gridWith (s .args .n) (s .args .nbr .now) (s .args .zero) (s .args .site) (s .args .units)
 
 -- what the search said of the size k
-answer : (c : tie.After-search Inv-loop μ-loop) (r : Found) → c .search .result ≡ r → FoundIs (asked c) (setOf (c .before .before .before .minus .result)) (c .before .before .loop .k) r
+answer : (c : tie.After-search Inv-loop μ-loop) (r : Found) → c .search .result ≡ r
+    → FoundIs (asked c) (setOf (c .before .before .before .minus .result)) (c .before .before .loop .k) r
 answer c r e =
     let s = c .before .before .before .before .before in
     subst (FoundIs (asked c) (setOf (c .before .before .before .minus .result)) (c .before .before .loop .k)) e

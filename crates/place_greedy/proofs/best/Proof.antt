@@ -16,7 +16,10 @@ use Rattle.place_greedy.proofs.best.Statement.{statement}
 use Rattle.place_greedy.proofs.best.Tie as tie
 
 abbrev Inv-loop : tie.InvT-loop
-Inv-loop nbr zero s free site₀ most₀ left₀ site most left = (n : ℕ) → Whatever n (neighbours nbr) (setOf zero) (λ g. Minus (g .sites) (g .units) (setOf free) → ObservedSet g (setOf s) → Compared g (setOf s) (setOf left) most site)
+Inv-loop nbr zero s free site₀ most₀ left₀ site most left =
+    (n : ℕ)
+    → Whatever n (neighbours nbr) (setOf zero)
+    (λ g. Minus (g .sites) (g .units) (setOf free) → ObservedSet g (setOf s) → Compared g (setOf s) (setOf left) most site)
 
 abbrev μ-loop : tie.MeasureT-loop
 μ-loop nbr zero s free site₀ most₀ left₀ site most left = size (setOf left)
@@ -53,12 +56,16 @@ loop-again c = λ n sites units m l.
     let compared = low .before .before .before .loop .inv n sites units m l in
     let observed = lit-least l (lit .lit .ensures) in
     ⊎-elim
-    (λ w. compared-to (compared-yes compared (low .lowest .ensures) (c .without .ensures) observed (counted .count2 .ensures .is) (w .0 .taken)) (w .1) (w .2))
-    (λ w. compared-to (compared-no compared (low .lowest .ensures) (c .without .ensures) observed (counted .count2 .ensures .is) (w .0 .left)) (w .1) (w .2))
+    (λ w. compared-to (compared-yes compared (low .lowest .ensures) (c .without .ensures) observed (counted .count2 .ensures .is)
+    (w .0 .taken)) (w .1) (w .2))
+    (λ w. compared-to (compared-no compared (low .lowest .ensures) (c .without .ensures) observed (counted .count2 .ensures .is)
+    (w .0 .left)) (w .1) (w .2))
     (c .before .if2 .came)
 
 returns : tie.Need-returns Inv-loop μ-loop
-returns c = λ n sites units m l. compared-all _ (c .before .before .loop .inv n sites units m l) (c .before .is-none .ensures .yes (not-false _ (c .if1 .left))) l
+returns c =
+    λ n sites units m l. compared-all _ (c .before .before .loop .inv n sites units m l)
+    (c .before .is-none .ensures .yes (not-false _ (c .if1 .left))) l
 
 pub best-spec : {M : Type 1} → statement M
 best-spec =

@@ -17,7 +17,8 @@ use Rattle.place_greedy.proofs.greedy.Statement.{statement}
 use Rattle.place_greedy.proofs.greedy.Tie as tie
 
 abbrev Inv-loop : tie.InvT-loop
-Inv-loop nbr zero site units budget placed₀ s₀ sites₀ count₀ placed s sites count = (n : ℕ) → Adding (gridWith n nbr zero site units) budget count (setOf placed) (setOf s) sites
+Inv-loop nbr zero site units budget placed₀ s₀ sites₀ count₀ placed s sites count =
+    (n : ℕ) → Adding (gridWith n nbr zero site units) budget count (setOf placed) (setOf s) sites
 
 abbrev μ-loop : tie.MeasureT-loop
 μ-loop nbr zero site units budget placed₀ s₀ sites₀ count₀ placed s sites count = budget - count
@@ -26,8 +27,11 @@ abbrev μ-loop : tie.MeasureT-loop
 abbrev asked : tie.At-loop Inv-loop μ-loop → ℕ → Grid
 asked l n = let s = l .before .before in gridWith n (s .args .nbr .now) (s .args .zero) (s .args .site) (s .args .units)
 
-chosen : (c : tie.After-best Inv-loop μ-loop) (n : ℕ) → let l = c .before .before .before in ChosenIs (withUnits (asked l n) (setOf (l .loop .placed))) (c .best .result)
-chosen c n = let l = c .before .before .before in c .best .ensures n (setOf (l .before .before .args .site)) (setOf (l .loop .placed)) (c .before .minus .ensures) (l .loop .inv n .least)
+chosen : (c : tie.After-best Inv-loop μ-loop) (n : ℕ)
+    → let l = c .before .before .before in ChosenIs (withUnits (asked l n) (setOf (l .loop .placed))) (c .best .result)
+chosen c n =
+    let l = c .before .before .before in c .best .ensures n (setOf (l .before .before .args .site)) (setOf (l .loop .placed))
+    (c .before .minus .ensures) (l .loop .inv n .least)
 
 -- it is a bus
 bus : (c : tie.Else1 Inv-loop μ-loop) → Bus 64 (c .before .best .result)
@@ -73,7 +77,8 @@ loop-again c =
     let w = c .before in
     let chose = w .before in
     let l = chose .before .before .before .before in
-    λ n. adding-more _ (l .loop .inv n) (search needs) (search needs) (chose .if1 .left) (chosen (chose .before) n) (with-add (w .with .ensures))
+    λ n. adding-more _ (l .loop .inv n) (search needs) (search needs) (chose .if1 .left) (chosen (chose .before) n)
+    (with-add (w .with .ensures))
     (lit-least (l .loop .inv n .least) (c .lit .ensures))
 
 returns-2 : tie.Need-returns-2 Inv-loop μ-loop

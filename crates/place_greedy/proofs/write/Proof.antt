@@ -46,7 +46,8 @@ returns : tie.Need-returns Inv-loop μ-loop
 returns c =
     let l = c .before in
     let e : l .loop .i ≡ l .before .before .args .order .count = omega arith in
-    subst (λ (i : ℕ). l .loop .out ≡ take i (l .before .before .args .order .sites) ++ drop i (l .before .before .args .out .now)) e (l .loop .inv .1 .is)
+    subst (λ (i : ℕ). l .loop .out ≡ take i (l .before .before .args .order .sites) ++ drop i (l .before .before .args .out .now)) e
+    (l .loop .inv .1 .is)
 
 pub write-spec : {M : Type 1} → statement M
 write-spec =

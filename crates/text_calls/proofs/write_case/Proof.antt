@@ -23,7 +23,8 @@ roomy : {k n : ℕ} (m : ℕ) → k ≡ n → k ≤ m → n ≤ m
 roomy m e h = subst (λ (x : ℕ). x ≤ m) e h
 
 -- the text of a case that passes every check, put from the first byte on
-has-written : {c : Case} {lent left : List ℕ} {k : ℕ} → Passed (writeChecks c lent) → Put lent 0 (caseText c) left k → CaseWrittenReply c lent (Bytes k) left
+has-written : {c : Case} {lent left : List ℕ} {k : ℕ} → Passed (writeChecks c lent) → Put lent 0 (caseText c) left k
+    → CaseWrittenReply c lent (Bytes k) left
 has-written checks p = (checks, put-count p, put-whole p (checks .1 .0))
 
 is-valid-requires : tie.Need-is-valid-requires
@@ -36,10 +37,17 @@ count-bytes-requires : tie.Need-count-bytes-requires
 count-bytes-requires c κs = (c .before .is-valid .ensures .yes (not-false _ (c .if1 .left))) .buses .most
 
 returns-2 : tie.Need-returns-2
-returns-2 c = (inr ((c .before .before .before .is-valid .ensures .yes (not-false _ (c .before .before .if1 .left))), inl ((λ h. omega (arith, c .before .count-bytes .ensures, c .if2 .taken)), itself _)), refl)
+returns-2 c = (
+  inr (
+    (c .before .before .before .is-valid .ensures .yes (not-false _ (c .before .before .if1 .left))),
+    inl ((λ h. omega (arith, c .before .count-bytes .ensures, c .if2 .taken)), itself _),
+  ),
+  refl,
+)
 
 put-case-requires : tie.Need-put-case-requires
-put-case-requires c κs = (c .before .before .before .before .is-valid .ensures .yes (not-false _ (c .before .before .before .if1 .left))) .buses .most
+put-case-requires c κs =
+    (c .before .before .before .before .is-valid .ensures .yes (not-false _ (c .before .before .before .if1 .left))) .buses .most
 
 same-length : tie.Need-same-length
 same-length c = search needs

@@ -4,7 +4,8 @@ use native.Mathlib.Omega.{arith}
 use borrow.Author.Needs.{needs}
 use lib.ListN.{length}
 use Rattle.text_field.proofs.Tested.{held, failed}
-use Rattle.text_field.proofs.Numbers.{Sofar, digit-of, taken-of, no-digits, first-wrong, first-digit, next-wrong, next-digit, all-digits}
+use Rattle.text_field.proofs.Numbers.{Sofar, digit-of, taken-of, no-digits, first-wrong}
+use Rattle.text_field.proofs.Numbers.{first-digit, next-wrong, next-digit, all-digits}
 use Rattle.text_field.proofs.number_of.Statement.{statement}
 use Rattle.text_field.proofs.number_of.Tie as tie
 
@@ -66,7 +67,8 @@ loop-less c = search needs
 
 loop-again : tie.Need-loop-again Inv-loop μ-loop
 loop-again c =
-    next-digit _ (c .before .before .before .before .before .loop .inv) (search needs) (held (c .before .before .goes-on .ensures) (c .before .if3 .left)) (c .wide2 .ensures)
+    next-digit _ (c .before .before .before .before .before .loop .inv) (search needs)
+    (held (c .before .before .goes-on .ensures) (c .before .if3 .left)) (c .wide2 .ensures)
 
 returns-4 : tie.Need-returns-4 Inv-loop μ-loop
 returns-4 c = all-digits (c .before .loop .inv) (c .loop-test .left)

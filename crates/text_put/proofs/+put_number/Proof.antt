@@ -50,13 +50,22 @@ put-number-digit-requires-2 : (t : ℕ) → put-number-lts.Need-digit-requires-2
 put-number-digit-requires-2 t c κs = search needs
 
 put-number-put-byte-requires-2 : (t : ℕ) → put-number-lts.Need-put-byte-requires-2 (calls t) (put-number-at t) put-number.Post
-put-number-put-byte-requires-2 t c κs = omega (arith, c .before .before .before .before .put-number .ensures .next, text-length (c .before .before .before .before .before .before .before .before .args .n / 10))
+put-number-put-byte-requires-2 t c κs =
+    omega (
+      arith,
+      c .before .before .before .before .put-number .ensures .next,
+      text-length (c .before .before .before .before .before .before .before .before .args .n / 10),
+    )
 
 put-number-same-length-2 : (t : ℕ) → put-number-lts.Need-same-length-2 (calls t) (put-number-at t) put-number.Post
-put-number-same-length-2 t c = put-length (c .before .before .put-byte2 .ensures) ∙ put-length (c .before .before .before .before .before .before .before .put-number .ensures)
+put-number-same-length-2 t c =
+    put-length (c .before .before .put-byte2 .ensures)
+    ∙ put-length (c .before .before .before .before .before .before .before .put-number .ensures)
 
 put-number-returns-2 : (t : ℕ) → put-number-lts.Need-returns-2 (calls t) (put-number-at t) put-number.Post
-put-number-returns-2 t c = put-digits _ (search needs) (search needs) (c .before .before .before .digit2 .ensures) (c .before .before .before .before .before .before .before .put-number .ensures) (c .before .before .put-byte2 .ensures)
+put-number-returns-2 t c =
+    put-digits _ (search needs) (search needs) (c .before .before .before .digit2 .ensures)
+    (c .before .before .before .before .before .before .before .put-number .ensures) (c .before .before .put-byte2 .ensures)
 
 pub +put-number-spec : {M : Type 1} → statement M
 +put-number-spec = close μ-put-number λ t. put-number-lts.spec (calls t)

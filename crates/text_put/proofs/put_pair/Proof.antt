@@ -19,7 +19,12 @@ put-byte-requires c κs =
     let at-put-tagged2 = c .before .before .before in
     let at-put-tagged = at-put-tagged2 .before .before .before .before in
     let at-args = at-put-tagged .before .before .before .before .before in
-    omega (arith, at-args .pre, tagged-near (at-args .args .v .now) (at-args .args .m) (at-put-tagged .put-tagged .ensures), tagged-near (at-args .args .w .now) (at-args .args .n) (at-put-tagged2 .put-tagged2 .ensures))
+    omega (
+      arith,
+      at-args .pre,
+      tagged-near (at-args .args .v .now) (at-args .args .m) (at-put-tagged .put-tagged .ensures),
+      tagged-near (at-args .args .w .now) (at-args .args .n) (at-put-tagged2 .put-tagged2 .ensures),
+    )
 
 same-length : tie.Need-same-length
 same-length c = search needs

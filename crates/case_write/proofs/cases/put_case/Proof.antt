@@ -13,13 +13,16 @@ after-line : (c : tie.After-put-line) → c .put-line .result ≤ 15
 after-line c = put-near (c .put-line .ensures) (line-length _)
 
 after-buses : (c : tie.After-put-buses) → c .put-buses .result ≤ 975
-after-buses c = omega (arith, after-line (c .before .before .before .before), put-near (c .put-buses .ensures) (buses-most _ (search needs) _ _))
+after-buses c =
+    omega (arith, after-line (c .before .before .before .before), put-near (c .put-buses .ensures) (buses-most _ (search needs) _ _))
 
 after-lines : (c : tie.After-put-lines) → c .put-lines .result ≤ 62415
-after-lines c = omega (arith, after-buses (c .before .before .before .before .before), put-near (c .put-lines .ensures) (rows-most _ (search needs) _))
+after-lines c =
+    omega (arith, after-buses (c .before .before .before .before .before), put-near (c .put-lines .ensures) (rows-most _ (search needs) _))
 
 after-units : (c : tie.After-put-units) → c .put-units .result ≤ 63375
-after-units c = omega (arith, after-lines (c .before .before .before .before), put-near (c .put-units .ensures) (members-most _ (search needs) _ _))
+after-units c =
+    omega (arith, after-lines (c .before .before .before .before), put-near (c .put-units .ensures) (members-most _ (search needs) _ _))
 
 put-line-requires : tie.Need-put-line-requires
 put-line-requires c κs = search needs

@@ -14,19 +14,22 @@ use Rattle.grid.specs.Cases.{neighbours, gridOf}
 use Rattle.step.specs.declared.Reason.the-variants.{OwnUnit, NeighbourOf, ZeroInjection}
 use Rattle.list_derive.specs.Searching.{NextAnswer}
 use Rattle.list_derive.specs.declared.searching.Next.the-variants.{Nothing}
-use Rattle.list_derive.proofs.Nexting.{Lacks, lacks-more, no-unit-zero, no-zero-zero, Clear, clear-none, clear-more, none-holds, finished-by, next-by, first-own, first-near, first-zero}
+use Rattle.list_derive.proofs.Nexting.{Lacks, lacks-more, no-unit-zero, no-zero-zero, Clear, clear-none, clear-more}
+use Rattle.list_derive.proofs.Nexting.{none-holds, finished-by, next-by, first-own, first-near, first-zero}
 use borrow.Author.Needs.{needs}
 use Rattle.list_derive.proofs.searching.next_step.Statement.{statement}
 use Rattle.list_derive.proofs.searching.next_step.Tie as tie
 
 abbrev Inv-loop : tie.InvT-loop
-Inv-loop case s end nbr found₀ b p₀ found p = (1 ≤ p) × (p ≤ case .n + 1) × (found ≡ Nothing) × Lacks (ByUnit (neighbours (case .nbr)) (setOf (case .units)) b) p
+Inv-loop case s end nbr found₀ b p₀ found p =
+    (1 ≤ p) × (p ≤ case .n + 1) × (found ≡ Nothing) × Lacks (ByUnit (neighbours (case .nbr)) (setOf (case .units)) b) p
 
 abbrev μ-loop : tie.MeasureT-loop
 μ-loop case s end nbr found₀ b p₀ found p = case .n + 1 - p
 
 abbrev Inv-loop2 : tie.InvT-loop2
-Inv-loop2 case s end nbr found₀ b w₀ found w = (1 ≤ w) × (w ≤ case .n + 1) × (found ≡ Nothing) × Lacks (ByZero (neighbours (case .nbr)) (setOf (case .zero)) (setOf s) b) w
+Inv-loop2 case s end nbr found₀ b w₀ found w =
+    (1 ≤ w) × (w ≤ case .n + 1) × (found ≡ Nothing) × Lacks (ByZero (neighbours (case .nbr)) (setOf (case .zero)) (setOf s) b) w
 
 abbrev μ-loop2 : tie.MeasureT-loop2
 μ-loop2 case s end nbr found₀ b w₀ found w = case .n + 1 - w
@@ -41,7 +44,8 @@ proper : (c : tie.Start Inv-loop μ-loop Inv-loop2 μ-loop2 Inv-search μ-search
 proper c = c .pre .proper
 
 -- a bus that the search looks at is not in s
-new : (c : tie.Then1 Inv-loop μ-loop Inv-loop2 μ-loop2 Inv-search μ-search) → let at = c .before .before .before in Out (setOf (at .before .before .before .args .s)) (at .search .b)
+new : (c : tie.Then1 Inv-loop μ-loop Inv-loop2 μ-loop2 Inv-search μ-search)
+    → let at = c .before .before .before in Out (setOf (at .before .before .before .args .s)) (at .search .b)
 new c = out-of _ _ (refutes (c .before .has .ensures) (not-true _ (c .if1 .taken)))
 
 add-end : tie.Need-add-end Inv-loop μ-loop Inv-loop2 μ-loop2 Inv-search μ-search
@@ -109,7 +113,8 @@ search-again c =
       ⊎-elim (λ w. w .7 ∙ w .5 .inv .2) (λ w. w .1 ∙ inv .2) (c .if1 .came),
       clear-more (inv .3)
           (⊎-elim
-          (λ w r n. none-holds (proper (at .before .before .before)) (refutes (w .1 .ensures) (w .2 .left)) (w .4 .left) (w .3 .inv .3) (w .6 .left) (w .5 .inv .3) r)
+          (λ w r n. none-holds (proper (at .before .before .before)) (refutes (w .1 .ensures) (w .2 .left)) (w .4 .left) (w .3 .inv .3)
+          (w .6 .left) (w .5 .inv .3) r)
           (λ w r n h. let q = c .before .has .ensures .yes (not-false _ (w .0 .left)) in absurd (omega (arith, q, n)))
           (c .if1 .came)),
     )
@@ -137,8 +142,12 @@ returns-4 c =
     let own = near .before .before in
     let at = own .before .before .before .before .before in
     next-by (ZeroInjection _) (at .search .inv .3) (new (own .before .before)) (c .before .by-zero .ensures .yes (c .if4 .taken))
-    (first-zero (proper (at .before .before .before)) (refutes (own .before .has2 .ensures) (own .if2 .left)) (near .loop-test .left) (near .before .loop .inv .3)
+    (first-zero (proper (at .before .before .before)) (refutes (own .before .has2 .ensures) (own .if2 .left)) (near .loop-test .left)
+    (near .before .loop .inv .3)
     (c .before .before .before .before .loop2 .inv .3))
 
 pub next-step-spec : {M : Type 1} → statement M
-next-step-spec = tie.close (tie.spec Inv-loop μ-loop Inv-loop2 μ-loop2 Inv-search μ-search add-end search-holds has-requires has-requires-2 loop-holds by-unit-requires add-p loop-less loop-again loop2-holds by-zero-requires add-w loop2-less loop2-again add-b search-less search-again returns returns-2 returns-3 returns-4)
+next-step-spec =
+    tie.close (tie.spec Inv-loop μ-loop Inv-loop2 μ-loop2 Inv-search μ-search add-end search-holds has-requires has-requires-2 loop-holds
+    by-unit-requires add-p loop-less loop-again loop2-holds by-zero-requires add-w loop2-less loop2-again add-b search-less search-again
+    returns returns-2 returns-3 returns-4)

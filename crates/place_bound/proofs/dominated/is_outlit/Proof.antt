@@ -42,7 +42,13 @@ returns c = λ _.
     record {
       by = y;
       other = omega (arith, l .loop .inv y, low .lowest .ensures .has);
-      holds = λ b. omega (arith, c .before .is-subset .ensures .yes (c .if2 .taken) b, ap (λ (s : ℕ). bit s b) (l .before .row .ensures), ap (λ (s : ℕ). bit s b) (c .before .before .row2 .ensures));
+      holds =
+          λ b. omega (
+            arith,
+            c .before .is-subset .ensures .yes (c .if2 .taken) b,
+            ap (λ (s : ℕ). bit s b) (l .before .row .ensures),
+            ap (λ (s : ℕ). bit s b) (c .before .before .row2 .ensures),
+          );
     }
 
 without-requires : tie.Need-without-requires Inv-loop μ-loop
@@ -52,7 +58,8 @@ loop-less : tie.Need-loop-less Inv-loop μ-loop
 loop-less c = omega (arith, c .without .ensures .fewer (c .before .before .before .before .lowest .ensures .has))
 
 loop-again : tie.Need-loop-again Inv-loop μ-loop
-loop-again c = λ b. omega (arith, without-sub (c .without .ensures) b, c .before .before .before .before .before .before .before .loop .inv b)
+loop-again c =
+    λ b. omega (arith, without-sub (c .without .ensures) b, c .before .before .before .before .before .before .before .loop .inv b)
 
 returns-2 : tie.Need-returns-2 Inv-loop μ-loop
 returns-2 c = λ e. let z : _≡_ {A = ℕ} 0 1 = cc in absurd (omega arith)

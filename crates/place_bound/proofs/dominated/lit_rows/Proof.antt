@@ -44,7 +44,9 @@ loop-less : tie.Need-loop-less Inv-loop μ-loop
 loop-less c = omega (arith, c .without .ensures .fewer (c .before .before .lowest .ensures .has))
 
 loop-again : tie.Need-loop-again Inv-loop μ-loop
-loop-again c = lighting-more _ (c .before .before .before .before .before .loop .inv) (c .before .before .lowest .ensures .bus) (c .before .lit .ensures) (c .without .ensures)
+loop-again c =
+    lighting-more _ (c .before .before .before .before .before .loop .inv) (c .before .before .lowest .ensures .bus)
+    (c .before .lit .ensures) (c .without .ensures)
 
 returns : tie.Need-returns Inv-loop μ-loop
 returns c = lighting-all (c .before .before .loop .inv) (c .before .is-none .ensures .yes (not-false _ (c .if1 .left)))

@@ -14,7 +14,8 @@ use Rattle.place_bound.proofs.dominated.undominated.Statement.{statemen
 use Rattle.place_bound.proofs.dominated.undominated.Tie as tie
 
 abbrev Inv-loop : tie.InvT-loop
-Inv-loop nbr zero s sites k rows kept₀ left₀ kept left = (n : ℕ) → Thinned n (neighbours nbr) (setOf zero) (setOf s) (setOf sites) k (setOf kept) (setOf left)
+Inv-loop nbr zero s sites k rows kept₀ left₀ kept left =
+    (n : ℕ) → Thinned n (neighbours nbr) (setOf zero) (setOf s) (setOf sites) k (setOf kept) (setOf left)
 
 abbrev μ-loop : tie.MeasureT-loop
 μ-loop nbr zero s sites k rows kept₀ left₀ kept left = size (setOf left)
@@ -52,7 +53,8 @@ loop-again c = λ n.
     let w = asked .before .before in
     let l = w .before .before .before .before in
     ⊎-elim
-    (λ v. thinned-to (thinned-yes (l .loop .inv n) (l .before .lit-rows .ensures) (w .before .lowest .ensures .has) (w .without .ensures) (asked .is-outlit .ensures (v .0 .taken)) (c .without2 .ensures)) (ap setOf (v .1)))
+    (λ v. thinned-to (thinned-yes (l .loop .inv n) (l .before .lit-rows .ensures) (w .before .lowest .ensures .has) (w .without .ensures)
+    (asked .is-outlit .ensures (v .0 .taken)) (c .without2 .ensures)) (ap setOf (v .1)))
     (λ v. thinned-to (thinned-no (l .loop .inv n) (c .without2 .ensures)) (ap setOf (v .1)))
     (c .before .if3 .came)
 

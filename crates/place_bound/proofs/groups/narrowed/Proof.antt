@@ -17,7 +17,9 @@ use Rattle.place_bound.proofs.groups.narrowed.Statement.{statement}
 use Rattle.place_bound.proofs.groups.narrowed.Tie as tie
 
 abbrev Inv-loop : tie.InvT-loop
-Inv-loop n nbr zero s sites k q₀ t₀ m₀ q t m = (m ≤ k) × Sub (setOf q) (setOf sites) × Whatever n (neighbours nbr) (setOf zero) (λ g. ObservedSet g (setOf s) → Grouped g (setOf sites) (setOf q) (setOf t) m)
+Inv-loop n nbr zero s sites k q₀ t₀ m₀ q t m =
+    (m ≤ k) × Sub (setOf q) (setOf sites)
+    × Whatever n (neighbours nbr) (setOf zero) (λ g. ObservedSet g (setOf s) → Grouped g (setOf sites) (setOf q) (setOf t) m)
 
 abbrev μ-loop : tie.MeasureT-loop
 μ-loop n nbr zero s sites k q₀ t₀ m₀ q t m = k - m
@@ -26,7 +28,11 @@ none-requires : tie.Need-none-requires Inv-loop μ-loop
 none-requires c κs = search needs
 
 loop-holds : tie.Need-loop-holds Inv-loop μ-loop
-loop-holds c = (search needs, λ b. omega (arith, ap (λ (x : ℕ). bit x b) (c .none .ensures), bit-zero b), λ sites units l. grouped-none _ (c .none .ensures) (l .closed))
+loop-holds c = (
+  search needs,
+  λ b. omega (arith, ap (λ (x : ℕ). bit x b) (c .none .ensures), bit-zero b),
+  λ sites units l. grouped-none _ (c .none .ensures) (l .closed),
+)
 
 is-full-requires : tie.Need-is-full-requires Inv-loop μ-loop
 is-full-requires c κs = search needs
@@ -52,7 +58,8 @@ returns-2 c =
     let l = t .before .before .before .before .before in
     let lacks = refutes (t .before .before .before .is-full .ensures) (t .before .before .if1 .left) in
     spares-none _ _ _ _ _ _ (c .none2 .ensures)
-    (λ sites units cl. no-group (l .loop .inv .2 sites units cl) lacks (t .before .shrunk .ensures) (t .group .ensures) _ (c .before .before .is-none .ensures .yes (c .before .if2 .taken)))
+    (λ sites units cl. no-group (l .loop .inv .2 sites units cl) lacks (t .before .shrunk .ensures) (t .group .ensures) _
+    (c .before .before .is-none .ensures .yes (c .before .if2 .taken)))
 
 union-requires : tie.Need-union-requires Inv-loop μ-loop
 union-requires c κs = search needs
@@ -70,8 +77,12 @@ loop-again : tie.Need-loop-again Inv-loop μ-loop
 loop-again c =
     let t = c .before .before .before .before in
     let l = t .before .before .before .before .before in
-    let lacks = refutes (t .before .before .before .is-full .ensures) (t .before .before .if1 .left) in
-    (search needs, λ b. omega (arith, c .before .union .ensures .at b, l .loop .inv .1 b, t .group .ensures .of b), λ sites units cl. next-group (l .loop .inv .2 sites units cl) lacks (t .before .shrunk .ensures) (t .group .ensures) (c .before .union .ensures) (c .lit-all .ensures))
+    let lacks = refutes (t .before .before .before .is-full .ensures) (t .before .before .if1 .left) in (
+      search needs,
+      λ b. omega (arith, c .before .union .ensures .at b, l .loop .inv .1 b, t .group .ensures .of b),
+      λ sites units cl. next-group (l .loop .inv .2 sites units cl) lacks (t .before .shrunk .ensures) (t .group .ensures)
+          (c .before .union .ensures) (c .lit-all .ensures),
+    )
 
 is-full-requires-2 : tie.Need-is-full-requires-2 Inv-loop μ-loop
 is-full-requires-2 c κs = search needs
@@ -90,7 +101,8 @@ returns-4 c =
     let l = c .before .before .before .before in
     let e : l .loop .m ≡ l .before .before .args .k = omega arith in
     let lacks = refutes (c .before .before .is-full2 .ensures) (c .before .if3 .left) in
-    spares-none _ _ _ _ _ _ (c .none3 .ensures) (λ sites units cl. grouped-lacks (subst (Grouped _ _ _ _) e (l .loop .inv .2 sites units cl)) lacks)
+    spares-none _ _ _ _ _ _ (c .none3 .ensures)
+    (λ sites units cl. grouped-lacks (subst (Grouped _ _ _ _) e (l .loop .inv .2 sites units cl)) lacks)
 
 pub narrowed-spec : {M : Type 1} → statement M
 narrowed-spec =

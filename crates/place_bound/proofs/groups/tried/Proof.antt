@@ -30,7 +30,9 @@ returns-2 : tie.Need-returns-2
 returns-2 c = shrunk-same _ _ _ _
 
 returns-3 : tie.Need-returns-3
-returns-3 c = shrunk-spread (c .before .before .before .union .ensures) (c .before .before .spread .ensures) (refutes (c .before .is-full .ensures) (c .if2 .left))
+returns-3 c =
+    shrunk-spread (c .before .before .before .union .ensures) (c .before .before .spread .ensures)
+    (refutes (c .before .is-full .ensures) (c .if2 .left))
 
 pub tried-spec : {M : Type 1} → statement M
 tried-spec =

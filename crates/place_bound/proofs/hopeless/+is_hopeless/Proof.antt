@@ -44,7 +44,9 @@ is-hopeless-below t =
     and 1 is-hopeless-kinds.ps (falls 1 is-hopeless-kinds.ps _<_ μ-is-hopeless t) is-hopeless.Pre
 
 abbrev is-hopeless-Inv-loop : is-hopeless-lts.InvT-loop
-is-hopeless-Inv-loop n nbr zero s sites k left₀ c tries₀ left tries = Sub (setOf left) (setOf sites) × IdleBut (neighbours nbr) (setOf c) (setOf left) (setOf tries) × Whatever n (neighbours nbr) (setOf zero) (λ g. ObservedSet g (setOf s) → Spared g (setOf sites) k (setOf left))
+is-hopeless-Inv-loop n nbr zero s sites k left₀ c tries₀ left tries =
+    Sub (setOf left) (setOf sites) × IdleBut (neighbours nbr) (setOf c) (setOf left) (setOf tries)
+    × Whatever n (neighbours nbr) (setOf zero) (λ g. ObservedSet g (setOf s) → Spared g (setOf sites) k (setOf left))
 
 abbrev is-hopeless-μ-loop : is-hopeless-lts.MeasureT-loop
 is-hopeless-μ-loop n nbr zero s sites k left₀ c tries₀ left tries = size (setOf tries)
@@ -75,36 +77,46 @@ calls t = (
 )
 
 -- the function's entry
-abbrev entry : {t : ℕ} → is-hopeless-lts.At-loop (calls t) (is-hopeless-at t) is-hopeless.Post is-hopeless-Inv-loop is-hopeless-μ-loop → is-hopeless-lts.Start (calls t) (is-hopeless-at t) is-hopeless.Post is-hopeless-Inv-loop is-hopeless-μ-loop
+abbrev entry : {t : ℕ} → is-hopeless-lts.At-loop (calls t) (is-hopeless-at t) is-hopeless.Post is-hopeless-Inv-loop is-hopeless-μ-loop
+    → is-hopeless-lts.Start (calls t) (is-hopeless-at t) is-hopeless.Post is-hopeless-Inv-loop is-hopeless-μ-loop
 entry l = l .before .before .before .before .before .before .before .before
 
-is-hopeless-is-full-requires : (t : ℕ) → is-hopeless-lts.Need-is-full-requires (calls t) (is-hopeless-at t) is-hopeless.Post is-hopeless-Inv-loop is-hopeless-μ-loop
+is-hopeless-is-full-requires : (t : ℕ)
+    → is-hopeless-lts.Need-is-full-requires (calls t) (is-hopeless-at t) is-hopeless.Post is-hopeless-Inv-loop is-hopeless-μ-loop
 is-hopeless-is-full-requires t c κs = c .pre .1 .0
 
-is-hopeless-returns : (t : ℕ) → is-hopeless-lts.Need-returns (calls t) (is-hopeless-at t) is-hopeless.Post is-hopeless-Inv-loop is-hopeless-μ-loop
+is-hopeless-returns : (t : ℕ)
+    → is-hopeless-lts.Need-returns (calls t) (is-hopeless-at t) is-hopeless.Post is-hopeless-Inv-loop is-hopeless-μ-loop
 is-hopeless-returns t c = λ sites units l e. let z : _≡_ {A = ℕ} 0 1 = cc in absurd (omega arith)
 
-is-hopeless-returns-2 : (t : ℕ) → is-hopeless-lts.Need-returns-2 (calls t) (is-hopeless-at t) is-hopeless.Post is-hopeless-Inv-loop is-hopeless-μ-loop
-is-hopeless-returns-2 t c = λ sites units l e. lacks-no-cover (l .closed) (refutes (c .before .before .is-full .ensures) (c .before .if1 .left)) (c .if2 .taken)
+is-hopeless-returns-2 : (t : ℕ)
+    → is-hopeless-lts.Need-returns-2 (calls t) (is-hopeless-at t) is-hopeless.Post is-hopeless-Inv-loop is-hopeless-μ-loop
+is-hopeless-returns-2 t c =
+    λ sites units l e. lacks-no-cover (l .closed) (refutes (c .before .before .is-full .ensures) (c .before .if1 .left)) (c .if2 .taken)
 
-is-hopeless-undominated-requires : (t : ℕ) → is-hopeless-lts.Need-undominated-requires (calls t) (is-hopeless-at t) is-hopeless.Post is-hopeless-Inv-loop is-hopeless-μ-loop
+is-hopeless-undominated-requires : (t : ℕ)
+    → is-hopeless-lts.Need-undominated-requires (calls t) (is-hopeless-at t) is-hopeless.Post is-hopeless-Inv-loop is-hopeless-μ-loop
 is-hopeless-undominated-requires t c κs = search needs
 
-is-hopeless-narrowed-requires : (t : ℕ) → is-hopeless-lts.Need-narrowed-requires (calls t) (is-hopeless-at t) is-hopeless.Post is-hopeless-Inv-loop is-hopeless-μ-loop
+is-hopeless-narrowed-requires : (t : ℕ)
+    → is-hopeless-lts.Need-narrowed-requires (calls t) (is-hopeless-at t) is-hopeless.Post is-hopeless-Inv-loop is-hopeless-μ-loop
 is-hopeless-narrowed-requires t c κs =
     let s = c .before .before .before .before in
     (s .pre .1 .0, s .pre .1 .1, λ b h. s .pre .1 .2 b (omega (arith, c .undominated .ensures 0 .of b)))
 
-is-hopeless-shrunk-requires : (t : ℕ) → is-hopeless-lts.Need-shrunk-requires (calls t) (is-hopeless-at t) is-hopeless.Post is-hopeless-Inv-loop is-hopeless-μ-loop
+is-hopeless-shrunk-requires : (t : ℕ)
+    → is-hopeless-lts.Need-shrunk-requires (calls t) (is-hopeless-at t) is-hopeless.Post is-hopeless-Inv-loop is-hopeless-μ-loop
 is-hopeless-shrunk-requires t c κs = c .before .before .before .before .before .pre .1 .0
 
-is-hopeless-group-requires : (t : ℕ) → is-hopeless-lts.Need-group-requires (calls t) (is-hopeless-at t) is-hopeless.Post is-hopeless-Inv-loop is-hopeless-μ-loop
+is-hopeless-group-requires : (t : ℕ)
+    → is-hopeless-lts.Need-group-requires (calls t) (is-hopeless-at t) is-hopeless.Post is-hopeless-Inv-loop is-hopeless-μ-loop
 is-hopeless-group-requires t c κs =
     let u = c .before .before in
     let s = u .before .before .before .before in
     (s .pre .1 .0, s .pre .1 .1, λ b h. s .pre .1 .2 b (omega (arith, c .before .narrowed .ensures .of b, u .undominated .ensures 0 .of b)))
 
-is-hopeless-loop-holds : (t : ℕ) → is-hopeless-lts.Need-loop-holds (calls t) (is-hopeless-at t) is-hopeless.Post is-hopeless-Inv-loop is-hopeless-μ-loop
+is-hopeless-loop-holds : (t : ℕ)
+    → is-hopeless-lts.Need-loop-holds (calls t) (is-hopeless-at t) is-hopeless.Post is-hopeless-Inv-loop is-hopeless-μ-loop
 is-hopeless-loop-holds t c =
     let m = c .before .before in
     let u = m .before in (
@@ -113,41 +125,52 @@ is-hopeless-loop-holds t c =
       λ sites units l none. u .undominated .ensures _ .spared sites units l (m .narrowed .ensures .spared sites units l none),
     )
 
-is-hopeless-is-none-requires : (t : ℕ) → is-hopeless-lts.Need-is-none-requires (calls t) (is-hopeless-at t) is-hopeless.Post is-hopeless-Inv-loop is-hopeless-μ-loop
+is-hopeless-is-none-requires : (t : ℕ)
+    → is-hopeless-lts.Need-is-none-requires (calls t) (is-hopeless-at t) is-hopeless.Post is-hopeless-Inv-loop is-hopeless-μ-loop
 is-hopeless-is-none-requires t c κs = search needs
 
-is-hopeless-lowest-requires : (t : ℕ) → is-hopeless-lts.Need-lowest-requires (calls t) (is-hopeless-at t) is-hopeless.Post is-hopeless-Inv-loop is-hopeless-μ-loop
+is-hopeless-lowest-requires : (t : ℕ)
+    → is-hopeless-lts.Need-lowest-requires (calls t) (is-hopeless-at t) is-hopeless.Post is-hopeless-Inv-loop is-hopeless-μ-loop
 is-hopeless-lowest-requires t c κs = refutes (c .before .is-none .ensures) (not-true _ (c .if3 .taken))
 
-is-hopeless-without-requires : (t : ℕ) → is-hopeless-lts.Need-without-requires (calls t) (is-hopeless-at t) is-hopeless.Post is-hopeless-Inv-loop is-hopeless-μ-loop
+is-hopeless-without-requires : (t : ℕ)
+    → is-hopeless-lts.Need-without-requires (calls t) (is-hopeless-at t) is-hopeless.Post is-hopeless-Inv-loop is-hopeless-μ-loop
 is-hopeless-without-requires t c κs = search needs
 
-is-hopeless-lit-requires : (t : ℕ) → is-hopeless-lts.Need-lit-requires (calls t) (is-hopeless-at t) is-hopeless.Post is-hopeless-Inv-loop is-hopeless-μ-loop
+is-hopeless-lit-requires : (t : ℕ)
+    → is-hopeless-lts.Need-lit-requires (calls t) (is-hopeless-at t) is-hopeless.Post is-hopeless-Inv-loop is-hopeless-μ-loop
 is-hopeless-lit-requires t c κs = search needs
 
-is-hopeless-sub-is-hopeless : (t : ℕ) → is-hopeless-lts.Need-sub-is-hopeless (calls t) (is-hopeless-at t) is-hopeless.Post is-hopeless-Inv-loop is-hopeless-μ-loop
+is-hopeless-sub-is-hopeless : (t : ℕ)
+    → is-hopeless-lts.Need-sub-is-hopeless (calls t) (is-hopeless-at t) is-hopeless.Post is-hopeless-Inv-loop is-hopeless-μ-loop
 is-hopeless-sub-is-hopeless t c = search needs
 
-is-hopeless-is-hopeless-requires : (t : ℕ) → is-hopeless-lts.Need-is-hopeless-requires (calls t) (is-hopeless-at t) is-hopeless.Post is-hopeless-Inv-loop is-hopeless-μ-loop
+is-hopeless-is-hopeless-requires : (t : ℕ)
+    → is-hopeless-lts.Need-is-hopeless-requires (calls t) (is-hopeless-at t) is-hopeless.Post is-hopeless-Inv-loop is-hopeless-μ-loop
 is-hopeless-is-hopeless-requires t c κs =
     let w = c .before in
     let l = w .before .before .before .before in
-    let smaller : Sub (setOf (w .without .result)) (setOf (entry l .args .sites)) = λ b. omega (arith, without-sub (w .without .ensures) b, l .loop .inv .0 b) in
+    let smaller : Sub (setOf (w .without .result)) (setOf (entry l .args .sites)) =
+    λ b. omega (arith, without-sub (w .without .ensures) b, l .loop .inv .0 b) in
     let most = size-le _ _ smaller in
     let some = l .before .before .before .before .before .if2 .left in
     let measure = entry l .pre .0 in
     (omega arith, (entry l .pre .1 .0, entry l .pre .1 .1, λ b h. entry l .pre .1 .2 b (omega (arith, smaller b))))
 
-is-hopeless-returns-3 : (t : ℕ) → is-hopeless-lts.Need-returns-3 (calls t) (is-hopeless-at t) is-hopeless.Post is-hopeless-Inv-loop is-hopeless-μ-loop
+is-hopeless-returns-3 : (t : ℕ)
+    → is-hopeless-lts.Need-returns-3 (calls t) (is-hopeless-at t) is-hopeless.Post is-hopeless-Inv-loop is-hopeless-μ-loop
 is-hopeless-returns-3 t c = λ sites units l e. let z : _≡_ {A = ℕ} 0 1 = cc in absurd (omega arith)
 
-is-hopeless-without-requires-2 : (t : ℕ) → is-hopeless-lts.Need-without-requires-2 (calls t) (is-hopeless-at t) is-hopeless.Post is-hopeless-Inv-loop is-hopeless-μ-loop
+is-hopeless-without-requires-2 : (t : ℕ)
+    → is-hopeless-lts.Need-without-requires-2 (calls t) (is-hopeless-at t) is-hopeless.Post is-hopeless-Inv-loop is-hopeless-μ-loop
 is-hopeless-without-requires-2 t c κs = search needs
 
-is-hopeless-loop-less : (t : ℕ) → is-hopeless-lts.Need-loop-less (calls t) (is-hopeless-at t) is-hopeless.Post is-hopeless-Inv-loop is-hopeless-μ-loop
+is-hopeless-loop-less : (t : ℕ)
+    → is-hopeless-lts.Need-loop-less (calls t) (is-hopeless-at t) is-hopeless.Post is-hopeless-Inv-loop is-hopeless-μ-loop
 is-hopeless-loop-less t c = omega (arith, c .without2 .ensures .fewer (c .before .before .before .before .before .lowest .ensures .has))
 
-is-hopeless-loop-again : (t : ℕ) → is-hopeless-lts.Need-loop-again (calls t) (is-hopeless-at t) is-hopeless.Post is-hopeless-Inv-loop is-hopeless-μ-loop
+is-hopeless-loop-again : (t : ℕ)
+    → is-hopeless-lts.Need-loop-again (calls t) (is-hopeless-at t) is-hopeless.Post is-hopeless-Inv-loop is-hopeless-μ-loop
 is-hopeless-loop-again t c =
     let called = c .before .before in
     let lit = called .before in
@@ -156,14 +179,19 @@ is-hopeless-loop-again t c =
       λ b. omega (arith, without-sub (w .without .ensures) b, l .loop .inv .0 b),
       idle-tried (l .loop .inv .1) (w .without .ensures) (c .without2 .ensures),
       λ sites units least none. l .loop .inv .2 sites units least
-          (spared-tried (w .without .ensures) (let some = l .before .before .before .before .before .if2 .left in omega arith) (called .is-hopeless .ensures sites _ (lit-least least (lit .lit .ensures)) (not-false _ (c .before .if4 .left))) none),
+          (spared-tried (w .without .ensures) (let some = l .before .before .before .before .before .if2 .left in omega arith)
+          (called .is-hopeless .ensures sites _ (lit-least least (lit .lit .ensures)) (not-false _ (c .before .if4 .left))) none),
     )
 
-is-hopeless-returns-4 : (t : ℕ) → is-hopeless-lts.Need-returns-4 (calls t) (is-hopeless-at t) is-hopeless.Post is-hopeless-Inv-loop is-hopeless-μ-loop
+is-hopeless-returns-4 : (t : ℕ)
+    → is-hopeless-lts.Need-returns-4 (calls t) (is-hopeless-at t) is-hopeless.Post is-hopeless-Inv-loop is-hopeless-μ-loop
 is-hopeless-returns-4 t c =
     let l = c .before .before in
     λ sites units least e. l .loop .inv .2 sites units least
-    (idle-no-cover _ (shrunk-closed (least .closed) (l .before .before .shrunk .ensures)) (l .before .before .shrunk .ensures .lacks (refutes (l .before .before .before .before .before .before .before .is-full .ensures) (l .before .before .before .before .before .before .if1 .left)))
+    (idle-no-cover _ (shrunk-closed (least .closed) (l .before .before .shrunk .ensures))
+    (l .before .before .shrunk .ensures .lacks
+    (refutes (l .before .before .before .before .before .before .before .is-full .ensures)
+    (l .before .before .before .before .before .before .if1 .left)))
     (l .loop .inv .1) (c .before .is-none .ensures .yes (not-false _ (c .if3 .left))))
 
 pub +is-hopeless-spec : {M : Type 1} → statement M

@@ -15,10 +15,17 @@ after-steps : (c : tie.After-put-steps) → c .put-steps .result ≤ 851
 after-steps c =
     let at-put-observed = c .before .before .before .before in
     let at-args = at-put-observed .before .before .before in
-    omega (arith, observed-put _ _ (at-put-observed .put-observed .ensures), put-near (c .put-steps .ensures) (list-length (at-args .args .list) (at-args .pre .1)))
+    omega (
+      arith,
+      observed-put _ _ (at-put-observed .put-observed .ensures),
+      put-near (c .put-steps .ensures) (list-length (at-args .args .list) (at-args .pre .1)),
+    )
 
 put-steps-requires : tie.Need-put-steps-requires
-put-steps-requires c κs = (omega (arith, observed-put _ _ (c .before .before .before .put-observed .ensures)), c .before .before .before .before .before .before .pre .1)
+put-steps-requires c κs = (
+  omega (arith, observed-put _ _ (c .before .before .before .put-observed .ensures)),
+  c .before .before .before .before .before .before .pre .1,
+)
 
 put-verdict-requires : tie.Need-put-verdict-requires
 put-verdict-requires c κs =
@@ -33,7 +40,11 @@ put-all-requires c κs =
     let at-put-verdict = c .before .before .before .before in
     let at-put-steps = at-put-verdict .before .before .before .before in
     let at-args = at-put-steps .before .before .before .before .before .before .before in
-    omega (arith, after-steps at-put-steps, put-near (at-put-verdict .put-verdict .ensures) (verdict-length (at-args .args .alone) (at-args .pre .2)))
+    omega (
+      arith,
+      after-steps at-put-steps,
+      put-near (at-put-verdict .put-verdict .ensures) (verdict-length (at-args .args .alone) (at-args .pre .2)),
+    )
 
 same-length : tie.Need-same-length
 same-length c = search needs

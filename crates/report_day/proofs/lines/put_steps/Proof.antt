@@ -11,7 +11,8 @@ use Rattle.report_day.proofs.lines.put_steps.Statement.{statement}
 use Rattle.report_day.proofs.lines.put_steps.Tie as tie
 
 abbrev Inv-loop : tie.InvT-loop
-Inv-loop out₀ at list k₀ i₀ i-end out k i = (i ≤ i-end) × (i-end ≡ list .n) × Left out₀ at (stepsText (listed list)) out k (restSteps list i)
+Inv-loop out₀ at list k₀ i₀ i-end out k i =
+    (i ≤ i-end) × (i-end ≡ list .n) × Left out₀ at (stepsText (listed list)) out k (restSteps list i)
 
 abbrev μ-loop : tie.MeasureT-loop
 μ-loop out₀ at list k₀ i₀ i-end out k i = i-end - i

@@ -56,4 +56,6 @@ returns : tie.Need-returns Inv-loop μ-loop
 returns c = search needs
 
 pub drawn-list-spec : {M : Type 1} → statement M
-drawn-list-spec = tie.close (tie.spec Inv-loop μ-loop none-requires none-requires-2 loop-holds after-requires after-requires-2 drawn-step-requires test-step-requires is-allowed-requires add-requires marked-requires after-requires-3 add--i loop-less loop-again returns)
+drawn-list-spec =
+    tie.close (tie.spec Inv-loop μ-loop none-requires none-requires-2 loop-holds after-requires after-requires-2 drawn-step-requires
+    test-step-requires is-allowed-requires add-requires marked-requires after-requires-3 add--i loop-less loop-again returns)

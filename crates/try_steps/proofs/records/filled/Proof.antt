@@ -40,4 +40,6 @@ returns : tie.Need-returns Inv-loop μ-loop
 returns c = search needs
 
 pub filled-spec : {M : Type 1} → statement M
-filled-spec = tie.close (tie.spec Inv-loop μ-loop filling-requires loop-holds filling-requires-2 mul-out array-set-from-out add-i loop-less loop-again returns)
+filled-spec =
+    tie.close (tie.spec Inv-loop μ-loop filling-requires loop-holds filling-requires-2 mul-out array-set-from-out add-i
+    loop-less loop-again returns)

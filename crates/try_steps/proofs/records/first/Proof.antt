@@ -41,4 +41,6 @@ returns-2 : tie.Need-returns-2 Inv-loop μ-loop
 returns-2 c = search needs
 
 pub first-spec : {M : Type 1} → statement M
-first-spec = tie.close (tie.spec Inv-loop μ-loop none-requires returns loop-holds mul-add array-copy-out-add add-requires add-i loop-less loop-again returns-2)
+first-spec =
+    tie.close (tie.spec Inv-loop μ-loop none-requires returns loop-holds mul-add array-copy-out-add add-requires add-i
+    loop-less loop-again returns-2)

@@ -38,4 +38,6 @@ returns-2 : tie.Need-returns-2 Inv-loop μ-loop
 returns-2 c = search needs
 
 pub kept-spec : {M : Type 1} → statement M
-kept-spec = tie.close (tie.spec Inv-loop μ-loop loop-holds mul-is-filling array-copy-out-is-filling is-filling-requires returns add-i loop-less loop-again returns-2)
+kept-spec =
+    tie.close (tie.spec Inv-loop μ-loop loop-holds mul-is-filling array-copy-out-is-filling is-filling-requires returns add-i
+    loop-less loop-again returns-2)
