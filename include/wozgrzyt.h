@@ -77,9 +77,9 @@
  *
  * STACK
  *
- * A call takes at most 16,384 bytes of the caller's stack. This is measured and not proved (tests/c/boundary_stack.c):
- * each call runs on a painted stack, on 64 buses, with a budget of 8 or with 1,024 steps. No call took 8,192 bytes, and
- * the first of a program took 3,200 more, for the dynamic linker.
+ * A call takes at most 16,384 bytes of the caller's stack. This is measured and not proved: tests/c/boundary_stack.c
+ * runs each call on a painted stack, on 64 buses, with a budget of 8 or with 1,024 steps, and prints what it took. A
+ * replay takes most, about half of it. The first call of a program takes some 3,000 bytes more, for the dynamic linker.
  *
  * EXAMPLE
  *

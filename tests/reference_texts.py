@@ -18,7 +18,7 @@ class No(Exception):
 
 @functools.lru_cache(maxsize=None)
 def number(field):
-    """1 to 4 digits, no leading zero except 0 itself; None where the form is wrong."""
+    """1 to 4 digits, no leading zero except 0 itself; None if the form is wrong."""
     if not 1 <= len(field) <= 4 or any(not 48 <= c <= 57 for c in field):
         return None
     if len(field) > 1 and field[0] == 48:
@@ -27,14 +27,14 @@ def number(field):
 
 
 def split_lines(text):
-    """The ended lines, and what stands after the last line feed."""
+    """The ended lines, and what comes after the last line feed."""
     pieces = text.split(b"\n")
     return pieces[:-1], pieces[-1]
 
 
 @functools.lru_cache(maxsize=None)
 def case_record(line):
-    """The fields of a record of a case text, or None where its form is wrong."""
+    """The fields of a record of a case text, or None if its form is wrong."""
     fields = line.split(b"\t")
     word, rest = fields[0], fields[1:]
     if word in (b"grid", b"pmu") and len(rest) == 1:
@@ -141,7 +141,7 @@ def read_steps(text):
 
 
 def filled(text, room):
-    """The records after a step text was read into so many of them, or No(number, place)."""
+    """The records after a step text was read into `room` of them, or No(number, place)."""
     steps = read_steps(text)
     if len(steps) > room:
         raise No(6, 0)

@@ -31,7 +31,7 @@ static void *call_once(void *argument)
     return NULL;
 }
 
-/* The call gives `result`, and takes some stack below its caller, within what the header says. */
+/* The call gives `result`, and takes some stack below its caller, within what the header says. Prints how much. */
 static void expect_shallow(const char *name, struct question question, uint32_t result)
 {
     struct painted_call call = {.question = question};
@@ -48,8 +48,7 @@ static void expect_shallow(const char *name, struct question question, uint32_t 
         pthread_attr_destroy(&attributes);
         free(stack);
     }
-    if (ran && call.depth > STACK_OF_A_CALL)
-        printf("%s: %zu bytes of stack\n", name, call.depth);
+    printf("%s: %zu bytes\n", name, call.depth);
     check(ran && call.result == result && call.depth > 0 && call.depth <= STACK_OF_A_CALL, name);
 }
 

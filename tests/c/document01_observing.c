@@ -10,7 +10,7 @@ void add_unit(const struct grid_case *grid, unsigned bus, struct bus_set *observ
         observed->has[grid->neighbours[bus][i]] = true;
 }
 
-/* The one neighbour of a bus that is not observed, or 0 where there are none or several. */
+/* The one neighbour of a bus that is not observed, or 0 if there are none or several. */
 static unsigned only_dark_neighbour(const struct grid_case *grid, const struct bus_set *observed, unsigned bus)
 {
     unsigned dark = 0;

@@ -27,7 +27,7 @@ void draw_step_text(struct dice *dice, const struct grid_case *grid, struct text
 /* texts_damage.c: one to three damages of any kind. The text may still be valid. */
 void damage_text(struct dice *dice, struct text *text, size_t byte_limit);
 
-/* texts_plan.c: a first line for the planning program, and the budget that it says; 0 where it says none. */
+/* texts_plan.c: a first line for the planning program, and the budget that it says; 0 if it says none. */
 void draw_plan_line(struct dice *dice, struct text *text, size_t *budget);
 
 #endif

@@ -145,7 +145,7 @@ static void add_or_drop_field(struct dice *dice, struct text *text)
         replace(text, from, to + 1, "", 0);
 }
 
-/* How many `line` records there are, and where the last one ends: the text's end where there is none. */
+/* How many `line` records there are, and where the last one ends: the text's end if there is none. */
 static size_t count_line_records(const struct text *text, size_t *after)
 {
     size_t count = 0;
