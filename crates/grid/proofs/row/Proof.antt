@@ -1,3 +1,4 @@
+-- The rows are in bus order, so the row of bus b is at b - 1.
 use borrow.Author.Needs.{needs}
 use Rattle.grid.proofs.Rows.{row-at}
 use Rattle.grid.proofs.row.Statement.{statement}

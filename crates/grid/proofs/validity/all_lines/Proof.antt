@@ -1,3 +1,4 @@
+-- The buses below b have only lines; b rises to 65. A number that is no bus has no row, so all buses are then checked.
 use Prim.Native.Nat.{_-_, _≤_}
 use native.Mathlib.Omega.{arith}
 use borrow.Author.Needs.{needs}

@@ -1,3 +1,4 @@
+-- The sum has the lines of the buses below b, each at its higher bus; b rises to n + 1. A row adds at most 64, so the sum fits.
 use Prim.Native.Nat.{ℕ, _+_, _-_, _≤_}
 use mathlib.Core.Path.{_≡_, refl, ap, _∙_}
 use native.Mathlib.Omega.{arith}

@@ -1,3 +1,4 @@
+-- The neighbours of b that are not left are joined to it by a line; fewer are left each turn. One that is not joined so decides no.
 use native.Mathlib.Omega.{arith}
 use borrow.Author.Needs.{needs}
 use borrow.Author.Tests.{not-true, not-false}

@@ -1,3 +1,4 @@
+-- Each test that fails refutes one field of Line. The last, whether b is joined to a, is the answer.
 use native.Mathlib.Omega.{arith}
 use borrow.Author.Needs.{needs}
 use Rattle.basics.proofs.Tests.{decides-no}

@@ -1,3 +1,4 @@
+-- Each test that fails refutes one field of Valid. If none fails, what the tests decide are the fields.
 use native.Mathlib.Omega.{arith}
 use borrow.Author.Needs.{needs}
 use borrow.Author.Tests.{not-true, not-false}

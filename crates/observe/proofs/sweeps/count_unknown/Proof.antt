@@ -1,3 +1,4 @@
+-- What is counted and what is left make up the unknown; fewer are left each turn.
 use native.Mathlib.Omega.{arith}
 use borrow.Author.Tests.{not-true, not-false}
 use Rattle.busset.specs.Sets.{setOf, size}

@@ -1,3 +1,4 @@
+-- With one unknown the union adds just that one, which O2 gives. Otherwise O2 gives nothing, and s stays.
 use mathlib.Core.Path.{sym, _∙_}
 use Rattle.observe.proofs.Firing.{fires-one, fires-not}
 use borrow.Author.Needs.{needs}

@@ -1,3 +1,4 @@
+-- The Z buses of s that are not left have fired, with no more than O2 gives; fewer are left each turn. If r is s, each had fired.
 use native.Mathlib.Omega.{arith}
 use borrow.Author.Tests.{not-true, not-false}
 use Rattle.busset.specs.Sets.{setOf, size}
