@@ -288,6 +288,67 @@ def texts():
     }
 
 
+def into(name, answer, room):
+    """What a call says that refuses with (number, place), or writes these bytes into so much room; the rest is kept."""
+    if isinstance(answer, bytes) and len(answer) > room:
+        answer = (6, 0)
+    if isinstance(answer, tuple):
+        print("%s into %d: refused %d %d, rest kept" % ((name, room) + answer))
+    else:
+        print("%s into %d: written %d, rest kept\n%s" % (name, room, len(answer), answer.decode()), end="")
+
+
+def into_bytes(seven):
+    """Each call that writes bytes, into room that is one short, exact and larger, and on an empty text."""
+    from reports import printed
+
+    for room in (16400, 0):
+        into("no case", (5, 0), room)
+    case = write_case(read_case(seven))
+    for room in (0, len(case) - 1, len(case), len(case) + 1):
+        into("case", case, room)
+    refused = b"refused\t2\t1\n"
+    for program in ("day", "plan"):
+        for room in (len(refused) - 1, len(refused)):
+            into("no " + program, refused, room)
+        report = printed(program, seven, 8).encode()
+        for room in (0, len(report) - 1, len(report), len(report) + 1):
+            into(program, report, room)
+
+
+def replayed(text):
+    """Step texts that are good, that are refused as lists, and that are refused as texts; and an invalid case."""
+    from reference import blank, replay
+    from reports import case_of
+
+    def say(name, steps, case=case_of(text["seven"])):
+        try:
+            listed = [(bus, (reason.decode(), named) if named else ("O",)) for bus, reason, named in read_steps(steps)]
+            answer = replay(case, listed)
+        except No as no:
+            answer = ("unread, refused",) + no.args
+        if len(answer) == 3:
+            print("replay %s: %s %d %d" % ((name,) + answer))
+        else:
+            reached = "".join(" %d" % b for b in sorted(answer[0]))
+            print("replay %s:%s %s" % (name, reached, "finished" if answer[1] else "unfinished"))
+
+    say("no step", tabbed(["end"]))
+    say("two steps", tabbed(["step 3 O", "step 4 N 3", "end"]))
+    say("8 O", tabbed(["step 3 O", "step 8 O", "end"]))
+    say("3 O twice", tabbed(["step 3 O", "step 3 O", "end"]))
+    say("1 Z 2", tabbed(["step 1 Z 2", "end"]))
+    say("65 O", tabbed(["step 65 O", "end"]))
+    say("an empty text", b"")
+    say("an empty text on an invalid case", b"", blank(0))
+    say("8 O on an invalid case", tabbed(["step 8 O", "end"]), blank(0))
+    say("steps", text["steps"])
+    say("1024 steps", text["most"])
+    say("1025 steps", text["many"])
+    for limit in (STEP_LIMIT, STEP_LIMIT + 1):
+        say("%d bytes" % limit, text["steps"] + b"x" * (limit - len(text["steps"])))
+
+
 def main():
     what, where = sys.argv[1], sys.argv[2]
     if what == "data":
@@ -310,6 +371,8 @@ def main():
         t = Tally(room)
         t.judge(text[name])
         t.say("whole")
+    into_bytes(text["seven"])
+    replayed(text)
 
 
 if __name__ == "__main__":

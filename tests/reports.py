@@ -25,10 +25,17 @@ def lines(rows):
     return "".join("\t".join(str(f) for f in row) + "\n" for row in rows)
 
 
-def day(text):
+def case_of(text):
+    """The case of a case text, as reference.py has it."""
     n, wires, zeros, units, barred = grid_of(text)
     case = reference.drawn(reference.blank(n), lines=wires, zero=zeros, units=units)
     case["site"] -= set(barred)
+    return case
+
+
+def day(text):
+    n, wires, zeros, units, barred = grid_of(text)
+    case = case_of(text)
     steps = reference.derivation(case)
     alone = siting.Grid(n, wires, zeros, units, barred).unconfirmed()
     rows = [("observed", len(reference.observed_set(case)), n)]
@@ -47,17 +54,18 @@ def plan(text, budget):
     return lines([("fewest", len(sites))] + [("pmu", x) for x in sites] + [("end",)])
 
 
-def main():
-    text = sys.stdin.buffer.read()
+def printed(program, text, budget):
+    """What a program prints; place 0 stays, and the planning program counts the case text's lines from 2."""
     try:
-        if sys.argv[1] == "day":
-            answer = day(text)
-        else:
-            answer = plan(text, int(sys.argv[2]) if len(sys.argv) > 2 else 8)
+        return day(text) if program == "day" else plan(text, budget)
     except No as no:
         number, place = no.args
-        answer = lines([("refused", number, place + (sys.argv[1] == "plan" and number != 1))])
-    sys.stdout.write(answer)
+        return lines([("refused", number, place + (program == "plan" and number != 1))])
+
+
+def main():
+    text = sys.stdin.buffer.read()
+    sys.stdout.write(printed(sys.argv[1], text, int(sys.argv[2]) if len(sys.argv) > 2 else 8))
 
 
 if __name__ == "__main__":

@@ -7,6 +7,8 @@ ghost use Prim.Native.Nat.{_≤_};
 
 mod lending;
 mod records;
+mod replays;
+mod rooms;
 mod splice;
 
 use lending::Filled;
@@ -14,6 +16,9 @@ use lending::read_first;
 use refusals::Refusal;
 use refusals::number;
 use refusals::place;
+use replays::try_replay;
+use rooms::Call;
+use rooms::try_room;
 use splice::Room;
 use splice::pad;
 use splice::spliced;
@@ -387,6 +392,7 @@ fn main() {
     on_file(b"steps.txt", Kind::Steps, true);
     on_file(b"many.txt", Kind::Steps, false);
     into_lent();
+    on_seven();
 }
 
 // A list of 5 steps and one of 1,024, each into room that is one short, exact and larger, and 1,025 steps.
@@ -398,4 +404,78 @@ fn into_lent() {
     into_records(b"most.txt", 1024);
     into_records(b"most.txt", 1025);
     into_records(b"many.txt", 1032);
+}
+
+// What is done with the text of the seven buses and their unit at 3.
+fn on_seven() {
+    let mut room: Room = [0; 16400];
+    let n = loaded(b"seven.txt", &mut room);
+    if room.len() < n {
+        return;
+    }
+    into_bytes(&room[0..n]);
+    let r = read_case(&room[0..n]);
+    replayed(r.case);
+}
+
+// Each call that writes bytes, into room that is one short, exact and larger, and on an empty text.
+fn into_bytes(seven: &[u8]) {
+    try_room(b"no case", Call::Case, b"", 16400);
+    try_room(b"no case", Call::Case, b"", 0);
+    try_room(b"case", Call::Case, seven, 0);
+    try_room(b"case", Call::Case, seven, 140);
+    try_room(b"case", Call::Case, seven, 141);
+    try_room(b"case", Call::Case, seven, 142);
+    try_room(b"no day", Call::Day, b"", 11);
+    try_room(b"no day", Call::Day, b"", 12);
+    try_room(b"day", Call::Day, seven, 0);
+    try_room(b"day", Call::Day, seven, 77);
+    try_room(b"day", Call::Day, seven, 78);
+    try_room(b"day", Call::Day, seven, 79);
+    into_planned(seven);
+}
+
+fn into_planned(seven: &[u8]) {
+    let mut room: Room = [0; 16400];
+    let n = spliced(&mut room, seven, 0, 0, b"plan\t8\n", b"");
+    if room.len() < n {
+        return;
+    }
+    try_room(b"no plan", Call::Plan, b"", 11);
+    try_room(b"no plan", Call::Plan, b"", 12);
+    try_room(b"plan", Call::Plan, &room[0..n], 0);
+    try_room(b"plan", Call::Plan, &room[0..n], 18);
+    try_room(b"plan", Call::Plan, &room[0..n], 19);
+    try_room(b"plan", Call::Plan, &room[0..n], 20);
+}
+
+// Step texts that are good, that are refused as lists, and that are refused as texts; and an invalid case.
+fn replayed(seven: Case) {
+    let none = read_case(b"");
+    let invalid = none.case;
+    try_replay(b"no step", seven, b"end\n");
+    try_replay(b"two steps", seven, b"step\t3\tO\nstep\t4\tN\t3\nend\n");
+    try_replay(b"8 O", seven, b"step\t3\tO\nstep\t8\tO\nend\n");
+    try_replay(b"3 O twice", seven, b"step\t3\tO\nstep\t3\tO\nend\n");
+    try_replay(b"1 Z 2", seven, b"step\t1\tZ\t2\nend\n");
+    try_replay(b"65 O", seven, b"step\t65\tO\nend\n");
+    try_replay(b"an empty text", seven, b"");
+    try_replay(b"an empty text on an invalid case", invalid, b"");
+    try_replay(b"8 O on an invalid case", invalid, b"step\t8\tO\nend\n");
+    replayed_file(b"steps", b"steps.txt", seven, 0);
+    replayed_file(b"1024 steps", b"most.txt", seven, 0);
+    replayed_file(b"1025 steps", b"many.txt", seven, 0);
+    replayed_file(b"16384 bytes", b"steps.txt", seven, 16384);
+    replayed_file(b"16385 bytes", b"steps.txt", seven, 16385);
+}
+
+// The step text of a file, with letters x up to so many bytes.
+fn replayed_file(name: &[u8], path: &[u8], case: Case, limit: usize) {
+    let mut room: Room = [0; 16400];
+    let n = loaded(path, &mut room);
+    let m = pad(&mut room, n, limit);
+    if room.len() < m {
+        return;
+    }
+    try_replay(name, case, &room[0..m]);
 }
