@@ -80,9 +80,9 @@ entry l = l .before .before
 abbrev asked : {t : ℕ} → search-lts.Start (calls t) (search-at t) search′.Post search-Inv-loop search-μ-loop → ℕ → ℕ → Grid
 asked s sites units = record {
   n = s .args .n;
-  nbr = neighbours (s .args .nbr .now);
-  zero = setOf (s .args .zero);
-  site = sites;
+  neighbours = neighbours (s .args .nbr .now);
+  zeros = setOf (s .args .zero);
+  sites = sites;
   units = units;
 }
 
