@@ -9,20 +9,20 @@ use Rattle.step.specs.declared.Step.{Step}
 use Rattle.grid.specs.declared.Case.{Case}
 use Rattle.refusals.specs.declared.Refusal.{Refusal}
 use Rattle.refusals.specs.Refusals.{Passed}
-use Rattle.ending.specs.Replies.{replayChecks, ReplayReply, weaveChecks, WeaveReply}
+use Rattle.list_follow.specs.Replies.{replayChecks, ReplayReply, weaveChecks, WeaveReply}
 use Rattle.list_value.specs.declared.StepList.{StepList}
-use Rattle.ending.specs.declared.Replayed.{Replayed}
-use Rattle.ending.specs.declared.Replayed.the-variants as replayed
-use Rattle.ending.specs.declared.Wove.{Wove}
-use Rattle.ending.specs.declared.Wove.the-variants as wove
+use Rattle.list_follow.specs.declared.Replayed.{Replayed}
+use Rattle.list_follow.specs.declared.Replayed.the-variants as replayed
+use Rattle.list_follow.specs.declared.Wove.{Wove}
+use Rattle.list_follow.specs.declared.Wove.the-variants as wove
 use Rattle.refusals.specs.declared.Written.{Written}
 use Rattle.refusals.specs.declared.Written.the-variants as written
 use Rattle.observe_calls.specs.declared.Observed.{Observed}
 use Rattle.observe_calls.specs.declared.Observed.the-variants as observed
 use Rattle.observe_calls.specs.declared.Figured.{Figured}
 use Rattle.observe_calls.specs.declared.Figured.the-variants as figured
-use Rattle.observe_calls.specs.declared.Tested.{Tested}
-use Rattle.observe_calls.specs.declared.Tested.the-variants as tested
+use Rattle.testing.specs.declared.Tested.{Tested}
+use Rattle.testing.specs.declared.Tested.the-variants as tested
 use Rattle.list_derive.specs.declared.DerivationAnswer.{DerivationAnswer}
 use Rattle.list_derive.specs.declared.DerivationAnswer.the-variants as derived
 use Rattle.list_derive.specs.declared.Derived.{Derived}

@@ -24,10 +24,10 @@ use Rattle.grid.specs.Cases.{mostSteps, gridOf, Valid, mostBudget}
 use Rattle.refusals.specs.Refusals.{Is, Passed, Failed}
 use Rattle.refusals.proofs.Orders.{failed-or-passed}
 use Rattle.list_follow.specs.Following.{checksFrom}
-use Rattle.ending.specs.Replies.{replayChecks, ReplayReply}
+use Rattle.list_follow.specs.Replies.{replayChecks, ReplayReply}
 use Rattle.list_follow.specs.declared.Task.the-variants.{Replay}
-use Rattle.ending.specs.declared.Replayed.{Replayed}
-use Rattle.ending.specs.declared.Replayed.the-variants as replayed
+use Rattle.list_follow.specs.declared.Replayed.{Replayed}
+use Rattle.list_follow.specs.declared.Replayed.the-variants as replayed
 use Rattle.case_read.specs.Reading.{got}
 use Rattle.case_line.specs.CaseText.{caseText}
 use Rattle.case_inverse.proofs.Inverse as inverse
@@ -52,12 +52,12 @@ observed-least c (observed.Refused q) v p = absurd (failed-or-passed (observedCh
 
 -- steps that are allowed where they stand pass replay's checks, and those that pass are allowed
 pub accepted-checks : (c : Case) → Proper (gridOf c) → (k s : ℕ) (xs : List Step) → AcceptedFrom (gridOf c) s xs
-    → Passed (checksFrom Replay c k s xs [])
+    → Passed (checksFrom Replay c k s xs)
 accepted-checks c v k s [] a = tt
 accepted-checks c v k s (x ∷ xs) a =
     (allowed-names v (a .0), (a .0 .new, (a .0 .holds, accepted-checks c v (suc k) (add s (x .bus)) xs (a .1))))
 
-checks-accepted : (c : Case) (k s : ℕ) (xs : List Step) → Passed (checksFrom Replay c k s xs []) → AcceptedFrom (gridOf c) s xs
+checks-accepted : (c : Case) (k s : ℕ) (xs : List Step) → Passed (checksFrom Replay c k s xs) → AcceptedFrom (gridOf c) s xs
 checks-accepted c k s [] p = tt
 checks-accepted c k s (x ∷ xs) p =
     (record { new = p .1 .0; holds = p .1 .1 .0 }, checks-accepted c (suc k) (add s (x .bus)) xs (p .1 .1 .1))

@@ -1,6 +1,6 @@
 -- Demand 3, over weaving's promise.
 use mathlib.Core.Path.{_≡_, refl, sym, ap, _∙_, subst, subst⁻¹}
-use mathlib.Core.List.{List, [], _∷_}
+use mathlib.Core.List.{List, [], _∷_, _++_}
 use Prim.Native.Nat.{ℕ, suc, _≤_}
 use lib.ListN.{length}
 use Rattle.busset.specs.Sets.{In, empty, add, size, setOf}
@@ -17,14 +17,14 @@ use Rattle.grid.specs.Cases.{gridOf}
 use Rattle.refusals.specs.Refusals.{Check, check, Passed}
 use Rattle.refusals.proofs.Orders.{failed-or-passed}
 use Rattle.list_follow.specs.Following.{checksFrom}
-use Rattle.ending.specs.Replies.{weaveChecks, WeaveReply}
+use Rattle.list_follow.specs.Replies.{weaveChecks, WeaveReply}
 use Rattle.list_follow.specs.declared.Task.the-variants.{Weave}
-use Rattle.ending.specs.declared.Wove.{Wove}
-use Rattle.ending.specs.declared.Wove.the-variants as wove
+use Rattle.list_follow.specs.declared.Wove.{Wove}
+use Rattle.list_follow.specs.declared.Wove.the-variants as wove
 use Rattle.demands.specs.Demand3.{Received, Weaves, Demand3}
 
 weavable-checks : (c : Case) (k s : ℕ) (xs : List Step) (rest : List Check) → Each (Names (c .n)) xs → WeavableFrom (gridOf c) s xs
-    → Passed rest → Passed (checksFrom Weave c k s xs rest)
+    → Passed rest → Passed (checksFrom Weave c k s xs ++ rest)
 weavable-checks c k s [] rest n w p = p
 weavable-checks c k s (x ∷ xs) rest n w p = (n .0, (w .0, weavable-checks c (suc k) (add s (x .bus)) xs rest (n .1) (w .1) p))
 
@@ -66,9 +66,8 @@ weaves c desks received before after (wove.Written count s) i p = record {
     w : Woven (gridOf c) desks received
     w = weaving-shuffles (gridOf c) desks received (i .alone) (i .shuffled)
 
-    -- the answer's set is the one that the received list reaches, and so does what is written of it
     same : setOf s ≡ reached (woven received)
-    same = p .2 ∙ sym (w .reaches)
+    same = p .2
 
 pub demand-3 : Demand3
 demand-3 = record { weaves = weaves }

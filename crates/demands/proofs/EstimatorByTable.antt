@@ -14,7 +14,7 @@ use Rattle.refusals.specs.Refusals.{numberOf, placeOf, Is, Check, Failed}
 use Rattle.refusals.proofs.Orders.{itself, number-some, number-most}
 use Rattle.case_read.specs.Reading.{refused, readCase}
 use Rattle.case_read.specs.declared.CaseRead.{CaseRead}
-use Rattle.ending.specs.Replies.{replayChecks}
+use Rattle.list_follow.specs.Replies.{replayChecks}
 use Rattle.step_text.specs.Steps.{stepsOf}
 use Rattle.step_replay.specs.Replying.{TextReplayReply}
 use Rattle.step_replay.specs.declared.TextReplayed.{TextReplayed}

@@ -16,7 +16,7 @@ use Rattle.case_inverse.proofs.Inverse.{read-valid}
 use Rattle.step_text.specs.Steps.{stepsOf, readSteps}
 use Rattle.step_text.specs.declared.StepsRead.the-variants.{Refused}
 use Rattle.step_text.proofs.Found.{steps-count, steps-found}
-use Rattle.ending.specs.Replies.{replayChecks}
+use Rattle.list_follow.specs.Replies.{replayChecks}
 use Rattle.observe_calls.specs.Replies.{observedChecks}
 use Rattle.place_calls.specs.Replies.{verdictChecks, fewestChecks}
 use Rattle.estimator.specs.Answers.{ObservedFor, UnconfirmedFor, FewestFor, ReplayFor, OfText}

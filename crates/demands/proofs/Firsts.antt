@@ -5,7 +5,7 @@ use mathlib.Core.Logic.{_⊎_, inl, inr}
 use Prim.Native.Nat.{ℕ}
 use Rattle.refusals.specs.Refusals.{numberOf, placeOf, Check, Passed, Failed}
 use Rattle.refusals.specs.declared.Refusal.{Refusal}
-use Rattle.refusals.proofs.Orders.{itself}
+use Rattle.refusals.proofs.Orders.{itself, passed-then}
 use Rattle.demands.specs.Order.{InOrder, FirstFails}
 use Rattle.demands.specs.ByTable.{Refuses, ByTable}
 
@@ -76,10 +76,6 @@ reply-meets {before = before} {after = after} P checks refused order fails cases
         inr (numberOf q, placeOf q, f, k, λ m o j. first-unique checks (numberOf q) (placeOf q) m o f (first m o j .0))
 
 -- ---- one list of checks after another
-
-pub passed-then : (ps qs : List Check) → Passed ps → Passed qs → Passed (ps ++ qs)
-passed-then [] qs a b = b
-passed-then (p ∷ ps) qs a b = (a .0, passed-then ps qs (a .1) b)
 
 first-later : (ps qs : List Check) (n k : ℕ) → Passed ps → FirstFails qs n k → FirstFails (ps ++ qs) n k
 first-later [] qs n k a f = f

@@ -12,19 +12,17 @@ use Rattle.grid.specs.declared.Case.{Case}
 use Rattle.refusals.proofs.Orders.{failed-unique, failed-or-passed}
 use Rattle.list_value.specs.Lists.{listOf}
 use Rattle.list_derive.specs.Deriving.{Derives}
-use Rattle.ending.specs.Replies.{replayChecks, ReplayReply, weaveChecks, WeaveReply}
+use Rattle.list_follow.specs.Replies.{replayChecks, ReplayReply, weaveChecks, WeaveReply}
 use Rattle.list_value.specs.declared.StepList.{StepList}
-use Rattle.ending.specs.declared.Replayed.{Replayed}
-use Rattle.ending.specs.declared.Replayed.the-variants as replayed
-use Rattle.ending.specs.declared.Wove.{Wove}
-use Rattle.ending.specs.declared.Wove.the-variants as wove
+use Rattle.list_follow.specs.declared.Replayed.{Replayed}
+use Rattle.list_follow.specs.declared.Replayed.the-variants as replayed
+use Rattle.list_follow.specs.declared.Wove.{Wove}
+use Rattle.list_follow.specs.declared.Wove.the-variants as wove
 use Rattle.step_text.specs.Steps.{readSteps, stepsOf}
 use Rattle.step_text.specs.declared.StepsRead.{StepsRead}
 use Rattle.step_text.specs.declared.StepsRead.the-variants as read
-use Rattle.step_replay.specs.Replying.{TextReplayAt, TextReplayReply}
+use Rattle.step_replay.specs.Replying.{textAnswer, TextReplayAt, TextReplayReply}
 use Rattle.step_replay.specs.declared.TextReplayed.{TextReplayed}
-use Rattle.step_replay.specs.declared.TextReplayed.the-variants as told
-use Rattle.step_replay.proofs.Onward.{answerOf}
 use Rattle.list_derive.specs.declared.DerivationAnswer.{DerivationAnswer}
 use Rattle.list_derive.specs.declared.DerivationAnswer.the-variants.{Found, Refused}
 use Rattle.list_derive.specs.declared.Derived.{Derived}
@@ -51,25 +49,11 @@ replay-unique c xs (replayed.Refused r) (replayed.Reached s f) p q = absurd (fai
 replay-unique c xs (replayed.Refused r) (replayed.Refused k) p q = ap replayed.Refused (failed-unique (replayChecks c xs) r k p q)
 
 pub text-replay-unique : (c : Case) (text : List ℕ) (a b : TextReplayed) → TextReplayReply c text a → TextReplayReply c text b → a ≡ b
-text-replay-unique c text a b p q = go (readSteps text) a b p q
+text-replay-unique c text a b p q = go (readSteps text) p q
   where
-    -- as the list of its steps
-    listed : (x y : Replayed) → ReplayReply c (stepsOf text) x → ReplayReply c (stepsOf text) y → answerOf x ≡ answerOf y
-    listed x y p q = ap answerOf (replay-unique c (stepsOf text) x y p q)
-
-    go : (r : StepsRead) (a b : TextReplayed) → TextReplayAt c text r a → TextReplayAt c text r b → a ≡ b
-    go (read.Steps n) (told.Reached s f) (told.Reached t h) p q = listed (replayed.Reached s f) (replayed.Reached t h) p q
-    go (read.Steps n) (told.Reached s f) (told.Refused k) p q = listed (replayed.Reached s f) (replayed.Refused k) p q
-    go (read.Steps n) (told.Reached s f) (told.Unread k) p q = absurd q
-    go (read.Steps n) (told.Refused r) (told.Reached t h) p q = listed (replayed.Refused r) (replayed.Reached t h) p q
-    go (read.Steps n) (told.Refused r) (told.Refused k) p q = listed (replayed.Refused r) (replayed.Refused k) p q
-    go (read.Steps n) (told.Refused r) (told.Unread k) p q = absurd q
-    go (read.Steps n) (told.Unread r) b p q = absurd p
-    go (read.Refused r) (told.Reached s f) b p q = absurd p
-    go (read.Refused r) (told.Refused k) b p q = absurd p
-    go (read.Refused r) (told.Unread j) (told.Reached t h) p q = absurd q
-    go (read.Refused r) (told.Unread j) (told.Refused k) p q = absurd q
-    go (read.Refused r) (told.Unread j) (told.Unread k) p q = ap told.Unread (p ∙ sym q)
+    go : (r : StepsRead) → TextReplayAt c text r a → TextReplayAt c text r b → a ≡ b
+    go (read.Steps n) p q = p .2 ∙ ap textAnswer (replay-unique c (stepsOf text) (p .0) (q .0) (p .1) (q .1)) ∙ sym (q .2)
+    go (read.Refused r) p q = p ∙ sym q
 
 pub weave-unique : (c : Case) (xs before : List Step) (a b : Wove) (left right : List Step) → WeaveReply c xs before left a → WeaveReply c xs before right b → (a ≡ b) × (left ≡ right)
 weave-unique c xs before (wove.Written m s) (wove.Written n t) left right p q =

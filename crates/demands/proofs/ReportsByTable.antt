@@ -14,7 +14,7 @@ use Rattle.grid.specs.declared.Case.{Case}
 use Rattle.refusals.specs.declared.Refusal.{Refusal}
 use Rattle.refusals.specs.declared.Refusal.the-variants.{TextTooLong, WrongForm}
 use Rattle.refusals.specs.Refusals.{Check, check, Passed, Failed}
-use Rattle.refusals.proofs.Orders.{itself, failed-unique, failed-or-passed}
+use Rattle.refusals.proofs.Orders.{itself, failed-unique, failed-or-passed, passed-then, failed-sooner, failed-later}
 use Rattle.grid.specs.Cases.{mostBytes}
 use Rattle.case_read.specs.Reading.{start, refused, readLines, readCase}
 use Rattle.case_read.specs.declared.CaseRead.{CaseRead}
@@ -29,7 +29,7 @@ use Rattle.report_plan.proofs.Unique.{plan-unique}
 use Rattle.demands.specs.Order.{InOrder}
 use Rattle.demands.specs.TextChecks.{IsNumber, planLineChecks, inputChecks, caseChecks, lineChecks, printChecks}
 use Rattle.demands.specs.ByTable.{Refuses, ByTable, PrintedByTable, FewestPrinted}
-use Rattle.demands.proofs.Firsts.{passed-then, reply-meets}
+use Rattle.demands.proofs.Firsts.{reply-meets}
 use Rattle.demands.proofs.Turns.{Follows, later-follows, then-ordered}
 use Rattle.demands.proofs.TextTurns.{case-ordered, input-ordered, input-turn}
 use Rattle.demands.proofs.Judging.{good, bad, passing, failing}
@@ -102,14 +102,6 @@ input-judged input = go (ltb mostBytes (length input)) refl
     go false e = passing (length input ≤ mostBytes) 1 0 (nltb→le mostBytes (length input) (subst⁻¹ (λ (b : Bool). T (not b)) e tt)) (plan-lines-judged l ms)
 
 -- ---- the planning program
-
-failed-sooner : (ps qs : List Check) (q : Refusal) → Failed ps q → Failed (ps ++ qs) q
-failed-sooner (p ∷ ps) qs q (inl f) = inl f
-failed-sooner (p ∷ ps) qs q (inr f) = inr (f .0, failed-sooner ps qs q (f .1))
-
-failed-later : (ps qs : List Check) (q : Refusal) → Passed ps → Failed qs q → Failed (ps ++ qs) q
-failed-later [] qs q a f = f
-failed-later (p ∷ ps) qs q a f = inr (a .0, failed-later ps qs q (a .1) f)
 
 pub plan-printed : (input t : List ℕ) → Plan input t
     → PrintedByTable (inputChecks input ++ planChecks (readPlan input .read .case) (readPlan input .budget)) (FewestPrinted (readPlan input .read .case) (readPlan input .budget) t) t

@@ -13,7 +13,9 @@ use Rattle.refusals.specs.declared.Refusal.{Refusal}
 use Rattle.refusals.specs.declared.Refusal.the-variants.{NoRoom}
 use Rattle.refusals.specs.Refusals.{numberOf, placeOf, Check, check, Passed, Failed}
 use Rattle.refusals.proofs.Orders.{itself}
-use Rattle.ending.specs.Replies.{replayChecks}
+use Rattle.list_follow.specs.Replies.{replayChecks, ReplayReply}
+use Rattle.list_follow.specs.declared.Replayed.{Replayed}
+use Rattle.list_follow.specs.declared.Replayed.the-variants as replayed
 use Rattle.case_read.specs.Reading.{got, refused}
 use Rattle.case_read.specs.declared.CaseRead.{CaseRead}
 use Rattle.case_read.specs.declared.ReadAnswer.the-variants as read
@@ -22,7 +24,7 @@ use Rattle.step_text.specs.Taking.{withRoom, leaves, StepsReadReply}
 use Rattle.step_text.specs.declared.StepsRead.{StepsRead}
 use Rattle.step_text.specs.declared.StepsRead.the-variants.{Steps, Refused}
 use Rattle.step_text.proofs.Found.{steps-count}
-use Rattle.step_replay.specs.Replying.{TextReplayAt, TextReplayReply}
+use Rattle.step_replay.specs.Replying.{textAnswer, TextReplayAt, TextReplayReply}
 use Rattle.step_replay.specs.declared.TextReplayed.{TextReplayed}
 use Rattle.step_replay.specs.declared.TextReplayed.the-variants as told
 use Rattle.text_calls.specs.Replies.{CaseReadReply, StepsCheckedReply}
@@ -131,22 +133,23 @@ text-replay-ends c text r p = go (steps-judged text)
     steps : List Check
     steps = replayChecks c (stepsOf text)
 
-    replayed-ends : (n : ℕ) (r : TextReplayed) → TextReplayAt c text (Steps n) r → Ends steps (TextRefuses r)
-    replayed-ends n (told.Reached s f) p = inl (p .0, λ n k h. h)
-    replayed-ends n (told.Refused q) p = inr (numberOf q, placeOf q, failed-first steps q p, itself q, λ m o h. (h .numbered, h .placed))
-    replayed-ends n (told.Unread q) p = absurd p
+    replayed-ends : (a : Replayed) → ReplayReply c (stepsOf text) a → Ends steps (TextRefuses (textAnswer a))
+    replayed-ends (replayed.Reached s f) p = inl (p .0, λ n k h. h)
+    replayed-ends (replayed.Refused q) p = inr (numberOf q, placeOf q, failed-first steps q p, itself q, λ m o h. (h .numbered, h .placed))
 
-    unread-ends : (q : Refusal) (r : TextReplayed) → Failed (stepTextChecks text) q → TextReplayAt c text (Refused q) r → Ends (fifty ++ steps) (TextRefuses r)
-    unread-ends q (told.Reached s f) a p = absurd p
-    unread-ends q (told.Refused k) a p = absurd p
-    unread-ends q (told.Unread k) a p =
-        ends-sooner fifty steps (TextRefuses (told.Unread k)) (numberOf q + 50) (placeOf q) (fifty-first (stepTextChecks text) (numberOf q) (placeOf q) (failed-first (stepTextChecks text) q a))
-        (record { numbered = ap (λ (x : Refusal). numberOf x + 50) p; placed = ap placeOf p })
-        (λ m o h. (sym (ap (λ (x : Refusal). numberOf x + 50) p) ∙ h .numbered, sym (ap placeOf p) ∙ h .placed))
+    unread-ends : (q : Refusal) → Failed (stepTextChecks text) q → Ends (fifty ++ steps) (TextRefuses (told.Unread q))
+    unread-ends q a =
+        ends-sooner fifty steps (TextRefuses (told.Unread q)) (numberOf q + 50) (placeOf q) (fifty-first (stepTextChecks text) (numberOf q) (placeOf q) (failed-first (stepTextChecks text) q a))
+        (record { numbered = refl; placed = refl }) (λ m o h. (h .numbered, h .placed))
+
+    read-as : {x : StepsRead} → readSteps text ≡ x → TextReplayAt c text x r
+    read-as e = subst (λ (x : StepsRead). TextReplayAt c text x r) e p
 
     go : SaidBy Refused IsCount (stepTextChecks text) (readSteps text) → Ends (fifty ++ steps) (TextRefuses r)
-    go (good a (n, e)) = ends-later fifty steps (TextRefuses r) (fifty-passed (stepTextChecks text) a) (replayed-ends n r (subst (λ (x : StepsRead). TextReplayAt c text x r) e p))
-    go (bad q f e) = unread-ends q r f (subst (λ (x : StepsRead). TextReplayAt c text x r) e p)
+    go (good a (n, e)) =
+        let t = read-as e in
+        ends-later fifty steps (TextRefuses r) (fifty-passed (stepTextChecks text) a) (subst⁻¹ (λ (x : TextReplayed). Ends steps (TextRefuses x)) (t .2) (replayed-ends (t .0) (t .1)))
+    go (bad q f e) = subst⁻¹ (λ (x : TextReplayed). Ends (fifty ++ steps) (TextRefuses x)) (read-as e) (unread-ends q f)
 
 pub text-replay-follows : (c : Case) (text : List ℕ) → Follows 1 (textReplayChecks c text)
 text-replay-follows c text =

@@ -1,7 +1,7 @@
 -- One list of checks after another in document 01's order; the checks of a list of steps are in it.
 use mathlib.Core.Path.{_≡_, refl, sym, _∙_, subst, subst⁻¹}
 use mathlib.Core.Bool.{Bool, true, false, cond, _||_}
-use mathlib.Core.List.{List, [], _∷_, _++_}
+use mathlib.Core.List.{List, [], _∷_, _++_, append-nil}
 use mathlib.Core.Logic.{_⊎_, inl, inr}
 use Prim.Native.Nat.{ℕ, suc, _+_, _≤_, _<_}
 use native.Mathlib.Omega.{arith}
@@ -11,9 +11,10 @@ use Rattle.step.specs.declared.Step.{Step}
 use Rattle.busset.specs.Sets.{empty, add}
 use Rattle.rules.specs.Weaving.{woven}
 use Rattle.grid.specs.declared.Case.{Case}
+use Rattle.grid.specs.Cases.{mostSteps}
 use Rattle.refusals.specs.Refusals.{Check, check}
 use Rattle.list_follow.specs.Following.{checksFrom}
-use Rattle.ending.specs.Replies.{replayChecks, weaveChecks}
+use Rattle.list_follow.specs.Replies.{replayChecks, weaveChecks}
 use Rattle.list_follow.specs.declared.Task.{Task}
 use Rattle.list_follow.specs.declared.Task.the-variants.{Replay, Weave}
 use Rattle.demands.specs.Order.{order, isOf, isIn, groupOf, turnOf12, turn, InTable, Precedes, InOrder, FirstFails}
@@ -119,7 +120,7 @@ stepTurn = 6
 
 -- after p come the steps from k on, and then the rest, where the rest comes after any step
 steps-ordered : (task : Task) (c : Case) (rest : List Check) → ((q : Check) → turn q ≤ stepTurn → InOrder (q ∷ rest))
-    → (k s : ℕ) (xs : List Step) (p : Check) → Ahead stepTurn k p → InOrder (p ∷ checksFrom task c k s xs rest)
+    → (k s : ℕ) (xs : List Step) (p : Check) → Ahead stepTurn k p → InOrder (p ∷ (checksFrom task c k s xs ++ rest))
 steps-ordered task c rest later k s [] p before = later p (ahead-most p before)
 steps-ordered Replay c rest later k s (x ∷ xs) p before = (
   in-table p (omega (arith, ahead-most p before)),
@@ -137,14 +138,19 @@ steps-ordered Weave c rest later k s (x ∷ xs) p before = (
 )
 
 pub replay-ordered : (c : Case) (xs : List Step) → InOrder (replayChecks c xs)
-replay-ordered c xs = (refl, inl (lit< tt), steps-ordered Replay c [] (λ q h. in-table q (omega (arith, h))) 1 empty xs _ (inl (lit< tt)))
+replay-ordered c xs = (
+  refl,
+  inl (lit< tt),
+  subst (λ (qs : List Check). InOrder (check (length xs ≤ mostSteps) 12 0 ∷ qs)) (append-nil (checksFrom Replay c 1 empty xs))
+      (steps-ordered Replay c [] (λ q h. in-table q (omega (arith, h))) 1 empty xs _ (inl (lit< tt))),
+)
 
 pub weave-ordered : (c : Case) (xs : List Step) (room : ℕ) → InOrder (weaveChecks c xs room)
 weave-ordered c xs room =
     let last = check (length (woven xs) ≤ room) 6 0 ∷ [] in
     (refl, inl (lit< tt), steps-ordered Weave c last (later-follows stepTurn last (lit≤ tt) (lit< tt) refl .1) 1 empty xs _ (inl (lit< tt)))
 
-steps-turn : (c : Case) (k s : ℕ) (xs : List Step) → TurnsBy stepTurn (checksFrom Replay c k s xs [])
+steps-turn : (c : Case) (k s : ℕ) (xs : List Step) → TurnsBy stepTurn (checksFrom Replay c k s xs)
 steps-turn c k s [] = tt
 steps-turn c k s (x ∷ xs) = (lit≤ tt, (lit≤ tt, (lit≤ tt, steps-turn c (suc k) (add s (x .bus)) xs)))
 

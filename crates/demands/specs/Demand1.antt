@@ -5,11 +5,11 @@ use Prim.Native.Nat.{ℕ}
 use lib.ListN.{length}
 use Rattle.step.specs.declared.Step.{Step}
 use Rattle.grid.specs.declared.Case.{Case}
-use Rattle.ending.specs.Replies.{replayChecks, ReplayReply, weaveChecks, WeaveReply}
-use Rattle.ending.specs.declared.Replayed.{Replayed}
-use Rattle.ending.specs.declared.Replayed.the-variants as replayed
-use Rattle.ending.specs.declared.Wove.{Wove}
-use Rattle.ending.specs.declared.Wove.the-variants as wove
+use Rattle.list_follow.specs.Replies.{replayChecks, ReplayReply, weaveChecks, WeaveReply}
+use Rattle.list_follow.specs.declared.Replayed.{Replayed}
+use Rattle.list_follow.specs.declared.Replayed.the-variants as replayed
+use Rattle.list_follow.specs.declared.Wove.{Wove}
+use Rattle.list_follow.specs.declared.Wove.the-variants as wove
 use Rattle.case_read.specs.Reading.{refused, readCase}
 use Rattle.case_read.specs.declared.CaseRead.{CaseRead}
 use Rattle.step_text.specs.Taking.{StepsReadReply}
@@ -27,8 +27,8 @@ use Rattle.observe_calls.specs.declared.Observed.{Observed}
 use Rattle.observe_calls.specs.declared.Observed.the-variants as observed
 use Rattle.observe_calls.specs.declared.Figured.{Figured}
 use Rattle.observe_calls.specs.declared.Figured.the-variants as figured
-use Rattle.observe_calls.specs.declared.Tested.{Tested}
-use Rattle.observe_calls.specs.declared.Tested.the-variants as tested
+use Rattle.testing.specs.declared.Tested.{Tested}
+use Rattle.testing.specs.declared.Tested.the-variants as tested
 use Rattle.list_derive.specs.declared.Derived.{Derived}
 use Rattle.place_calls.specs.declared.Verdict.{Verdict}
 use Rattle.place_calls.specs.declared.Verdict.the-variants as verdict

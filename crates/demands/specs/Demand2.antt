@@ -16,9 +16,9 @@ use Rattle.grid.specs.declared.Case.{Case}
 use Rattle.refusals.specs.declared.Refusal.{Refusal}
 use Rattle.grid.specs.Cases.{mostBuses, gridOf, Valid, mostBudget}
 use Rattle.refusals.specs.Refusals.{Is}
-use Rattle.ending.specs.Replies.{ReplayReply}
-use Rattle.ending.specs.declared.Replayed.{Replayed}
-use Rattle.ending.specs.declared.Replayed.the-variants as replayed
+use Rattle.list_follow.specs.Replies.{ReplayReply}
+use Rattle.list_follow.specs.declared.Replayed.{Replayed}
+use Rattle.list_follow.specs.declared.Replayed.the-variants as replayed
 use Rattle.case_read.specs.Reading.{got}
 use Rattle.refusals.specs.declared.Written.the-variants as written
 use Rattle.observe_calls.specs.declared.Observed.{Observed}

@@ -15,9 +15,9 @@ use Rattle.basics.specs.Lists.{Each, Some}
 use Rattle.rules.specs.Weaving.{woven, Shuffle}
 use Rattle.grid.specs.declared.Case.{Case}
 use Rattle.grid.specs.Cases.{mostSteps, gridOf, Valid}
-use Rattle.ending.specs.Replies.{WeaveReply}
-use Rattle.ending.specs.declared.Wove.{Wove}
-use Rattle.ending.specs.declared.Wove.the-variants as wove
+use Rattle.list_follow.specs.Replies.{WeaveReply}
+use Rattle.list_follow.specs.declared.Wove.{Wove}
+use Rattle.list_follow.specs.declared.Wove.the-variants as wove
 
 -- what weaving receives, into records that hold `before`
 pub record Received (c : Case) (desks : List (List Step)) (received before : List Step) : Type 0 where

@@ -4,9 +4,9 @@ use mathlib.Core.List.{List}
 use Prim.Native.Nat.{ℕ}
 use Rattle.step.specs.declared.Step.{Step}
 use Rattle.grid.specs.declared.Case.{Case}
-use Rattle.ending.specs.Replies.{ReplayReply, WeaveReply}
-use Rattle.ending.specs.declared.Replayed.{Replayed}
-use Rattle.ending.specs.declared.Wove.{Wove}
+use Rattle.list_follow.specs.Replies.{ReplayReply, WeaveReply}
+use Rattle.list_follow.specs.declared.Replayed.{Replayed}
+use Rattle.list_follow.specs.declared.Wove.{Wove}
 use Rattle.case_read.specs.declared.CaseRead.{CaseRead}
 use Rattle.step_text.specs.Taking.{StepsReadReply}
 use Rattle.step_text.specs.declared.StepsRead.{StepsRead}
@@ -18,7 +18,7 @@ use Rattle.report_day.specs.Day.{Day}
 use Rattle.report_plan.specs.Plan.{Plan}
 use Rattle.observe_calls.specs.declared.Observed.{Observed}
 use Rattle.observe_calls.specs.declared.Figured.{Figured}
-use Rattle.observe_calls.specs.declared.Tested.{Tested}
+use Rattle.testing.specs.declared.Tested.{Tested}
 use Rattle.list_derive.specs.declared.Derived.{Derived}
 use Rattle.place_calls.specs.declared.Verdict.{Verdict}
 use Rattle.place_calls.specs.declared.Greedy.{Greedy}

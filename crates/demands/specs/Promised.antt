@@ -9,9 +9,9 @@ use denote.Ref.{RefT, now}
 use borrow.Fn.World.{World, Pr}
 use Rattle.step.specs.declared.Step.{Step}
 use Rattle.grid.specs.declared.Case.{Case}
-use Rattle.ending.specs.Replies.{ReplayReply, WeaveReply}
-use Rattle.ending.specs.declared.Replayed.{Replayed}
-use Rattle.ending.specs.declared.Wove.{Wove}
+use Rattle.list_follow.specs.Replies.{ReplayReply, WeaveReply}
+use Rattle.list_follow.specs.declared.Replayed.{Replayed}
+use Rattle.list_follow.specs.declared.Wove.{Wove}
 use Rattle.case_read.specs.declared.CaseRead.{CaseRead}
 use Rattle.step_text.specs.Taking.{StepsReadReply}
 use Rattle.step_text.specs.declared.StepsRead.{StepsRead}

@@ -18,7 +18,7 @@ use Rattle.grid.specs.Cases.{mostSteps, mostBytes, mostStepBytes}
 use Rattle.refusals.specs.Refusals.{Check, check}
 use Rattle.case_judge.specs.Judging.{inPlace, inRange, inOrder}
 use Rattle.case_read.specs.Reading.{Reader, start, next, readCase}
-use Rattle.ending.specs.Replies.{replayChecks}
+use Rattle.list_follow.specs.Replies.{replayChecks}
 use Rattle.step_text.specs.Steps.{stepInRange, stepsOf}
 use Rattle.plan_input.specs.Asking.{budgetOf}
 

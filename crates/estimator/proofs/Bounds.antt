@@ -1,12 +1,14 @@
 -- The place of every refusal is small enough for the result.
 use mathlib.Core.Path.{_≡_, refl, subst⁻¹}
 use mathlib.Core.List.{List}
-use Prim.Native.Nat.{ℕ, _≤_}
+use Prim.Native.Nat.{ℕ}
 use native.Mathlib.Omega.{arith}
 use Rattle.grid.specs.declared.Case.{Case}
-use Rattle.refusals.specs.Refusals.{placeOf}
 use Rattle.refusals.proofs.Orders.{failed-place}
-use Rattle.ending.proofs.Refusing.{replay-place}
+use Rattle.list_follow.specs.Replies.{ReplayReply}
+use Rattle.list_follow.specs.declared.Replayed.{Replayed}
+use Rattle.list_follow.specs.declared.Replayed.the-variants as replayed
+use Rattle.list_follow.proofs.Refusing.{replay-place}
 use Rattle.case_read.specs.Reading.{readCase}
 use Rattle.case_read.specs.declared.ReadAnswer.{ReadAnswer}
 use Rattle.case_read.specs.declared.ReadAnswer.the-variants as read
@@ -15,9 +17,8 @@ use Rattle.step_text.specs.Steps.{readSteps, stepsOf}
 use Rattle.step_text.specs.declared.StepsRead.{StepsRead}
 use Rattle.step_text.specs.declared.StepsRead.the-variants as steps
 use Rattle.step_text.proofs.Refusing.{steps-place}
-use Rattle.step_replay.specs.Replying.{TextReplayAt, TextReplayReply}
+use Rattle.step_replay.specs.Replying.{textAnswer, TextReplayAt, TextReplayReply}
 use Rattle.step_replay.specs.declared.TextReplayed.{TextReplayed}
-use Rattle.step_replay.specs.declared.TextReplayed.the-variants as replayed
 use Rattle.observe_calls.specs.Replies.{observedChecks, ObservedReply}
 use Rattle.place_calls.specs.Replies.{verdictChecks, VerdictReply, fewestChecks, FewestReply}
 use Rattle.observe_calls.specs.declared.Observed.{Observed}
@@ -51,15 +52,15 @@ fewest-small c budget (fewest.Refused q) p =
     failed-place farthest (fewestChecks c budget) q (omega arith, (omega arith, (omega arith, tt))) p
 
 replay-small : (c : Case) (text : List ℕ) (x : TextReplayed) → TextReplayReply c text x → Placed (ofReplay x)
-replay-small c text x p = go (readSteps text) refl x p
+replay-small c text x p = go (readSteps text) refl p
   where
-    go : (r : StepsRead) → readSteps text ≡ r → (x : TextReplayed) → TextReplayAt c text r x → Placed (ofReplay x)
-    go (steps.Steps n) e (replayed.Reached s f) p = tt
-    go (steps.Steps n) e (replayed.Refused q) p = omega (arith, replay-place c (stepsOf text) q p)
-    go (steps.Steps n) e (replayed.Unread q) p = absurd p
-    go (steps.Refused r) e (replayed.Reached s f) p = absurd p
-    go (steps.Refused r) e (replayed.Refused q) p = absurd p
-    go (steps.Refused r) e (replayed.Unread q) p = subst⁻¹ (λ k. placeOf k ≤ farthest) p (steps-place text r e)
+    listed : (a : Replayed) → ReplayReply c (stepsOf text) a → Placed (ofReplay (textAnswer a))
+    listed (replayed.Reached s f) p = tt
+    listed (replayed.Refused q) p = omega (arith, replay-place c (stepsOf text) q p)
+
+    go : (r : StepsRead) → readSteps text ≡ r → TextReplayAt c text r x → Placed (ofReplay x)
+    go (steps.Steps n) e p = subst⁻¹ (λ (y : TextReplayed). Placed (ofReplay y)) (p .2) (listed (p .0) (p .1))
+    go (steps.Refused q) e p = subst⁻¹ (λ (y : TextReplayed). Placed (ofReplay y)) p (steps-place text q e)
 
 -- ---- of a text
 

@@ -9,9 +9,9 @@ use denote.Triple.Clauses.{ClausesAt}
 use borrow.Fn.World.{World}
 use Rattle.step.specs.declared.Step.{Step}
 use Rattle.grid.specs.declared.Case.{Case}
-use Rattle.ending.specs.Replies.{ReplayReply, WeaveReply}
-use Rattle.ending.specs.declared.Replayed.{Replayed}
-use Rattle.ending.specs.declared.Wove.{Wove}
+use Rattle.list_follow.specs.Replies.{ReplayReply, WeaveReply}
+use Rattle.list_follow.specs.declared.Replayed.{Replayed}
+use Rattle.list_follow.specs.declared.Wove.{Wove}
 use Rattle.list_calls.proofs.replay as replay
 use Rattle.list_calls.proofs.weave as weave
 

@@ -14,8 +14,8 @@ use Rattle.list_follow.specs.declared.Following.{Following}
 use Rattle.list_value.specs.declared.StepList.{StepList}
 use Rattle.list_follow.specs.declared.Task.{Task}
 use Rattle.list_follow.specs.declared.Task.the-variants.{Replay, Weave}
-use Rattle.ending.specs.declared.Wove.{Wove}
-use Rattle.ending.specs.declared.Replayed.{Replayed}
+use Rattle.list_follow.specs.declared.Wove.{Wove}
+use Rattle.list_follow.specs.declared.Replayed.{Replayed}
 use Rattle.grid.proofs.Case as case
 use Rattle.grid.proofs.Case.Laws as case′
 use Rattle.list_follow.proofs.Following as following
@@ -24,10 +24,10 @@ use Rattle.list_value.proofs.StepList as list
 use Rattle.list_value.proofs.StepList.Laws as list′
 use Rattle.list_follow.proofs.Task as task
 use Rattle.list_follow.proofs.Task.Laws as task′
-use Rattle.ending.proofs.Wove as wove
-use Rattle.ending.proofs.Wove.Laws as wove′
-use Rattle.ending.proofs.Replayed as replayed
-use Rattle.ending.proofs.Replayed.Laws as replayed′
+use Rattle.list_follow.proofs.Wove as wove
+use Rattle.list_follow.proofs.Wove.Laws as wove′
+use Rattle.list_follow.proofs.Replayed as replayed
+use Rattle.list_follow.proofs.Replayed.Laws as replayed′
 
 -- a task's fact
 pub task-is : (k : Task) → Is task.the-row k (EL.vals task.the-type task′.the-laws k)

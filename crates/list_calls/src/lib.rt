@@ -1,16 +1,16 @@
 // Replay and weaving over lent records.
 ghost use Rattle.list_follow.specs.Following.{Follows};
-ghost use Rattle.ending.specs.Replies.{ReplayReply, WeaveReply, Put};
-use ending::Replayed;
-use ending::Wove;
-use ending::count_of;
-use ending::ended;
-use ending::settled;
+ghost use Rattle.list_follow.specs.Replies.{ReplayReply, WeaveReply, Put};
 use grid::Case;
 use list_follow::Following;
+use list_follow::Replayed;
 use list_follow::Task;
+use list_follow::Wove;
 use list_follow::apply;
 use list_follow::begin;
+use list_follow::count_of;
+use list_follow::ended;
+use list_follow::settled;
 use list_value::nth;
 use step::Step;
 

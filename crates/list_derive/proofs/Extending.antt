@@ -13,7 +13,7 @@ use Rattle.rules.specs.Grids.{Grid, Proper}
 use Rattle.rules.specs.Steps.{Finished}
 use Rattle.rules.specs.Derivation.{NextIs, DerivedFrom, finished, next, Derivation}
 use Rattle.rules.proofs.Reasons.{allowed-bus}
-use Rattle.list_value.specs.Lists.{listOf, Pushed}
+use Rattle.list_value.specs.Lists.{listOf, pushed}
 use Rattle.list_derive.specs.Deriving.{Derives}
 use Rattle.list_value.specs.declared.StepList.{StepList}
 use Rattle.list_value.proofs.Listing.{pushed-list}
@@ -44,10 +44,10 @@ extends-few {g} {s} {l} {x} v most n e =
     grown v n e = add-of {P = Bus (g .n)} s (x .bus) (allowed-bus v (n .allowed)) (e .within)
 
 pub extends-more : {g : Grid} {s : ℕ} {l : StepList} {x : Step} {m : StepList} {t : ℕ} → Proper g → g .n ≤ 64 → NextIs g s x → Extends g s l
-    → Pushed l x m → With s (x .bus) t → Extends g t m
+    → m ≡ pushed l x → With s (x .bus) t → Extends g t m
 extends-more {g} {s} {l} {x} {m} {t} v most n e p w = record {
   sofar = e .sofar ++ (x ∷ []);
-  is = pushed-list (e .sofar) (e .is) (omega (arith, e .count, extends-few v most n e)) p;
+  is = pushed-list (e .sofar) x (e .is) (omega (arith, e .count, extends-few v most n e)) p;
   count = length-append (e .sofar) (x ∷ []) ∙ omega (arith, e .count, size-add s (x .bus) (n .allowed .new), ap size (with-add w));
   within = subst⁻¹ (Within (g .n)) (with-add w) (add-of {P = Bus (g .n)} s (x .bus) (allowed-bus v (n .allowed)) (e .within));
   whole = λ ys d.

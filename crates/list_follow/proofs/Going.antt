@@ -1,114 +1,204 @@
--- One step further: each way that the next step can go, for replay and for weaving.
+-- One step further: each way that the next step can go, for replay and for weaving; and step after step.
 use mathlib.Core.Path.{_≡_, refl, sym, ap, _∙_, subst, subst⁻¹}
-use mathlib.Core.List.{[], _++_, append-nil}
-use mathlib.Core.Logic.{inl, inr}
-use Prim.Native.Nat.{ℕ, suc, _+_, _<_}
+use mathlib.Core.List.{List, [], _∷_, _++_, append-nil, append-assoc}
+use mathlib.Core.Bool.{Bool, cond}
+use mathlib.Core.Logic.{inl, inr, ⊎-elim}
+use Prim.Native.Nat.{ℕ, suc, _≤_, _<_}
 use native.Mathlib.Omega.{arith}
-use Rattle.busset.specs.Sets.{Bus, In, Out, Within, add, size, setOf}
-use Rattle.busset.proofs.Members.{with-add, add-of, add-again}
+use lib.Dec.{eqb}
+use lib.ListN.{length, length-append}
+use borrow.Author.Tests.{eq-eqb, ne-eqb}
+use Rattle.busset.specs.Sets.{Bus, In, Out, With, add, setOf}
+use Rattle.busset.proofs.Members.{in-or, with-add, add-of, add-again}
 use Rattle.busset.proofs.Sizes.{size-add, size-most}
 use Rattle.step.specs.declared.Step.{Step}
-use Rattle.rules.specs.Steps.{Holds, Names}
-use Rattle.rules.specs.Weaving.{unlessSeen}
+use Rattle.rules.specs.Steps.{reached}
+use Rattle.rules.specs.Weaving.{unlessSeen, woven}
 use Rattle.grid.specs.declared.Case.{Case}
+use Rattle.grid.specs.Cases.{mostSteps}
 use Rattle.refusals.specs.declared.Refusal.{Refusal}
-use Rattle.refusals.specs.declared.Refusal.the-variants.{NoSuchBus, AlreadyObserved, ReasonFails}
-use Rattle.grid.specs.Cases.{gridOf}
-use Rattle.refusals.specs.Refusals.{Failed, Passed}
-use Rattle.refusals.proofs.Orders.{itself}
-use Rattle.list_value.specs.Lists.{Listed, listed}
-use Rattle.list_follow.specs.Following.{checksAt, Ready, TakenOr, Further, Kept, seenBy, Grown}
+use Rattle.refusals.specs.Refusals.{numberOf, Check, Passed, Failed}
+use Rattle.refusals.proofs.Orders.{failed-sooner}
+use Rattle.testing.specs.Testing.{stepChecksAt}
+use Rattle.list_value.specs.Lists.{listOf, pushed}
+use Rattle.list_value.specs.declared.StepList.{StepList}
+use Rattle.list_value.proofs.Listing.{pushed-list}
+use Rattle.list_follow.specs.Following.{checksFrom, listChecks, StandingBy, Carries, After, Follows, afterRefusal}
 use Rattle.list_follow.specs.declared.Task.{Task}
 use Rattle.list_follow.specs.declared.Task.the-variants.{Replay, Weave}
-use Rattle.list_follow.specs.declared.Standing.the-variants.{Bad}
+use Rattle.list_follow.specs.declared.Standing.{Standing}
+use Rattle.list_follow.specs.declared.Standing.the-variants.{Good, Bad}
 use Rattle.list_follow.specs.declared.Following.{Following}
+use Rattle.list_follow.proofs.Joining.{standing-then, list-checks-append, reached-append, all-within, woven-append, woven-size}
 
--- ---- a bad step
+-- ---- a step that the test refuses
 
-names-fail : (task : Task) (c : Case) (k s : ℕ) (x : Step) → (Names (c .n) x → ⊥) → Failed (checksAt task c k s x []) (NoSuchBus k)
-names-fail Replay c k s x f = inl (f, itself (NoSuchBus k))
-names-fail Weave c k s x f = inl (f, itself (NoSuchBus k))
+pub replay-refuses : {task : Task} (q : Refusal) → task ≡ Replay → Bad q ≡ afterRefusal task q
+replay-refuses q e = ap (λ (t : Task). afterRefusal t q) (sym e)
 
-holds-fail : (task : Task) (c : Case) (k s : ℕ) (x : Step) → Names (c .n) x → Out s (x .bus) → (Holds (gridOf c) s (x .bus) (x .reason) → ⊥)
-    → Failed (checksAt task c k s x []) (ReasonFails k)
-holds-fail Replay c k s x n o f = inr (n, inr (o, inl (f, itself (ReasonFails k))))
-holds-fail Weave c k s x n o f = inr (n, inl (λ h. f (h o), itself (ReasonFails k)))
+pub weave-passes-over : {task : Task} (q : Refusal) → task ≡ Weave → numberOf q ≡ 8 → Good ≡ afterRefusal task q
+weave-passes-over q e n =
+    ap (λ (b : Bool). cond b Good (Bad q)) (sym (eq-eqb (numberOf q) 8 n)) ∙ ap (λ (t : Task). afterRefusal t q) (sym e)
 
-further-bad : {c : Case} {st : Following} {x : Step} {r : Following} {k : ℕ} (q : Refusal) → Kept st k (Bad q) r → k ≡ suc (st .read)
-    → Failed (checksAt (st .task) c k (setOf (st .set)) x []) q → Further c st x r
-further-bad {c} {st} {x} {r} {k} q h e f = record {
-  task = h .task;
-  read = h .read ∙ e;
-  outcome =
-      subst⁻¹ (TakenOr c st x r) (h .is-standing)
-      (subst (λ (j : ℕ). Failed (checksAt (st .task) c j (setOf (st .set)) x []) q) e f);
+pub other-refuses : (task : Task) (q : Refusal) → (numberOf q ≡ 8 → ⊥) → Bad q ≡ afterRefusal task q
+other-refuses Replay q n = refl
+other-refuses Weave q n = ap (λ (b : Bool). cond b Good (Bad q)) (sym (ne-eqb (numberOf q) 8 n))
+
+-- ---- step after step
+
+pub follows-none : (c : Case) (st : Following) → Follows c st [] st
+follows-none c st = record { leads = λ task count ys l s. subst⁻¹ (λ (zs : List Step). After c task count zs st) (append-nil ys) s }
+
+pub follows-next : {c : Case} {st r last : Following} {x : Step} {xs : List Step} → Follows c st (x ∷ []) r → Follows c r xs last
+    → Follows c st (x ∷ xs) last
+follows-next {c} {st} {r} {last} {x} {xs} f g = record {
+  leads = λ task count ys l s.
+      let e = append-assoc ys (x ∷ []) xs in
+      subst (λ (zs : List Step). After c task count zs last) e
+      (g .leads task count (ys ++ (x ∷ [])) (subst⁻¹ (λ (zs : List Step). length zs ≤ count) e l)
+      (f .leads task count ys (omega (arith, l, length-append ys (x ∷ xs), length-append ys (x ∷ []))) s));
 }
 
-pub further-unnamed : {c : Case} {st : Following} {x : Step} {r : Following} {k : ℕ} → Kept st k (Bad (NoSuchBus k)) r → k ≡ suc (st .read)
-    → (Names (c .n) x → ⊥) → Further c st x r
-further-unnamed {c} {st} {x} {r} {k} h e f = further-bad (NoSuchBus k) h e (names-fail (st .task) c k (setOf (st .set)) x f)
+good-or-bad : {q : Refusal} {w : Standing} → w ≡ Bad q → w ≡ Good → ⊥
+good-or-bad {q} {w} b g = let z : _≡_ {A = ℕ} 0 1 = cc in omega arith
 
-pub further-fails : {c : Case} {st : Following} {x : Step} {r : Following} {k : ℕ} → Kept st k (Bad (ReasonFails k)) r → k ≡ suc (st .read)
-    → Names (c .n) x → Out (setOf (st .set)) (x .bus) → (Holds (gridOf c) (setOf (st .set)) (x .bus) (x .reason) → ⊥) → Further c st x r
-further-fails {c} {st} {x} {r} {k} h e n o f = further-bad (ReasonFails k) h e (holds-fail (st .task) c k (setOf (st .set)) x n o f)
+-- the first bad step stays, whatever steps come after it
+pub bad-stays : {c : Case} {st : Following} {q : Refusal} (xs : List Step) → st .standing ≡ Bad q → Follows c st xs st
+bad-stays {c} {st} {q} xs e = record {
+  leads = λ task count ys l s. record {
+    is-task = s .is-task;
+    standing =
+        subst⁻¹ (StandingBy (listChecks task c count (ys ++ xs))) e
+        (subst⁻¹ (λ (qs : List Check). Failed qs q) (list-checks-append task c count ys xs)
+        (failed-sooner (listChecks task c count ys) (checksFrom task c (suc (length ys)) (reached ys) xs) q
+        (subst (StandingBy (listChecks task c count ys)) e (s .standing))));
+    carries = λ g. absurd (good-or-bad e g);
+  };
+}
 
--- ---- a step for an observed bus
+-- ---- one step, of a list with no bad step
 
-pub further-seen : {c : Case} {st : Following} {x : Step} {r : Following} {k : ℕ} → Ready c st → Kept st k (seenBy (st .task) k) r → k ≡ suc (st .read)
-    → Names (c .n) x → In (setOf (st .set)) (x .bus) → Further c st x r
-further-seen {c} {st} {x} {r} {k} ready h e n i = go (st .task) refl h
-  where
-    go : (t : Task) → st .task ≡ t → Kept st k (seenBy t k) r → Further c st x r
-    go Replay q kept =
-        further-bad (AlreadyObserved k) kept e
-        (subst⁻¹ (λ (t : Task). Failed (checksAt t c k (setOf (st .set)) x []) (AlreadyObserved k)) q
-        (inr (n, inl (λ o. omega arith, itself (AlreadyObserved k)))))
-    go Weave q kept = record {
-      task = kept .task;
-      read = kept .read ∙ e;
-      outcome =
-          subst⁻¹ (TakenOr c st x r) (kept .is-standing)
-          (record {
-            checks = subst⁻¹ (λ (t : Task). Passed (checksAt t c (suc (st .read)) (setOf (st .set)) x [])) q (n, (λ o. absurd (omega arith), tt));
-            set = ap setOf (kept .set) ∙ sym (add-again (setOf (st .set)) (x .bus) i);
-            written =
-                ap listed (kept .list) ∙ sym (append-nil (listed (st .list)))
-                ∙ ap (λ (d : ℕ). listed (st .list) ++ unlessSeen d x []) (sym i);
-            list =
-                subst⁻¹ (λ (w : ℕ). Listed (r .list) (size (setOf w))) (kept .set)
-                (subst⁻¹ (λ l. Listed l (size (setOf (st .set)))) (kept .list) (ready .list));
-          });
-    }
+-- what is known where step x comes after the steps ys
+record Here (c : Case) (st : Following) (task : Task) (count : ℕ) (ys : List Step) : Type 0 where
+  pub is-task : st .task ≡ task
+  pub passed : Passed (listChecks task c count ys)
+  pub carries : Carries ys st
+  pub more : st .read < mostSteps
 
--- ---- a step that is allowed
-
--- the list has room, since it has as many steps as buses are observed, and one of the grid's is not
-pub room-left : {c : Case} {st : Following} {x : Step} → Ready c st → Names (c .n) x → Out (setOf (st .set)) (x .bus) → st .list .n < 64
-room-left {c} {st} {x} ready n o =
-    let more = add-within in
-    omega (arith, ready .list .count, size-add (setOf (st .set)) (x .bus) o, size-most (c .n) (add (setOf (st .set)) (x .bus)) more, ready .valid .buses .most)
-  where
-    add-within : Within (c .n) (add (setOf (st .set)) (x .bus))
-    add-within = add-of {P = Bus (c .n)} (setOf (st .set)) (x .bus) (n .bus) (ready .within)
-
-allowed-passes : (task : Task) (c : Case) (k s : ℕ) (x : Step) → Names (c .n) x → Out s (x .bus) → Holds (gridOf c) s (x .bus) (x .reason) → Passed (checksAt task c k s x [])
-allowed-passes Replay c k s x n o h = (n, (o, (h, tt)))
-allowed-passes Weave c k s x n o h = (n, (λ q. h, tt))
-
-pub further-taken : {c : Case} {st : Following} {x : Step} {r : Following} {k : ℕ} → Ready c st → Grown st k x r → k ≡ suc (st .read)
-    → Names (c .n) x → Out (setOf (st .set)) (x .bus) → Holds (gridOf c) (setOf (st .set)) (x .bus) (x .reason) → Further c st x r
-further-taken {c} {st} {x} {r} {k} ready g e n o h = record {
-  task = g .task;
-  read = g .read ∙ e;
-  outcome =
-      subst⁻¹ (TakenOr c st x r) (g .is-standing)
-      (record {
-        checks = allowed-passes (st .task) c (suc (st .read)) (setOf (st .set)) x n o h;
-        set = with-add (g .set);
-        written = g .list .more (omega (arith, ready .list .room, room-left ready n o)) ∙ ap (λ (d : ℕ). listed (st .list) ++ unlessSeen d x []) (sym o);
-        list = record {
-          count = g .list .count ∙ ap suc (ready .list .count) ∙ sym (size-add (setOf (st .set)) (x .bus) o) ∙ ap size (sym (with-add (g .set)));
-          room = g .list .room ∙ ready .list .room;
-        };
+one-further : {c : Case} {st r : Following} {x : Step} → st .standing ≡ Good
+    → ((task : Task) (count : ℕ) (ys : List Step) → Here c st task count ys → After c task count (ys ++ (x ∷ [])) r)
+    → Follows c st (x ∷ []) r
+one-further {c} {st} {r} {x} e f = record {
+  leads = λ task count ys l s.
+      let p : Passed (listChecks task c count ys) = subst (StandingBy (listChecks task c count ys)) e (s .standing) in
+      f task count ys (record {
+        is-task = s .is-task;
+        passed = p;
+        carries = s .carries e;
+        more = omega (arith, l, length-append ys (x ∷ []), s .carries e .read, p .1 .0);
       });
 }
+
+-- the grid has at most 64 buses
+pub small-grid : {c : Case} {st r : Following} {x : Step} → st .standing ≡ Good → 64 < c .n → Follows c st (x ∷ []) r
+small-grid {c} {st} {r} {x} e l = one-further e (λ task count ys h. absurd (omega (arith, h .passed .0 .buses .most)))
+
+module _ (c : Case) (st : Following) (x : Step) (k : ℕ) (good : st .standing ≡ Good) (nth : st .read < mostSteps → k ≡ suc (st .read)) where
+  -- where the list is after x, from what is checked of x
+  goes : (task : Task) (count : ℕ) (ys : List Step) (r : Following) → Here c st task count ys → r .task ≡ st .task
+      → StandingBy (checksFrom task c k (setOf (st .set)) (x ∷ [])) (r .standing) → (r .standing ≡ Good → Carries (ys ++ (x ∷ [])) r)
+      → After c task count (ys ++ (x ∷ [])) r
+  goes task count ys r h e s carries =
+      let place : k ≡ suc (length ys) = nth (h .more) ∙ ap suc (h .carries .read) in
+      record {
+        is-task = e ∙ h .is-task;
+        standing =
+            subst⁻¹ (λ (qs : List Check). StandingBy qs (r .standing)) (list-checks-append task c count ys (x ∷ []))
+            (standing-then (listChecks task c count ys) (checksFrom task c (suc (length ys)) (reached ys) (x ∷ [])) (r .standing)
+            (h .passed)
+            (subst (λ (j : ℕ). StandingBy (checksFrom task c j (reached ys) (x ∷ [])) (r .standing)) place
+            (subst (λ (s : ℕ). StandingBy (checksFrom task c k s (x ∷ [])) (r .standing)) (h .carries .set) s)));
+        carries = carries;
+      }
+
+  counted : (task : Task) (count : ℕ) (ys : List Step) → Here c st task count ys → k ≡ length (ys ++ (x ∷ []))
+  counted task count ys h = nth (h .more) ∙ omega (arith, h .carries .read, length-append ys (x ∷ []))
+
+  -- ---- the step is allowed
+
+  module _ (ok : Passed (stepChecksAt c k (setOf (st .set)) x)) where
+    new : (ys : List Step) → Carries ys st → Out (reached ys) (x .bus)
+    new ys h = subst (λ (s : ℕ). Out s (x .bus)) (h .set) (ok .1 .0)
+
+    -- the list has as many steps as buses are reached, and one of the grid's is not
+    few : (task : Task) (count : ℕ) (ys : List Step) → Here c st task count ys → length (woven ys) < 64
+    few task count ys h =
+        omega (
+          arith,
+          woven-size ys,
+          size-add (reached ys) (x .bus) (new ys (h .carries)),
+          size-most (c .n) (add (reached ys) (x .bus))
+              (add-of {P = Bus (c .n)} (reached ys) (x .bus) (ok .0 .bus) (all-within task c count ys (h .passed))),
+          h .passed .0 .buses .most,
+        )
+
+    pub room-left : {r : Following} → 64 ≤ st .list .n → Follows c st (x ∷ []) r
+    room-left {r} l =
+        one-further good
+        (λ task count ys h. absurd (omega (arith, few task count ys h, ap (λ (m : StepList). m .n) (h .carries .list))))
+
+    allowed-passes : (task : Task) → Passed (checksFrom task c k (setOf (st .set)) (x ∷ []))
+    allowed-passes Replay = ok
+    allowed-passes Weave = (ok .0, (λ o. ok .1 .1 .0, tt))
+
+    pub taken : {set : ℕ} {list : StepList} → With (setOf (st .set)) (x .bus) (setOf set) → list ≡ pushed (st .list) x
+        → Follows c st (x ∷ []) (record { task = st .task; set = set; read = k; standing = Good; list = list })
+    taken {set} {list} with-x pushed-x = one-further good (λ task count ys h.
+        goes task count ys _ h refl (allowed-passes task) (λ e. record {
+          set = with-add with-x ∙ ap (λ (s : ℕ). add s (x .bus)) (h .carries .set) ∙ sym (reached-append _ ys (x ∷ []));
+          read = counted task count ys h;
+          list =
+              pushed-list (woven ys) x (h .carries .list) (few task count ys h) pushed-x
+              ∙ ap listOf (ap (λ (d : ℕ). woven ys ++ unlessSeen d x []) (sym (new ys (h .carries))) ∙ sym (woven-append _ ys (x ∷ [])));
+        }))
+
+  -- ---- the test refuses the step
+
+  module _ (q : Refusal) (refused : Failed (stepChecksAt c k (setOf (st .set)) x) q) where
+    -- where the standing after x is w: x passes the task's checks and its bus is observed, or x is refused
+    abbrev Leaves : Task → Standing → Type 0
+    Leaves task w = StandingBy (checksFrom task c k (setOf (st .set)) (x ∷ [])) w × (w ≡ Good → In (setOf (st .set)) (x .bus))
+
+    bad : (task : Task) → Failed (checksFrom task c k (setOf (st .set)) (x ∷ [])) q → Leaves task (Bad q)
+    bad task f = (f, λ g. absurd (good-or-bad refl g))
+
+    -- the number of q says which check fails
+    left-after : (task : Task) → Leaves task (afterRefusal task q)
+    left-after Replay = bad Replay refused
+    left-after Weave = go refused
+      where
+        numbered : (n : ℕ) → numberOf q ≡ n → Leaves Weave (cond (eqb n 8) Good (Bad q)) → Leaves Weave (afterRefusal Weave q)
+        numbered n e h = subst⁻¹ (λ (m : ℕ). Leaves Weave (cond (eqb m 8) Good (Bad q))) e h
+
+        go : Failed (stepChecksAt c k (setOf (st .set)) x) q → Leaves Weave (afterRefusal Weave q)
+        go (inl a) = numbered 7 (a .1 .numbered) (bad Weave (inl a))
+        go (inr (n, inl a)) =
+            let seen : In (setOf (st .set)) (x .bus) = ⊎-elim (λ i. i) (λ o. absurd (a .0 o)) (in-or (setOf (st .set)) (x .bus)) in
+            numbered 8 (a .1 .numbered) ((n, (λ o. absurd (a .0 o), tt)), λ g. seen)
+        go (inr (n, inr (o, inl a))) = numbered 9 (a .1 .numbered) (bad Weave (inr (n, inl (λ h. a .0 (h o), a .1))))
+        go (inr (n, inr (o, inr z))) = absurd (z .1)
+
+    pub kept : {w : Standing} → w ≡ afterRefusal (st .task) q
+        → Follows c st (x ∷ []) (record { task = st .task; set = st .set; read = k; standing = w; list = st .list })
+    kept {w} e = one-further good (λ task count ys h.
+        let s : Leaves task w = subst⁻¹ (Leaves task) (e ∙ ap (λ (t : Task). afterRefusal t q) (h .is-task)) (left-after task) in
+        goes task count ys _ h refl (s .0) (λ g.
+        let seen : In (reached ys) (x .bus) = subst (λ (t : ℕ). In t (x .bus)) (h .carries .set) (s .1 g) in
+        record {
+          set = h .carries .set ∙ sym (add-again (reached ys) (x .bus) seen) ∙ sym (reached-append _ ys (x ∷ []));
+          read = counted task count ys h;
+          list =
+              h .carries .list
+              ∙ ap listOf
+              (sym (append-nil (woven ys)) ∙ ap (λ (d : ℕ). woven ys ++ unlessSeen d x []) (sym seen) ∙ sym (woven-append _ ys (x ∷ [])));
+        }))

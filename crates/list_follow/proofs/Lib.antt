@@ -1,2 +1,4 @@
+pub mod Joining
 pub mod Going
-pub mod Starts
+pub mod Ends
+pub mod Refusing

@@ -1,8 +1,13 @@
-// Following a desk's list step by step: where it begins, where it stands after each step, and how it ends.
+// Following a desk's list step by step: where it begins, where it is after each step, and how it ends.
 ghost use mathlib.Core.Path.{_≡_};
+ghost use mathlib.Core.List.{[], _∷_};
 ghost use Prim.Native.Nat.{suc, _<_};
-ghost use Rattle.busset.specs.Sets.{Bus, width};
-ghost use Rattle.list_follow.specs.Following.{Starting, Kept, seenBy, Grown, Ready, Further, Applied, Begun};
+ghost use Rattle.basics.specs.Deciding.{Decides};
+ghost use Rattle.busset.specs.Sets.{setOf};
+ghost use Rattle.rules.specs.Steps.{Finished};
+ghost use Rattle.grid.specs.Cases.{gridOf};
+ghost use Rattle.list_follow.specs.Following.{beginChecks, StandingBy, After, Follows, afterRefusal};
+ghost use Rattle.list_follow.specs.Replies.{Ended, woveAt, countOf};
 use busset::BusSet;
 use grid::Case;
 use list_value::StepList;
@@ -10,6 +15,8 @@ use list_value::no_steps;
 use list_value::push;
 use refusals::Refusal;
 use step::Step;
+use testing::Tested;
+use testing::tested_at;
 
 // Replay refuses a step for an observed bus; weaving passes over it.
 pub enum Task {
@@ -17,6 +24,7 @@ pub enum Task {
     Weave,
 }
 
+// Whether no step was bad, or why the first bad one is refused.
 pub enum Standing {
     Good,
     Bad(Refusal),
@@ -31,9 +39,36 @@ pub struct Following {
     pub list: StepList,
 }
 
-fn starting(task: Task, standing: Standing) -> Following
-    ensures { λ r. ⌜ Starting task standing r ⌝ }
+// What replay answers: the set reached and whether the list is finished.
+pub enum Replayed {
+    Reached(BusSet, bool),
+    Refused(Refusal),
+}
+
+// What weaving answers: the count written and the set reached.
+pub enum Wove {
+    Written(usize, BusSet),
+    Refused(Refusal),
+}
+
+// The standing of a list of `count` steps before its first.
+fn opening(case: Case, count: usize) -> Standing
+    ensures { λ r. ⌜ StandingBy (beginChecks case count) r ⌝ }
 {
+    if !grid::validity::is_valid(case) {
+        return Standing::Bad(Refusal::InvalidCase);
+    }
+    if 1024 < count {
+        return Standing::Bad(Refusal::TooManySteps(0));
+    }
+    Standing::Good
+}
+
+// A list of `count` steps, begun.
+pub fn begin(case: Case, task: Task, count: usize) -> Following
+    ensures { λ r. ⌜ After case task count [] r ⌝ }
+{
+    let standing = opening(case, count);
     let list = no_steps();
     Following {
         task,
@@ -42,19 +77,6 @@ fn starting(task: Task, standing: Standing) -> Following
         standing,
         list,
     }
-}
-
-// A list of `count` steps is begun.
-pub fn begin(case: Case, task: Task, count: usize) -> Following
-    ensures { λ r. ⌜ Begun case task count r ⌝ }
-{
-    if !grid::validity::is_valid(case) {
-        return starting(task, Standing::Bad(Refusal::InvalidCase));
-    }
-    if 1024 < count {
-        return starting(task, Standing::Bad(Refusal::TooManySteps(0)));
-    }
-    starting(task, Standing::Good)
 }
 
 // The number of the step after those read.
@@ -67,81 +89,105 @@ fn next_number(read: usize) -> usize
     read
 }
 
-// Step k is bad, or passed over.
-fn kept(st: Following, k: usize, standing: Standing) -> Following
-    ensures { λ r. ⌜ Kept st k standing r ⌝ }
+// The standing after a step that the test refuses with q: weaving passes over an observed bus, which is 8.
+fn after_refusal(task: Task, q: Refusal) -> Standing
+    ensures { λ r. ⌜ r ≡ afterRefusal task q ⌝ }
 {
-    let list = st.list;
-    let task = st.task;
-    Following {
-        task,
-        set: st.set,
-        read: k,
-        standing,
-        list,
+    if refusals::number(q) != 8 {
+        return Standing::Bad(q);
     }
-}
-
-// Step k is for an observed bus.
-fn seen(st: Following, k: usize) -> Following
-    ensures { λ r. ⌜ Kept st k (seenBy (st .task) k) r ⌝ }
-{
-    let task = st.task;
     match task {
-        Task::Replay => kept(st, k, Standing::Bad(Refusal::AlreadyObserved(k))),
-        Task::Weave => kept(st, k, Standing::Good),
+        Task::Replay => Standing::Bad(q),
+        Task::Weave => Standing::Good,
     }
 }
 
-// Step k is allowed.
-fn taken(st: Following, k: usize, x: Step) -> Following
-    requires { ⌜ Bus width (x .bus) ⌝ }
-    ensures { λ r. ⌜ (st .list .n < 64 → Grown st k x r) ⌝ }
-{
-    let list = st.list;
-    let task = st.task;
-    if 64 <= list.n {
-        return st;
-    }
-    let more = push(list, x);
-    Following {
-        task,
-        set: busset::with(st.set, x.bus),
-        read: k,
-        standing: Standing::Good,
-        list: more,
-    }
-}
-
-// The next step of a list that stands well.
-fn go_on(case: Case, st: Following, x: Step) -> Following
-    ensures { λ r. ⌜ (Ready case st → Further case st x r) ⌝ }
+// The list after one step more, by the single-step test. The first bad step stays.
+pub fn apply(case: Case, st: Following, x: Step) -> Following
+    ensures { λ r. ⌜ Follows case st (x ∷ []) r ⌝ }
 {
     let n = case.n;
-    let b = x.bus;
-    let k = next_number(st.read);
+    let task = st.task;
+    let list = st.list;
+    let standing = st.standing;
+    let Standing::Good = standing else {
+        return st;
+    };
     if 64 < n {
         return st;
     }
-    if !testing::names(n, x) {
-        return kept(st, k, Standing::Bad(Refusal::NoSuchBus(k)));
+    let k = next_number(st.read);
+    match tested_at(case, st.set, x, k) {
+        Tested::Allowed => {
+            if 64 <= list.n {
+                return st;
+            }
+            let more = push(list, x);
+            Following {
+                task,
+                set: busset::with(st.set, x.bus),
+                read: k,
+                standing: Standing::Good,
+                list: more,
+            }
+        }
+        Tested::Refused(q) => Following {
+            task,
+            set: st.set,
+            read: k,
+            standing: after_refusal(task, q),
+            list,
+        },
     }
-    if busset::has(st.set, b) {
-        return seen(st, k);
-    }
-    if !testing::holds(case, st.set, x) {
-        return kept(st, k, Standing::Bad(Refusal::ReasonFails(k)));
-    }
-    taken(st, k, x)
 }
 
-// The next step. The first bad step stays.
-pub fn apply(case: Case, st: Following, x: Step) -> Following
-    ensures { λ r. ⌜ Applied case st x r ⌝ }
+// Whether no step is allowed where s is observed.
+pub fn is_finished(case: Case, s: BusSet) -> bool
+    ensures { λ r. ⌜ Decides (Finished (gridOf case) (setOf s)) r ⌝ }
+{
+    let nbr = case.nbr;
+    if !busset::is_subset(grid::with_neighbours(&nbr, case.units), s) {
+        return false;
+    }
+    busset::same(observe::sweeps::sweep(&nbr, case.zero, s), s)
+}
+
+// Replay's answer for the list that ends so.
+pub fn ended(case: Case, st: Following) -> Replayed
+    ensures { λ r. ⌜ Ended case st r ⌝ }
 {
     let standing = st.standing;
     match standing {
-        Standing::Good => go_on(case, st, x),
-        Standing::Bad(_) => st,
+        Standing::Good => Replayed::Reached(st.set, is_finished(case, st.set)),
+        Standing::Bad(refusal) => Replayed::Refused(refusal),
+    }
+}
+
+// Weaving's answer, where there is room for so many records.
+pub fn settled(st: Following, room: usize) -> Wove
+    ensures { λ r. ⌜ r ≡ woveAt st room (st .standing) ⌝ }
+{
+    let standing = st.standing;
+    let list = st.list;
+    let n = list.n;
+    match standing {
+        Standing::Good => {
+            if n <= room {
+                Wove::Written(n, st.set)
+            } else {
+                Wove::Refused(Refusal::NoRoom)
+            }
+        }
+        Standing::Bad(refusal) => Wove::Refused(refusal),
+    }
+}
+
+// How many records are written.
+pub fn count_of(w: Wove) -> usize
+    ensures { λ r. ⌜ r ≡ countOf w ⌝ }
+{
+    match w {
+        Wove::Written(count, _) => count,
+        Wove::Refused(_) => 0,
     }
 }

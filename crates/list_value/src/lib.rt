@@ -3,7 +3,7 @@
 ghost use mathlib.Core.Path.{_≡_};
 ghost use mathlib.Core.List.{[]};
 ghost use Prim.Native.Nat.{_<_};
-ghost use Rattle.list_value.specs.Lists.{nthOf, listOf, Listed, Pushed};
+ghost use Rattle.list_value.specs.Lists.{nthOf, listOf, pushed};
 use step::Reason;
 use step::Step;
 
@@ -12,9 +12,9 @@ pub struct StepList {
     pub steps: [Step; 64],
 }
 
+// The list with no step, and blanks alone.
 pub fn no_steps() -> StepList
-    ensures { λ r. ⌜ Listed r 0 ⌝ }
-    ensures blank { λ r. ⌜ r ≡ listOf [] ⌝ }
+    ensures { λ r. ⌜ r ≡ listOf [] ⌝ }
 {
     let blank = Step {
         bus: 0,
@@ -27,7 +27,7 @@ pub fn no_steps() -> StepList
 // The list with one step more.
 pub fn push(l: StepList, x: Step) -> StepList
     requires { ⌜ l .n < 64 ⌝ }
-    ensures { λ r. ⌜ Pushed l x r ⌝ }
+    ensures { λ r. ⌜ r ≡ pushed l x ⌝ }
 {
     let mut m = l;
     let n = m.n;

@@ -2,20 +2,19 @@
 use mathlib.Core.Path.{_≡_}
 use mathlib.Core.List.{List, [], _∷_}
 use Prim.Native.Nat.{ℕ}
-use Rattle.busset.specs.Sets.{Bus, In, Out, upTo, setOf}
+use Rattle.busset.specs.Sets.{Bus, In, upTo, setOf}
 use Rattle.step.specs.declared.Step.{Step}
 use Rattle.rules.specs.Observation.{ObservedSet}
-use Rattle.rules.specs.Steps.{Holds, Names}
 use Rattle.rules.specs.Figures.{figure}
 use Rattle.grid.specs.declared.Case.{Case}
 use Rattle.grid.specs.Cases.{gridOf, Valid}
 use Rattle.refusals.specs.Refusals.{Check, check, Passed, Failed}
+use Rattle.testing.specs.Testing.{stepChecksAt, TestedBy}
+use Rattle.testing.specs.declared.Tested.{Tested}
 use Rattle.observe_calls.specs.declared.Observed.{Observed}
 use Rattle.observe_calls.specs.declared.Observed.the-variants as observed
 use Rattle.observe_calls.specs.declared.Figured.{Figured}
 use Rattle.observe_calls.specs.declared.Figured.the-variants as figured
-use Rattle.observe_calls.specs.declared.Tested.{Tested}
-use Rattle.observe_calls.specs.declared.Tested.the-variants as tested
 
 -- the buses of the grid in a stated set: those above n are ignored
 abbrev pub stated : Case → ℕ → ℕ
@@ -45,13 +44,10 @@ FigureReply c s i j (figured.Refused r) = Failed (figureChecks c i j) r
 
 -- ---- the test of one step, which is step 1
 
--- 5; it names buses 1 to n, or 7; its bus is not yet observed, or 8; its reason holds, or 9
+-- 5, then 7, 8, 9 in the stated set
 abbrev pub stepChecks : Case → ℕ → Step → List Check
-stepChecks c s x =
-    check (Valid c) 5 0 ∷ check (Names (c .n) x) 7 1 ∷ check (Out (stated c s) (x .bus)) 8 1
-    ∷ check (Holds (gridOf c) (stated c s) (x .bus) (x .reason)) 9 1 ∷ []
+stepChecks c s x = check (Valid c) 5 0 ∷ stepChecksAt c 1 (stated c s) x
 
--- the step is allowed
+-- the step is allowed, or refused
 abbrev pub StepReply : Case → ℕ → Step → Tested → Type 0
-StepReply c s x tested.Allowed = Passed (stepChecks c s x)
-StepReply c s x (tested.Refused r) = Failed (stepChecks c s x) r
+StepReply c s x r = TestedBy (stepChecks c s x) r

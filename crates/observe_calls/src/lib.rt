@@ -4,6 +4,8 @@ use busset::BusSet;
 use grid::Case;
 use refusals::Refusal;
 use step::Step;
+use testing::Tested;
+use testing::tested_at;
 
 pub enum Observed {
     Set(BusSet),
@@ -12,11 +14,6 @@ pub enum Observed {
 
 pub enum Figured {
     Figure(i32),
-    Refused(Refusal),
-}
-
-pub enum Tested {
-    Allowed,
     Refused(Refusal),
 }
 
@@ -52,24 +49,13 @@ pub fn firing_figure(case: Case, s: BusSet, i: usize, j: usize) -> Figured
     Figured::Figure(figures::figure_of(&nbr, busset::up_to(s, n), i, j))
 }
 
-// Whether the step is allowed where the buses of s are observed.
+// Whether the step is allowed where the buses of s are observed: it is step 1, and buses above n are ignored.
 pub fn test_step(case: Case, s: BusSet, x: Step) -> Tested
     ensures { λ r. ⌜ StepReply case s x r ⌝ }
 {
     let n = case.n;
-    let b = x.bus;
     if !grid::validity::is_valid(case) {
         return Tested::Refused(Refusal::InvalidCase);
     }
-    if !testing::names(n, x) {
-        return Tested::Refused(Refusal::NoSuchBus(1));
-    }
-    let stated = busset::up_to(s, n);
-    if busset::has(stated, b) {
-        return Tested::Refused(Refusal::AlreadyObserved(1));
-    }
-    if !testing::holds(case, stated, x) {
-        return Tested::Refused(Refusal::ReasonFails(1));
-    }
-    Tested::Allowed
+    tested_at(case, busset::up_to(s, n), x, 1)
 }

@@ -1,6 +1,6 @@
 -- A refusal is known by its number and place, and the first check that fails gives one refusal.
 use mathlib.Core.Path.{_≡_, refl, sym, ap₂, _∙_}
-use mathlib.Core.List.{List, [], _∷_}
+use mathlib.Core.List.{List, [], _∷_, _++_}
 use mathlib.Core.Logic.{inl, inr}
 use Prim.Native.Nat.{ℕ, _≤_}
 use native.Mathlib.Omega.{arith}
@@ -75,6 +75,20 @@ failed-unique (x ∷ qs) r q (inr a) (inr b) = failed-unique qs r q (a .1) (b .1
 pub failed-or-passed : (qs : List Check) (r : Refusal) → Failed qs r → Passed qs → ⊥
 failed-or-passed (x ∷ qs) r (inl a) p = a .0 (p .0)
 failed-or-passed (x ∷ qs) r (inr a) p = failed-or-passed qs r (a .1) (p .1)
+
+-- ---- one list of checks after another
+
+pub passed-then : (ps qs : List Check) → Passed ps → Passed qs → Passed (ps ++ qs)
+passed-then [] qs a b = b
+passed-then (p ∷ ps) qs a b = (a .0, passed-then ps qs (a .1) b)
+
+pub failed-sooner : (ps qs : List Check) (r : Refusal) → Failed ps r → Failed (ps ++ qs) r
+failed-sooner (p ∷ ps) qs r (inl f) = inl f
+failed-sooner (p ∷ ps) qs r (inr f) = inr (f .0, failed-sooner ps qs r (f .1))
+
+pub failed-later : (ps qs : List Check) (r : Refusal) → Passed ps → Failed qs r → Failed (ps ++ qs) r
+failed-later [] qs r a f = f
+failed-later (p ∷ ps) qs r a f = inr (a .0, failed-later ps qs r (a .1) f)
 
 -- ---- places
 

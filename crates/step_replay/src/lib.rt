@@ -2,16 +2,18 @@
 ghost use mathlib.Core.Path.{_≡_};
 ghost use lib.ListN.{length};
 ghost use Rattle.step_text.specs.Steps.{stepsOf};
-ghost use Rattle.step_replay.specs.Replying.{Followed, TextReplayReply};
+ghost use Rattle.list_follow.specs.Following.{After};
+ghost use Rattle.list_follow.specs.declared.Task.the-variants.{Replay};
+ghost use Rattle.step_replay.specs.Replying.{TextReplayReply};
 use busset::BusSet;
-use ending::Replayed;
-use ending::ended;
 use grid::Case;
 use list_follow::Following;
+use list_follow::Replayed;
 use list_follow::Standing;
 use list_follow::Task;
 use list_follow::apply;
 use list_follow::begin;
+use list_follow::ended;
 use refusals::Refusal;
 use step_text::StepsRead;
 use step_text::check_steps;
@@ -28,7 +30,7 @@ pub enum TextReplayed {
 // The n steps of a text, followed one after another up to the first bad one.
 fn follow_text(case: Case, text: &[u8], n: usize) -> Following
     requires { ⌜ length (stepsOf (now text)) ≡ n ⌝ }
-    ensures { λ r. ⌜ Followed case (stepsOf (now (text .entry))) r ⌝ }
+    ensures { λ r. ⌜ After case Replay n (stepsOf (now (text .entry))) r ⌝ }
 {
     let mut st = begin(case, Task::Replay, n);
     let mut at: usize = 0;

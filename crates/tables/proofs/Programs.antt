@@ -17,6 +17,7 @@ use Rattle.case_line.specs.Fields.{markOf, one, none}
 use Rattle.case_line.specs.Record.{wordOf, lineFields, busFields, recordOf, recordText}
 use Rattle.step_line.specs.StepLine.{letterOf, stepWordOf, reasonFields, stepFields, stepLineOf, stepText}
 use Rattle.rules.proofs.Ordering.{fewest-some}
+use Rattle.refusals.specs.declared.Refusal.{Refusal}
 use Rattle.refusals.specs.declared.Refusal.the-variants.{WrongForm, OutOfRange, ReasonFails, OverBudget, NoCover}
 use Rattle.refusals.proofs.Orders.{itself}
 use Rattle.case_line.specs.CaseText.{members, linesText}
@@ -26,6 +27,9 @@ use Rattle.report_lines.specs.Printing.{refusedText}
 use Rattle.report_day.specs.Day.{Day, stepsText}
 use Rattle.report_day.proofs.Days.{day-unique}
 use Rattle.step_text.specs.Steps.{stepInRange, stepLines, readSteps, stepsIn, stepsFrom}
+use Rattle.list_follow.specs.declared.Replayed.{Replayed}
+use Rattle.list_follow.specs.declared.Replayed.the-variants as listed
+use Rattle.step_replay.specs.Replying.{textAnswer}
 use Rattle.step_replay.specs.declared.TextReplayed.the-variants as replayed
 use Rattle.observe_calls.specs.declared.Observed.the-variants as observed
 use Rattle.place_calls.specs.declared.Verdict.the-variants as unconfirmed
@@ -109,17 +113,22 @@ plans-right =
 
 -- ---- step texts
 
+-- a text whose steps are replayed is read
+not-unread : (a : Replayed) (q : Refusal) → replayed.Unread q ≡ textAnswer a → ⊥
+not-unread (listed.Reached s f) q e = let z : _≡_ {A = ℕ} 0 1 = cc in omega arith
+not-unread (listed.Refused r) q e = let z : _≡_ {A = ℕ} 0 1 = cc in omega arith
+
 pub replays-right : AllRight tables.replays
 unfolding readSteps stepLines stepInRange stepsFrom stepsIn stepLineOf stepWordOf letterOf reasonFields stepFields one none split same isBus
     isDigit takes numberFrom numberOf
 replays-right =
-    replies.replays-right .0
+    (listed.Reached _ true, replies.replays-right .0, refl)
     & refl
-    & known .at3 .valid then omega arith then stop (λ h. omega (arith, h .bus .most)) (itself _)
-    & (λ h. h)
+    & (listed.Refused _, known .at3 .valid then omega arith then stop (λ h. omega (arith, h .bus .most)) (itself _), refl)
+    & (λ h. not-unread (h .0) _ (h .2))
     & refl
     & refl
-    & stop invalid (itself _)
+    & (listed.Refused _, stop invalid (itself _), refl)
     & tt
 
 pub readings-right : AllRight tables.readings
@@ -173,9 +182,11 @@ calls-right =
     & gives tables.lent (Refused (OutOfRange 1)) refl
     & gives tables.lent (Refused (OutOfRange 1)) refl
     & gives tables.lent (Unread (OutOfRange 1)) (says (replayed.Unread (OutOfRange 1)) refl)
-    & gives tables.lent (Refused (ReasonFails 1))
-    (says (replayed.Refused (ReasonFails 1))
-    (known .at3 .valid then omega arith then named12 then refl then stop (λ h. omega (arith, h .observed)) (itself _)))
+    & gives tables.lent (Refused (ReasonFails 1)) (says (replayed.Refused (ReasonFails 1)) (
+      listed.Refused _,
+      known .at3 .valid then omega arith then named12 then refl then stop (λ h. omega (arith, h .observed)) (itself _),
+      refl,
+    ))
     & gives (5 ∷ []) (Set 79) (says (observed.Set 79) (replies.sets-right .0))
     & (λ h. omega (arith, h .replied .result, ap (λ (a : Answer). resultOf a 1) (h .is)))
     & tt

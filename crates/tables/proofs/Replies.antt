@@ -34,7 +34,7 @@ use Rattle.step_text.specs.Taking.{countOf}
 use Rattle.step_text.specs.Steps.{stepLines, readSteps}
 use Rattle.case_read.specs.Reading.{readLines, readText, readCase}
 use Rattle.case_line.specs.CaseText.{busRecords, members, lineRecords, linesText}
-use Rattle.ending.specs.Replies.{replayChecks}
+use Rattle.list_follow.specs.Replies.{replayChecks}
 use Rattle.observe_calls.specs.Replies.{observedChecks}
 use Rattle.place_calls.specs.Replies.{fewestChecks}
 use Rattle.demands.proofs.Demand2.{accepted-checks}

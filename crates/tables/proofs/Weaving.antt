@@ -21,7 +21,7 @@ use Rattle.tables.proofs.Tests.{gap}
 use Rattle.rules.proofs.Shuffles.{weaving-shuffles}
 use Rattle.grid.specs.Cases.{neighbours, gridOf}
 use Rattle.tables.proofs.Drawn.{withinTest, rowTest, validTest, valid-passes}
-use Rattle.ending.specs.declared.Wove.the-variants as wove
+use Rattle.list_follow.specs.declared.Wove.the-variants as wove
 use Rattle.demands.proofs.Demand3.{demand-3}
 use Rattle.tables.specs.Starred.{wordOf, caseOf, seven}
 use Rattle.tables.proofs.Crowded.{ones-in}

@@ -9,9 +9,9 @@ use Rattle.grid.specs.declared.Case.{Case}
 use Rattle.refusals.specs.declared.Refusal.the-variants.{WrongForm, InvalidCase, NoRoom, NoSuchBus, AlreadyObserved, ReasonFails}
 use Rattle.refusals.specs.declared.Refusal.the-variants.{OverBudget, NoCover, TooManySteps, NotJoined}
 use Rattle.list_value.specs.Lists.{listOf}
-use Rattle.ending.specs.Replies.{ReplayReply, WeaveReply}
-use Rattle.ending.specs.declared.Replayed.the-variants as replayed
-use Rattle.ending.specs.declared.Wove.the-variants as wove
+use Rattle.list_follow.specs.Replies.{ReplayReply, WeaveReply}
+use Rattle.list_follow.specs.declared.Replayed.the-variants as replayed
+use Rattle.list_follow.specs.declared.Wove.the-variants as wove
 use Rattle.case_read.specs.Reading.{refused}
 use Rattle.step_text.specs.declared.StepsRead.the-variants as steps
 use Rattle.refusals.specs.declared.Written.the-variants as written
@@ -21,7 +21,7 @@ use Rattle.place_calls.specs.Replies.{VerdictReply, GreedyReply, FewestReply}
 use Rattle.text_calls.specs.Replies.{CaseReadReply, CaseWrittenReply, StepsCheckedReply}
 use Rattle.observe_calls.specs.declared.Observed.the-variants as observed
 use Rattle.observe_calls.specs.declared.Figured.the-variants as figured
-use Rattle.observe_calls.specs.declared.Tested.the-variants as tested
+use Rattle.testing.specs.declared.Tested.the-variants as tested
 use Rattle.list_derive.specs.declared.DerivationAnswer.the-variants as derived
 use Rattle.place_calls.specs.declared.Verdict.the-variants as verdict
 use Rattle.place_calls.specs.declared.Greedy.the-variants as greedy

@@ -9,8 +9,8 @@ use Rattle.step.specs.declared.Reason.the-variants.{ZeroInjection}
 use Rattle.step.specs.declared.Step.{Step}
 use Rattle.grid.specs.declared.Case.{Case}
 use Rattle.refusals.specs.declared.Refusal.the-variants.{ReasonFails, NoCover}
-use Rattle.ending.specs.Replies.{ReplayReply}
-use Rattle.ending.specs.declared.Replayed.the-variants as replayed
+use Rattle.list_follow.specs.Replies.{ReplayReply}
+use Rattle.list_follow.specs.declared.Replayed.the-variants as replayed
 use Rattle.observe_calls.specs.declared.Observed.the-variants as observed
 use Rattle.observe_calls.specs.declared.Figured.the-variants as figured
 use Rattle.place_calls.specs.declared.Verdict.the-variants as verdict

@@ -6,8 +6,8 @@ use Rattle.basics.specs.Lists.{Each, Some}
 use Rattle.rules.specs.Weaving.{woven, wovenFrom, WeavableFrom, Weavable, Taken, Shuffle}
 use Rattle.rules.proofs.Shuffles.{Woven}
 use Rattle.refusals.specs.declared.Refusal.the-variants.{NoRoom}
-use Rattle.ending.specs.declared.Wove.{Wove}
-use Rattle.ending.specs.declared.Wove.the-variants as wove
+use Rattle.list_follow.specs.declared.Wove.{Wove}
+use Rattle.list_follow.specs.declared.Wove.the-variants as wove
 use Rattle.demands.specs.Demand3.{Weaves}
 use Rattle.tables.specs.Starred.{wordOf, caseOf, seven}
 use Rattle.tables.specs.Tables.{Right, Row, holds, fails}

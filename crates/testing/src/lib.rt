@@ -1,12 +1,21 @@
-// The test of one step: the buses that it names, and whether its reason holds.
+// The test of one step: the buses that it names, whether its bus is observed, and whether its reason holds.
+ghost use Prim.Native.Nat.{_≤_};
 ghost use Rattle.basics.specs.Deciding.{Decides};
 ghost use Rattle.busset.specs.Sets.{Bus, width, setOf};
 ghost use Rattle.rules.specs.Steps.{ByUnit, ByZero, Holds, Names};
 ghost use Rattle.grid.specs.Cases.{neighbours, gridOf};
+ghost use Rattle.testing.specs.Testing.{stepChecksAt, TestedBy};
 use busset::BusSet;
 use grid::Case;
+use refusals::Refusal;
 use step::Reason;
 use step::Step;
+
+// What the test answers.
+pub enum Tested {
+    Allowed,
+    Refused(Refusal),
+}
 
 // Whether the step, in its bus and its reason, names buses 1 to n.
 pub fn names(n: usize, x: Step) -> bool
@@ -66,4 +75,23 @@ pub fn holds(case: Case, s: BusSet, x: Step) -> bool
         Reason::NeighbourOf(p) => by_unit(&nbr, case.units, b, p),
         Reason::ZeroInjection(w) => by_zero(&nbr, case.zero, s, b, w),
     }
+}
+
+// Whether the step, which is step k, is allowed where s is observed.
+pub fn tested_at(case: Case, s: BusSet, x: Step, k: usize) -> Tested
+    requires { ⌜ case .n ≤ width ⌝ }
+    ensures { λ r. ⌜ TestedBy (stepChecksAt case k (setOf s) x) r ⌝ }
+{
+    let n = case.n;
+    let b = x.bus;
+    if !names(n, x) {
+        return Tested::Refused(Refusal::NoSuchBus(k));
+    }
+    if busset::has(s, b) {
+        return Tested::Refused(Refusal::AlreadyObserved(k));
+    }
+    if !holds(case, s, x) {
+        return Tested::Refused(Refusal::ReasonFails(k));
+    }
+    Tested::Allowed
 }

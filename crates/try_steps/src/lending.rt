@@ -2,10 +2,10 @@
 ghost use Prim.Native.Nat.{_≤_};
 ghost use lib.ListN.{take, drop};
 ghost use mathlib.Core.Path.{_≡_};
-ghost use Rattle.ending.specs.Replies.{ReplayReply, WeaveReply};
-use ending::Replayed;
-use ending::Wove;
+ghost use Rattle.list_follow.specs.Replies.{ReplayReply, WeaveReply};
 use grid::Case;
+use list_follow::Replayed;
+use list_follow::Wove;
 use step::Step;
 
 // What weaving answers, and the records after it.

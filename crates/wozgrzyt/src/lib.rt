@@ -10,19 +10,19 @@ pub use step::Step;
 // one case: the observed set, a firing figure, the test of one step
 pub use observe_calls::Figured;
 pub use observe_calls::Observed;
-pub use observe_calls::Tested;
 pub use observe_calls::firing_figure;
 pub use observe_calls::observed_set;
 pub use observe_calls::test_step;
+pub use testing::Tested;
 
 // lists: the derivation, replay and weaving
-pub use ending::Replayed;
-pub use ending::Wove;
 pub use list_calls::replay;
 pub use list_calls::weave;
 pub use list_derive::DerivationAnswer;
 pub use list_derive::Derived;
 pub use list_derive::derivation;
+pub use list_follow::Replayed;
+pub use list_follow::Wove;
 pub use list_value::StepList;
 
 // the siting group: cross-validation, greedy placement and the fewest units

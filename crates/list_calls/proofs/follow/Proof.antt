@@ -40,7 +40,7 @@ use denote.Triple.Spec.{Meets, tripleOf}
 use denote.Triple.Table.{entered, cited}
 use denote.Triple.Walked.{says, Stays, stay-none, stay-dropped, walkOf, goes-none, goes-dropped, ends-at}
 use denote.Exit.{yes}
-use Rattle.list_follow.specs.Following.{Applied, Follows, none, next}
+use Rattle.list_follow.specs.Following.{Follows}
 use Rattle.step.specs.Records.{noStep}
 use Rattle.step.specs.declared.Step.{Step}
 use Rattle.list_follow.specs.declared.Following.{Following}
@@ -50,6 +50,7 @@ use Rattle.step.proofs.Step.Laws as T′
 use Rattle.grid.specs.declared.Case.{Case}
 use Rattle.grid.proofs.Case as D
 use Rattle.grid.proofs.Case.Laws as D′
+use Rattle.list_follow.proofs.Going.{follows-none, follows-next}
 use Rattle.list_follow.proofs.Following as S
 use Rattle.list_follow.proofs.Following.Laws as S′
 use Rattle.list_follow.proofs.apply as apply
@@ -148,14 +149,14 @@ module _ {M : Type 1} (𝓤 : URA M) (H : Heap 𝓤) (A : Atoms 𝓤) (W : Given
     Turned t = afterTurn 𝓤 H (Below 𝓤 H A (Nearer n at-i) At t) (afterBlock 𝓤 H (afterSeq 𝓤 H (Wp 𝓤 H C Λ E mir.t-4 (atReturn 𝓤 H E Post)) (atReturn 𝓤 H E Post)))
 
     -- the turn after one that went on, by what `apply` returned
-    abbrev onward : (t : Turn cs st ys) → t .i < n → (r : Following) (v : Val) → Is S.the-row r (v ∷ []) → Applied cs (t .sv) (getD ys (t .i) noStep) r → Turn cs st ys
+    abbrev onward : (t : Turn cs st ys) → t .i < n → (r : Following) (v : Val) → Is S.the-row r (v ∷ []) → Follows cs (t .sv) (getD ys (t .i) noStep ∷ []) r → Turn cs st ys
     onward t l r v is e = record {
       i = t .i + 1;
       sv = r;
       u = v;
       le = next-le n (t .i) l;
       is = is;
-      same = λ z h. t .same z (subst (λ zs. Follows cs (t .sv) zs z) (sym (drop-next ys (t .i) l)) (next e h));
+      same = λ z h. t .same z (subst (λ zs. Follows cs (t .sv) zs z) (sym (drop-next ys (t .i) l)) (follows-next e h));
     }
 
     abbrev el : Turn cs st ys → Step
@@ -174,7 +175,7 @@ module _ {M : Type 1} (𝓤 : URA M) (H : Heap 𝓤) (A : Atoms 𝓤) (W : Given
         assigns ! (of-opd ! (load ! (from ! (hop ! (look ! 10 refl) (stop !))) (look-raw ! 0 refl))) (from ! (stop !)) (init ! 8 refl (step-typed 𝓤 H A W (el t) _ g)) $
         elem-back ! T.the-row q′ ys (t .i) noStep (LL.vals T.the-type T′.the-laws (el t)) b o l $
         calls-plain ! (fmOf 𝓤 H (W .laws) 𝓣) apply.ended (apply.clauses 𝓤 H A mem run) known (tt, tt, tt, (cs, (t .sv, (el t, tt))), (cmach ∷ [], (t .u ∷ [], (LL.vals T.the-type T′.the-laws (el t), tt)))) tt (id⊢ 𝓤 _) (id⊢ 𝓤 _)
-        (case-made 𝓤 H A, (following-made 𝓤 H A, (step-made 𝓤 H A, tt))) (gcs, (t .is, (g, tt))) (Applied cs (t .sv) (el t)) (λ r ws. id⊢ 𝓤 _)
+        (case-made 𝓤 H A, (following-made 𝓤 H A, (step-made 𝓤 H A, tt))) (gcs, (t .is, (g, tt))) (Follows cs (t .sv) (el t ∷ [])) (λ r ws. id⊢ 𝓤 _)
         (and-then ! (load ! (from ! (stop !)) (look ! 23 refl)) (and-then ! (load ! (from ! (stop !)) (look ! 17 refl)) (and-then ! (load ! (from ! (stop !)) (look ! 7 refl)) (no-more !)))) (λ v r is e₁.
         land ! (from ! (stop !)) (store ! 16 refl (following-typed 𝓤 H A W r _ is)) $
         assigns-last ! (bin ! (load ! (from ! (stop !)) (look ! 14 refl)) (lit ! tt) (record { fits = next-fits n (t .i) (gn .0) l })) (from ! (stop !)) (store ! 14 refl (tt, record { fits = next-fits n (t .i) (gn .0) l })) $
@@ -190,7 +191,7 @@ module _ {M : Type 1} (𝓤 : URA M) (H : Heap 𝓤) (A : Atoms 𝓤) (W : Given
         shuts-slice ! tt T.the-row q′ ys b o $
         returns ! (look ! 23 refl) $ move ! (23 ∷ 24 ∷ 21 ∷ 22 ∷ 19 ∷ 20 ∷ 17 ∷ 18 ∷ 15 ∷ 16 ∷ 13 ∷ 14 ∷ 11 ∷ 12 ∷ 9 ∷ 10 ∷ 7 ∷ 8 ∷ 5 ∷ 6 ∷ []) $
         let-go ! $ let-go ! $ let-go ! $ let-go ! $ let-go ! $ let-go ! $ let-go ! $ let-go ! $ free1 ! $ free1 ! $ free0 ! $
-        keep ! (0 ∷ []) $ by ! (exits (t .sv) (t .u) (t .is) (t .same (t .sv) (subst (λ zs. Follows cs (t .sv) zs (t .sv)) (sym (drop-of-length-le ys (above (t .i) n e))) none)))
+        keep ! (0 ∷ []) $ by ! (exits (t .sv) (t .u) (t .is) (t .same (t .sv) (subst (λ zs. Follows cs (t .sv) zs (t .sv)) (sym (drop-of-length-le ys (above (t .i) n e))) (follows-none cs (t .sv)))))
 
     abbrev start : Turn cs st ys
     start = record { i = 0; sv = st; u = mach; le = omega arith; is = gst; same = λ z h. h }

@@ -50,26 +50,24 @@ use Rattle.step.proofs.Sizes.{bytes, offset-fits}
 use Rattle.step.proofs.Step as T
 use Rattle.step.proofs.Step.Laws as T′
 use Rattle.list_value.specs.Lists.{nthOf}
-use Rattle.ending.specs.Replies.{SettledAt, countOf, Put}
-use Rattle.list_follow.specs.declared.Standing.{Standing}
-use Rattle.list_follow.specs.declared.Standing.the-variants.{Good, Bad}
+use Rattle.list_follow.specs.Replies.{woveAt, countOf, Put}
 use Rattle.list_follow.specs.declared.Following.{Following}
-use Rattle.ending.specs.declared.Wove.{Wove}
-use Rattle.ending.specs.declared.Wove.the-variants.{Written, Refused}
+use Rattle.list_follow.specs.declared.Wove.{Wove}
+use Rattle.list_follow.proofs.Ends.{count-fits}
 use Rattle.list_follow.proofs.Following as S
 use Rattle.list_follow.proofs.Following.Laws as S′
-use Rattle.ending.proofs.Wove as O
-use Rattle.ending.proofs.Wove.Laws as O′
+use Rattle.list_follow.proofs.Wove as O
+use Rattle.list_follow.proofs.Wove.Laws as O′
 use Rattle.list_value.proofs.StepList as L
 use Rattle.list_value.proofs.StepList.Laws as L′
-use Rattle.ending.proofs.settled as settled
-use Rattle.ending.proofs.settled.Symbol as settled-def
-use Rattle.ending.proofs.settled.Symbol.{name as #ending·settled}
-use Rattle.ending.proofs.settled.Met as settled-thm
-use Rattle.ending.proofs.count_of as count-of
-use Rattle.ending.proofs.count_of.Symbol as count-of-def
-use Rattle.ending.proofs.count_of.Symbol.{name as #ending·count-of}
-use Rattle.ending.proofs.count_of.Met as count-of-thm
+use Rattle.list_follow.proofs.settled as settled
+use Rattle.list_follow.proofs.settled.Symbol as settled-def
+use Rattle.list_follow.proofs.settled.Symbol.{name as #list_follow·settled}
+use Rattle.list_follow.proofs.settled.Met as settled-thm
+use Rattle.list_follow.proofs.count_of as count-of
+use Rattle.list_follow.proofs.count_of.Symbol as count-of-def
+use Rattle.list_follow.proofs.count_of.Symbol.{name as #list_follow·count-of}
+use Rattle.list_follow.proofs.count_of.Met as count-of-thm
 use Rattle.list_value.proofs.nth as nth
 use Rattle.list_value.proofs.nth.Symbol as nth-def
 use Rattle.list_value.proofs.nth.Symbol.{name as #list_value·nth}
@@ -84,12 +82,6 @@ use Rattle.list_calls.proofs.put as f
 use Rattle.list_calls.proofs.put.Statement as stated
 use Rattle.list_calls.proofs.put.Code as code
 use Rattle.list_calls.proofs.put.Code.Mir as mir
-
--- no more is written than there is room for
-count-fits : (st : Following) (room : ℕ) (w : Wove) (z : Standing) → SettledAt st room w z → countOf w ≤ room
-count-fits st room (Written count s) Good e = e .0
-count-fits st room (Written count s) (Bad q) e = absurd e
-count-fits st room (Refused r) z e = omega arith
 
 abbrev stayed : Stays (f.ended .signature .params) (f.ended .kept)
 stayed = (stay-none (λ _. S.the-row) yes, (stay-slice (0 ∷ []) tt (plain (λ _. T.the-row)), tt))
@@ -159,7 +151,7 @@ module _ {M : Type 1} (𝓤 : URA M) (H : Heap 𝓤) (A : Atoms 𝓤) (W : Given
   sp τ = spell mir.table τ
 
   -- the loop, once it is settled that m records are written
-  module _ (𝓣 : Tables 𝓤 H) (known : Triple 𝓤 (𝓣 .C #list_value·nth) (Nth 𝓤 H A mem run)) (w : Wove) (u : Val) (gw : Is O.the-row w (u ∷ [])) (told : SettledAt st n w (st .standing)) (m : ℕ) (gm : m < 2 ^ 64) (counted : m ≡ countOf w) (l₀ l₁ l₂ l₃ l₄ l₅ l₆ l₇ l₈ l₉ l₁₀ l₁₁ : ℕ) where
+  module _ (𝓣 : Tables 𝓤 H) (known : Triple 𝓤 (𝓣 .C #list_value·nth) (Nth 𝓤 H A mem run)) (w : Wove) (u : Val) (gw : Is O.the-row w (u ∷ [])) (told : w ≡ woveAt st n (st .standing)) (m : ℕ) (gm : m < 2 ^ 64) (counted : m ≡ countOf w) (l₀ l₁ l₂ l₃ l₄ l₅ l₆ l₇ l₈ l₉ l₁₀ l₁₁ : ℕ) where
     abbrev at-i : Turn m → ℕ
     at-i t = t .i
 
@@ -212,7 +204,7 @@ module _ {M : Type 1} (𝓤 : URA M) (H : Heap 𝓤) (A : Atoms 𝓤) (W : Given
         l = below (t .i) m e
 
         ln : t .i < n
-        ln = inside (t .i) m n l (subst (λ (k : ℕ). k ≤ n) (sym counted) (count-fits st n w (st .standing) told))
+        ln = inside (t .i) m n l (subst (λ (k : ℕ). k ≤ n) (sym (counted ∙ ap countOf told)) (count-fits st n (st .standing)))
 
         lw : t .i < length (sofar t)
         lw = subst (λ (k : ℕ). t .i < k) (sym (put-long (t .i) (nthOf (st .list)) ys)) ln
@@ -231,7 +223,7 @@ module _ {M : Type 1} (𝓤 : URA M) (H : Heap 𝓤) (A : Atoms 𝓤) (W : Given
     looped : ent 𝓤 (⋆ 𝓤 H A (At start)) (Wp 𝓤 H C Λ E mir.t-6 (atReturn 𝓤 H E Post))
     looped = qed W (At start) ∵ exec ! C Λ E mir.t-6 (atRet E Post) $ first ! $ blocks ! $ loops ! 𝓣 (Nearer m at-i) (nearer-wf m at-i) At (λ t. turn t (ltb (t .i) m) refl) start
 
-  module _ (𝓣 : Tables 𝓤 H) (settles : Triple 𝓤 (𝓣 .C #ending·settled) (Settled 𝓤 H A mem run)) (counts : Triple 𝓤 (𝓣 .C #ending·count-of) (CountOf 𝓤 H A mem run)) (finds : Triple 𝓤 (𝓣 .C #list_value·nth) (Nth 𝓤 H A mem run)) where
+  module _ (𝓣 : Tables 𝓤 H) (settles : Triple 𝓤 (𝓣 .C #list_follow·settled) (Settled 𝓤 H A mem run)) (counts : Triple 𝓤 (𝓣 .C #list_follow·count-of) (CountOf 𝓤 H A mem run)) (finds : Triple 𝓤 (𝓣 .C #list_value·nth) (Nth 𝓤 H A mem run)) where
     walk : ent 𝓤 (onEntry 𝓤 H A f.signature (κ, tt) (q, tt) a at) (WpFn 𝓤 H (𝓣 .C) (𝓣 .Λ) code.function (mach ∷ sliceVal (b, o) n ∷ []) Post)
     walk =
         qed W ((‵ (flft κ q) ⊛ ‵ ftrue) ∷ ‵ (owns (S.the-row ∷ MutSlice (named 0) κ T.the-row ∷ []) a at) ∷ []) ∵ enter ! (𝓣 .C) (𝓣 .Λ) code.function (mach ∷ sliceVal (b, o) n ∷ []) _ $
@@ -239,7 +231,7 @@ module _ {M : Type 1} (𝓤 : URA M) (H : Heap 𝓤) (A : Atoms 𝓤) (W : Given
         pass1 ! (init ! 20 refl (following-typed 𝓤 H A W st _ gst)) $ pass1 ! (init ! 18 refl (tt, (tt, (record { fits = gn .0 }, tt)))) $ pass0 ! $
         assigns ! (of-opd ! (load ! (from ! (fld ! refl (stop !))) (look-in ! 18 (sub ! 1 refl (whole !))))) (from ! (stop !)) (init ! 8 refl (tt, record { fits = gn .0 })) $
         calls-plain ! (fmOf 𝓤 H (W .laws) 𝓣) settled.ended (settled.clauses 𝓤 H A mem run) settles (tt, tt, tt, (st, (n, tt)), (mach ∷ [], (vint w64 n ∷ [], tt))) tt (id⊢ 𝓤 _) (id⊢ 𝓤 _)
-        (following-made 𝓤 H A, (uint-makes 𝓤 H A W w64, tt)) (gst, ((refl, gn .0), tt)) (λ w. SettledAt st n w (st .standing)) (λ r ws. id⊢ 𝓤 _)
+        (following-made 𝓤 H A, (uint-makes 𝓤 H A W w64, tt)) (gst, ((refl, gn .0), tt)) (λ w. w ≡ woveAt st n (st .standing)) (λ r ws. id⊢ 𝓤 _)
         (and-then ! (load ! (from ! (stop !)) (look ! 21 refl)) (and-then ! (load ! (from ! (stop !)) (look ! 9 refl)) (no-more !))) (λ u w gw told.
         land ! (from ! (stop !)) (init ! 16 refl (wove-typed 𝓤 H A W w _ gw)) $
         calls-plain ! (fmOf 𝓤 H (W .laws) 𝓣) count-of.ended (count-of.clauses 𝓤 H A mem run) counts (tt, tt, tt, (w, tt), (u ∷ [], tt)) tt (id⊢ 𝓤 _) (id⊢ 𝓤 _)
@@ -254,7 +246,7 @@ module _ {M : Type 1} (𝓤 : URA M) (H : Heap 𝓤) (A : Atoms 𝓤) (W : Given
         opens-slice ! tt T.the-row ys b o $
         keep ! (0 ∷ 1 ∷ 2 ∷ 3 ∷ 4 ∷ 5 ∷ 6 ∷ 7 ∷ 8 ∷ 9 ∷ 10 ∷ 11 ∷ 12 ∷ 13 ∷ 14 ∷ 15 ∷ 16 ∷ 17 ∷ 18 ∷ 19 ∷ 20 ∷ 21 ∷ 22 ∷ 23 ∷ 24 ∷ 25 ∷ 26 ∷ 27 ∷ 28 ∷ 29 ∷ []) $ by ! (looped 𝓣 finds w u gw told m (gm .1) counted l₀ l₁ l₂ l₃ l₄ l₅ l₆ l₇ l₈ l₉ l₁₀ l₁₁)))))))))))))))
 
-module _ {M : Type 1} (𝓤 : URA M) (H : Heap 𝓤) (A : Atoms 𝓤) (W : Given 𝓤 H A) (mem : Memory → SProp 𝓤) (run : Routine → Fun 𝓤) (𝓣 : Tables 𝓤 H) (settles : Triple 𝓤 (𝓣 .C #ending·settled) (Settled 𝓤 H A mem run)) (counts : Triple 𝓤 (𝓣 .C #ending·count-of) (CountOf 𝓤 H A mem run)) (finds : Triple 𝓤 (𝓣 .C #list_value·nth) (Nth 𝓤 H A mem run)) where
+module _ {M : Type 1} (𝓤 : URA M) (H : Heap 𝓤) (A : Atoms 𝓤) (W : Given 𝓤 H A) (mem : Memory → SProp 𝓤) (run : Routine → Fun 𝓤) (𝓣 : Tables 𝓤 H) (settles : Triple 𝓤 (𝓣 .C #list_follow·settled) (Settled 𝓤 H A mem run)) (counts : Triple 𝓤 (𝓣 .C #list_follow·count-of) (CountOf 𝓤 H A mem run)) (finds : Triple 𝓤 (𝓣 .C #list_value·nth) (Nth 𝓤 H A mem run)) where
   meets : Meets 𝓤 H A f.signature (WpFn 𝓤 H (𝓣 .C) (𝓣 .Λ) code.function) (f.spec 𝓤 H A mem run)
   meets =
       walk-proves 𝓤 H A W f.ended stayed (f.clauses 𝓤 H A mem run) 𝓣 code.function (goes-none 𝓤 H A W 1 (λ _. S.the-row) yes (λ κs x f. refl), (goes-slice 𝓤 H A W 1 0 tt (plain (λ _. T.the-row)), tt))
@@ -267,6 +259,6 @@ put-spec 𝓤 H 𝓜 𝓖 𝓡 =
     entered 𝓤 H (tripleOf 𝓤 H (𝓖 .A) f.signature (f.spec 𝓤 H (𝓖 .A) (𝓜 .mem) (𝓡 .run)))
     (tables 𝓤 H 𝓜 𝓡 code.env .C) (tables 𝓤 H 𝓜 𝓡 code.env .Λ) #list_calls·put code.function (code.unfolded 𝓤 H 𝓜 𝓡)
     (meets 𝓤 H (𝓖 .A) (givenOf 𝓤 H 𝓜 𝓖) (𝓜 .mem) (𝓡 .run) (tablesOf 𝓤 H 𝓜 (tables 𝓤 H 𝓜 𝓡 code.env))
-    (cited 𝓤 H (Settled 𝓤 H (𝓖 .A) (𝓜 .mem) (𝓡 .run)) 𝓜 𝓡 code.env #ending·settled settled-def.routine code.calls-ending·settled (settled-thm.met 𝓤 H 𝓜 𝓖 𝓡))
-    (cited 𝓤 H (CountOf 𝓤 H (𝓖 .A) (𝓜 .mem) (𝓡 .run)) 𝓜 𝓡 code.env #ending·count-of count-of-def.routine code.calls-ending·count-of (count-of-thm.met 𝓤 H 𝓜 𝓖 𝓡))
+    (cited 𝓤 H (Settled 𝓤 H (𝓖 .A) (𝓜 .mem) (𝓡 .run)) 𝓜 𝓡 code.env #list_follow·settled settled-def.routine code.calls-list-follow·settled (settled-thm.met 𝓤 H 𝓜 𝓖 𝓡))
+    (cited 𝓤 H (CountOf 𝓤 H (𝓖 .A) (𝓜 .mem) (𝓡 .run)) 𝓜 𝓡 code.env #list_follow·count-of count-of-def.routine code.calls-list-follow·count-of (count-of-thm.met 𝓤 H 𝓜 𝓖 𝓡))
     (cited 𝓤 H (Nth 𝓤 H (𝓖 .A) (𝓜 .mem) (𝓡 .run)) 𝓜 𝓡 code.env #list_value·nth nth-def.routine code.calls-list-value·nth (nth-thm.met 𝓤 H 𝓜 𝓖 𝓡)))

@@ -18,7 +18,7 @@ no-steps-requires : tie.Need-no-steps-requires
 no-steps-requires c κs = search needs
 
 returns : tie.Need-returns
-returns c = (inl (refutes (c .before .before .is-valid .ensures) (not-true _ (c .before .if1 .taken)), itself _), c .no-steps .ensures .1)
+returns c = (inl (refutes (c .before .before .is-valid .ensures) (not-true _ (c .before .if1 .taken)), itself _), c .no-steps .ensures)
 
 derive-requires : tie.Need-derive-requires
 derive-requires c κs = valid c

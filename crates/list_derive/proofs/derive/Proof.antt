@@ -47,7 +47,7 @@ no-steps-requires : tie.Need-no-steps-requires Inv-loop μ-loop
 no-steps-requires c κs = search needs
 
 loop-holds : tie.Need-loop-holds Inv-loop μ-loop
-loop-holds c = extends-none _ (c .before .none .ensures) (c .no-steps .ensures .1)
+loop-holds c = extends-none _ (c .before .none .ensures) (c .no-steps .ensures)
 
 next-step-requires : tie.Need-next-step-requires Inv-loop μ-loop
 next-step-requires c κs = search needs

@@ -1,3 +1,4 @@
+-- The invariant: the list is where the steps before the index lead. The rest of the text gets shorter.
 use borrow.Author.Needs.{needs}
 use Prim.Native.Nat.{_-_}
 use native.Mathlib.Omega.{arith}
@@ -7,7 +8,7 @@ use Rattle.step_replay.proofs.follow_text.Statement.{statement}
 use Rattle.step_replay.proofs.follow_text.Tie as tie
 
 abbrev Inv-loop : tie.InvT-loop
-Inv-loop case text n st₀ at₀ st at = Onward case text st₀ st at
+Inv-loop case text n st₀ at₀ st at = Onward case text n st at
 
 abbrev μ-loop : tie.MeasureT-loop
 μ-loop case text n st₀ at₀ st at = length text - at
@@ -16,7 +17,7 @@ begin-requires : tie.Need-begin-requires Inv-loop μ-loop
 begin-requires c κs = search needs
 
 loop-holds : tie.Need-loop-holds Inv-loop μ-loop
-loop-holds c = onward-none _ _ _
+loop-holds c = onward-none _ (c .begin .ensures)
 
 enum-told : tie.Need-enum-told Inv-loop μ-loop
 enum-told c = search needs
@@ -27,7 +28,7 @@ enum-told-2 c = search needs
 returns : tie.Need-returns Inv-loop μ-loop
 returns c =
     let at-loop = c .before .before in
-    onward-bad (at-loop .before .before .before .pre) (at-loop .before .begin .ensures) (at-loop .loop .inv) (c .enum-told2 .given .1)
+    onward-bad (at-loop .before .before .before .pre) (at-loop .loop .inv) (c .enum-told2 .given .1)
 
 step-at-requires : tie.Need-step-at-requires Inv-loop μ-loop
 step-at-requires c κs = search needs
@@ -49,7 +50,9 @@ loop-again : tie.Need-loop-again Inv-loop μ-loop
 loop-again c =
     let at-x = c .before .before in
     let at-step-at = at-x .before .before in
-    onward-more (at-step-at .before .before .before .loop .inv) (at-step-at .step-at .ensures) (at-x .x .given .1) (c .apply .ensures)
+    let at-loop = at-step-at .before .before .before in
+    onward-more (at-loop .before .before .before .pre) (at-loop .loop .inv) (at-step-at .step-at .ensures) (at-x .x .given .1)
+    (c .apply .ensures)
 
 enum-told-3 : tie.Need-enum-told-3 Inv-loop μ-loop
 enum-told-3 c = search needs
@@ -58,7 +61,7 @@ returns-2 : tie.Need-returns-2 Inv-loop μ-loop
 returns-2 c =
     let at-step-at = c .before .before in
     let at-loop = at-step-at .before .before .before in
-    onward-all (at-loop .before .before .before .pre) (at-loop .before .begin .ensures) (at-loop .loop .inv) (at-step-at .step-at .ensures) (c .enum-told3 .given .1)
+    onward-all (at-loop .before .before .before .pre) (at-loop .loop .inv) (at-step-at .step-at .ensures) (c .enum-told3 .given .1)
 
 pub follow-text-spec : {M : Type 1} → statement M
 follow-text-spec =

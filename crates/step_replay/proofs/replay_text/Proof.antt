@@ -1,9 +1,27 @@
+-- A text that reads is followed to its end, and replay's answer is the text's; else its refusal is given.
 use borrow.Author.Needs.{needs}
-use mathlib.Core.Path.{sym, _∙_}
+use mathlib.Core.Path.{_≡_, sym, _∙_}
+use lib.ListN.{length}
+use Rattle.step_text.specs.Steps.{stepsOf}
 use Rattle.step_text.proofs.Found.{steps-count}
+use Rattle.list_follow.specs.declared.Replayed.{Replayed}
+use Rattle.step_replay.specs.Replying.{textAnswer, TextReplayReply}
 use Rattle.step_replay.proofs.Onward.{replied, unread}
 use Rattle.step_replay.proofs.replay_text.Statement.{statement}
 use Rattle.step_replay.proofs.replay_text.Tie as tie
+
+-- reading the text counts its steps
+counted : (c : tie.After-n) → length (stepsOf (c .before .before .before .before .args .text .now)) ≡ c .n .given .0 .0
+counted c = steps-count _ _ (sym (c .before .before .check-steps .ensures) ∙ c .n .given .1)
+
+-- replay's answer is the text's
+answered : (c : tie.After-ended) {w : Replayed} → c .ended .result ≡ w
+    → let asked = c .before .before .before .before .before .before .before .args in
+    TextReplayReply (asked .case) (asked .text .now) (textAnswer w)
+answered c e =
+    let at-n = c .before .before .before in
+    replied _ _ (at-n .before .before .check-steps .ensures) (counted at-n) (at-n .n .given .1) (c .before .follow-text .ensures)
+    (c .ended .ensures) e
 
 check-steps-requires : tie.Need-check-steps-requires
 check-steps-requires c κs = search needs
@@ -12,10 +30,7 @@ enum-known-n : tie.Need-enum-known-n
 enum-known-n c = search needs
 
 follow-text-requires : tie.Need-follow-text-requires
-follow-text-requires c κs =
-    let at-n = c .before in
-    let at-check-steps = at-n .before .before in
-    steps-count _ _ (sym (at-check-steps .check-steps .ensures) ∙ at-n .n .given .1)
+follow-text-requires c κs = counted (c .before)
 
 ended-requires : tie.Need-ended-requires
 ended-requires c κs = search needs
@@ -30,22 +45,10 @@ enum-known-q-2 : tie.Need-enum-known-q-2
 enum-known-q-2 c = search needs
 
 returns : tie.Need-returns
-returns c =
-    let at-it = c .before in
-    let at-ended = at-it .before .before in
-    let at-follow = at-ended .before in
-    let at-n = at-follow .before .before in
-    let at-check-steps = at-n .before .before in
-    replied _ _ (at-check-steps .check-steps .ensures) (at-n .n .given .1) (at-follow .follow-text .ensures) (at-ended .ended .ensures) (at-it .s .given .1)
+returns c = let at-s = c .before in answered (at-s .before .before) (at-s .s .given .1)
 
 returns-2 : tie.Need-returns-2
-returns-2 c =
-    let at-it = c .before in
-    let at-ended = at-it .before .before in
-    let at-follow = at-ended .before in
-    let at-n = at-follow .before .before in
-    let at-check-steps = at-n .before .before in
-    replied _ _ (at-check-steps .check-steps .ensures) (at-n .n .given .1) (at-follow .follow-text .ensures) (at-ended .ended .ensures) (at-it .q .given .1)
+returns-2 c = let at-q = c .before in answered (at-q .before .before) (at-q .q .given .1)
 
 returns-3 : tie.Need-returns-3
 returns-3 c =

@@ -1,3 +1,4 @@
+-- The unit, then the line: each test that says no refutes its part of `ByUnit`.
 use borrow.Author.Tests.{not-true, not-false}
 use Rattle.basics.proofs.Tests.{refutes, decides-no}
 use Rattle.testing.proofs.Holding.{unit-test}

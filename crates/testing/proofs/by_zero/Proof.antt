@@ -1,3 +1,4 @@
+-- The four parts of `ByZero` in their order: the last holds if all neighbours of w are in s with b.
 use borrow.Author.Tests.{not-true, not-false}
 use Rattle.basics.proofs.Tests.{refutes, decides-no}
 use Rattle.testing.proofs.Holding.{zero-test, not-joined}
@@ -37,8 +38,21 @@ returns-4 c =
     let joined = c .before .before in
     let observed = joined .before .before .before in
     let class = observed .before .before in
-    zero-test (class .before .has .ensures .yes (not-false _ (class .if1 .left))) (observed .before .has2 .ensures .yes (not-false _ (observed .if2 .left)))
-    (joined .before .before .row .ensures) (joined .before .has3 .ensures .yes (not-false _ (joined .if3 .left))) (c .before .with .ensures) (c .is-subset .ensures)
+    zero-test (class .before .has .ensures .yes (not-false _ (class .if1 .left)))
+    (observed .before .has2 .ensures .yes (not-false _ (observed .if2 .left))) (joined .before .before .row .ensures)
+    (joined .before .has3 .ensures .yes (not-false _ (joined .if3 .left))) (c .before .with .ensures) (c .is-subset .ensures)
 
 pub by-zero-spec : {M : Type 1} → statement M
-by-zero-spec = tie.close (tie.spec has-requires returns has-requires-2 returns-2 row-requires has-requires-3 returns-3 with-requires is-subset-requires returns-4)
+by-zero-spec =
+    tie.close
+    (tie.spec
+    has-requires
+    returns
+    has-requires-2
+    returns-2
+    row-requires
+    has-requires-3
+    returns-3
+    with-requires
+    is-subset-requires
+    returns-4)

@@ -1,3 +1,4 @@
+-- Reason by reason: each has its own test.
 use Rattle.step.specs.declared.Reason.the-variants.{OwnUnit, NeighbourOf, ZeroInjection}
 use Rattle.testing.proofs.Holding.{reason-names, holds-by}
 use borrow.Author.Needs.{needs}
@@ -36,4 +37,15 @@ returns-3 : tie.Need-returns-3
 returns-3 c = holds-by _ _ _ (ZeroInjection _) (c .before .before .before .reason2 .given .1) (c .by-zero .ensures)
 
 pub holds-spec : {M : Type 1} → statement M
-holds-spec = tie.close (tie.spec enum-told has-requires enum-known-reason by-unit-requires enum-known-reason-2 by-zero-requires returns returns-2 returns-3)
+holds-spec =
+    tie.close
+    (tie.spec
+    enum-told
+    has-requires
+    enum-known-reason
+    by-unit-requires
+    enum-known-reason-2
+    by-zero-requires
+    returns
+    returns-2
+    returns-3)

@@ -1,3 +1,4 @@
+-- The step's bus, then the bus that its reason names, if it names one.
 use borrow.Author.Tests.{not-true, not-false}
 use Rattle.basics.proofs.Tests.{refutes, decides-yes, decides-no}
 use Rattle.step.specs.declared.Reason.the-variants.{OwnUnit, NeighbourOf, ZeroInjection}
@@ -35,12 +36,26 @@ returns-2 c =
 returns-3 : tie.Need-returns-3
 returns-3 c =
     let bus = c .before .before .before .before in
-    names-by (NeighbourOf _) (c .before .before .reason .given .1) (bus .before .is-bus .ensures .yes (not-false _ (bus .if1 .left))) (c .is-bus2 .ensures)
+    names-by (NeighbourOf _) (c .before .before .reason .given .1) (bus .before .is-bus .ensures .yes (not-false _ (bus .if1 .left)))
+    (c .is-bus2 .ensures)
 
 returns-4 : tie.Need-returns-4
 returns-4 c =
     let bus = c .before .before .before .before in
-    names-by (ZeroInjection _) (c .before .before .reason2 .given .1) (bus .before .is-bus .ensures .yes (not-false _ (bus .if1 .left))) (c .is-bus3 .ensures)
+    names-by (ZeroInjection _) (c .before .before .reason2 .given .1) (bus .before .is-bus .ensures .yes (not-false _ (bus .if1 .left)))
+    (c .is-bus3 .ensures)
 
 pub names-spec : {M : Type 1} → statement M
-names-spec = tie.close (tie.spec is-bus-requires returns enum-told enum-known-reason is-bus-requires-2 enum-known-reason-2 is-bus-requires-3 returns-2 returns-3 returns-4)
+names-spec =
+    tie.close
+    (tie.spec
+    is-bus-requires
+    returns
+    enum-told
+    enum-known-reason
+    is-bus-requires-2
+    enum-known-reason-2
+    is-bus-requires-3
+    returns-2
+    returns-3
+    returns-4)

@@ -49,9 +49,9 @@ use Rattle.step.proofs.Step.Laws as T′
 use Rattle.grid.specs.declared.Case.{Case}
 use Rattle.grid.proofs.Case as D
 use Rattle.grid.proofs.Case.Laws as D′
-use Rattle.ending.specs.Replies.{ReplayReply}
-use Rattle.ending.specs.declared.Replayed.{Replayed}
-use Rattle.ending.proofs.Replayed as R
+use Rattle.list_follow.specs.Replies.{ReplayReply}
+use Rattle.list_follow.specs.declared.Replayed.{Replayed}
+use Rattle.list_follow.proofs.Replayed as R
 use Rattle.list_calls.proofs.Rows.{case-made, case-typed, replayed-made, replayed-typed}
 use Rattle.step.proofs.StepRow.{step-made}
 use Rattle.step.proofs.Calling.{calls-lent}

@@ -51,9 +51,9 @@ use Rattle.step.proofs.Step.Laws as T′
 use Rattle.grid.specs.declared.Case.{Case}
 use Rattle.grid.proofs.Case as D
 use Rattle.grid.proofs.Case.Laws as D′
-use Rattle.ending.specs.Replies.{WeaveReply}
-use Rattle.ending.specs.declared.Wove.{Wove}
-use Rattle.ending.proofs.Wove as O
+use Rattle.list_follow.specs.Replies.{WeaveReply}
+use Rattle.list_follow.specs.declared.Wove.{Wove}
+use Rattle.list_follow.proofs.Wove as O
 use Rattle.list_calls.proofs.Rows.{case-made, case-typed, wove-typed}
 use Rattle.step.proofs.StepRow.{step-made}
 use Rattle.step.proofs.Calling.{calls-lent}

@@ -11,13 +11,13 @@ use Rattle.refusals.specs.declared.Refusal.{Refusal}
 use Rattle.refusals.specs.Refusals.{placeOf}
 use Rattle.refusals.proofs.Orders.{PlacesBy, failed-place}
 use Rattle.grid.specs.Cases.{mostSteps}
 use Rattle.list_follow.specs.Following.{checksFrom}
-use Rattle.ending.specs.Replies.{ReplayReply}
+use Rattle.list_follow.specs.Replies.{ReplayReply}
 use Rattle.list_follow.specs.declared.Task.the-variants.{Replay}
-use Rattle.ending.specs.declared.Replayed.the-variants as replayed
+use Rattle.list_follow.specs.declared.Replayed.the-variants as replayed
 
 -- the checks of the steps from step k on
-steps-placed : (m : ℕ) (c : Case) (xs : List Step) (k s : ℕ) → k + length xs ≤ suc m → PlacesBy m (checksFrom Replay c k s xs [])
+steps-placed : (m : ℕ) (c : Case) (xs : List Step) (k s : ℕ) → k + length xs ≤ suc m → PlacesBy m (checksFrom Replay c k s xs)
 steps-placed m c [] k s h = tt
 steps-placed m c (x ∷ xs) k s h =
     let here : k ≤ m = omega arith in
@@ -27,4 +27,4 @@ pub replay-place : (c : Case) (xs : List Step) (q : Refusal) → ReplayReply c x
 replay-place c xs q (inl a) = omega (arith, a .1 .placed)
 replay-place c xs q (inr (v, inl a)) = omega (arith, a .1 .placed)
 replay-place c xs q (inr (v, inr (few, f))) =
-    failed-place mostSteps (checksFrom Replay c 1 empty xs []) q (steps-placed mostSteps c xs 1 empty (omega arith)) f
+    failed-place mostSteps (checksFrom Replay c 1 empty xs) q (steps-placed mostSteps c xs 1 empty (omega arith)) f

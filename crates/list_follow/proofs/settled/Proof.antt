@@ -1,7 +1,8 @@
-use Rattle.ending.proofs.Ends.{settled-good, settled-full, settled-bad}
+-- By the standing, and for a good one by the room.
+use Rattle.list_follow.proofs.Ends.{settled-fits, settled-full, settled-bad}
 use borrow.Author.Needs.{needs}
-use Rattle.ending.proofs.settled.Statement.{statement}
-use Rattle.ending.proofs.settled.Tie as tie
+use Rattle.list_follow.proofs.settled.Statement.{statement}
+use Rattle.list_follow.proofs.settled.Tie as tie
 
 enum-told : tie.Need-enum-told
 enum-told c = search needs
@@ -10,7 +11,7 @@ enum-known-standing : tie.Need-enum-known-standing
 enum-known-standing c = search needs
 
 returns : tie.Need-returns
-returns c = settled-good _ _ (c .before .enum-told .given .1) (c .if1 .taken)
+returns c = settled-fits _ _ (c .before .enum-told .given .1) (c .if1 .taken)
 
 returns-2 : tie.Need-returns-2
 returns-2 c = settled-full _ _ (c .before .enum-told .given .1) (c .if1 .left)

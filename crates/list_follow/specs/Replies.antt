@@ -1,0 +1,73 @@
+-- What replay and weaving promise.
+use mathlib.Core.Path.{_≡_}
+use mathlib.Core.List.{List, [], _∷_, _++_}
+use mathlib.Core.Bool.{cond}
+use Prim.Native.Nat.{ℕ, _≤_}
+use lib.Dec.{leb}
+use lib.ListN.{length}
+use Rattle.basics.specs.Deciding.{Decides}
+use Rattle.busset.specs.Sets.{setOf}
+use Rattle.step.specs.Records.{written, putFirst}
+use Rattle.step.specs.declared.Step.{Step}
+use Rattle.rules.specs.Steps.{reached, Finished}
+use Rattle.rules.specs.Weaving.{woven}
+use Rattle.grid.specs.declared.Case.{Case}
+use Rattle.grid.specs.Cases.{gridOf}
+use Rattle.refusals.specs.declared.Refusal.the-variants.{NoRoom}
+use Rattle.refusals.specs.Refusals.{Check, check, Passed, Failed}
+use Rattle.list_value.specs.Lists.{nthOf}
+use Rattle.list_follow.specs.Following.{listChecks, After}
+use Rattle.list_follow.specs.declared.Task.the-variants.{Replay, Weave}
+use Rattle.list_follow.specs.declared.Standing.{Standing}
+use Rattle.list_follow.specs.declared.Standing.the-variants.{Good, Bad}
+use Rattle.list_follow.specs.declared.Following.{Following}
+use Rattle.list_follow.specs.declared.Replayed.{Replayed}
+use Rattle.list_follow.specs.declared.Replayed.the-variants as replayed
+use Rattle.list_follow.specs.declared.Wove.{Wove}
+use Rattle.list_follow.specs.declared.Wove.the-variants as wove
+
+-- ---- replay
+
+-- 5, 12, then 7, 8, 9 at the first bad step
+abbrev pub replayChecks : Case → List Step → List Check
+replayChecks c xs = listChecks Replay c (length xs) xs
+
+-- the set reached and whether the list is finished, or the first bad step
+abbrev pub ReplayReply : Case → List Step → Replayed → Type 0
+ReplayReply c xs (replayed.Reached s finished) =
+    Passed (replayChecks c xs) × (setOf s ≡ reached xs) × Decides (Finished (gridOf c) (reached xs)) finished
+ReplayReply c xs (replayed.Refused r) = Failed (replayChecks c xs) r
+
+-- ---- weaving, into records that hold `before` and then `after`
+
+-- 5, 12, then 7, 9 at the first bad step, then 6
+abbrev pub weaveChecks : Case → List Step → ℕ → List Check
+weaveChecks c xs room = listChecks Weave c (length xs) xs ++ (check (length (woven xs) ≤ room) 6 0 ∷ [])
+
+-- the count written and the set that what is written reaches; a refusal leaves every record as it was
+abbrev pub WeaveReply : Case → List Step → List Step → List Step → Wove → Type 0
+WeaveReply c xs before after (wove.Written count s) =
+    Passed (weaveChecks c xs (length before)) × (count ≡ length (woven xs)) × (setOf s ≡ reached (woven xs))
+    × (after ≡ written (woven xs) before)
+WeaveReply c xs before after (wove.Refused r) = Failed (weaveChecks c xs (length before)) r × (after ≡ before)
+
+-- ---- on the way
+
+-- r answers replay for any list that ends at st
+abbrev pub Ended : Case → Following → Replayed → Type 0
+Ended c st r = (xs : List Step) → After c Replay (length xs) xs st → ReplayReply c xs r
+
+-- weaving's answer where a list ended so and there are `room` records: its steps are written where they fit
+abbrev pub woveAt : Following → ℕ → Standing → Wove
+woveAt st room Good = cond (leb (st .list .n) room) (wove.Written (st .list .n) (st .set)) (wove.Refused NoRoom)
+woveAt st room (Bad q) = wove.Refused q
+
+-- how many records are written
+abbrev pub countOf : Wove → ℕ
+countOf (wove.Written count s) = count
+countOf (wove.Refused r) = 0
+
+-- what is put into the records: as many steps as the answer says
+pub record Put (st : Following) (before after : List Step) (r : Wove) : Type 0 where
+  pub settled : r ≡ woveAt st (length before) (st .standing)
+  pub records : after ≡ putFirst (countOf r) (nthOf (st .list)) before
