@@ -21,8 +21,8 @@ use Rattle.observe_calls.specs.declared.Observed.{Observed}
 use Rattle.observe_calls.specs.declared.Observed.the-variants as observed
 use Rattle.observe_calls.specs.declared.Figured.{Figured}
 use Rattle.observe_calls.specs.declared.Figured.the-variants as figured
-use Rattle.testing.specs.declared.Tested.{Tested}
-use Rattle.testing.specs.declared.Tested.the-variants as tested
+use Rattle.observe.specs.declared.test.Tested.{Tested}
+use Rattle.observe.specs.declared.test.Tested.the-variants as tested
 use Rattle.list_derive.specs.declared.DerivationAnswer.{DerivationAnswer}
 use Rattle.list_derive.specs.declared.DerivationAnswer.the-variants as derived
 use Rattle.list_derive.specs.declared.Derived.{Derived}

@@ -4,10 +4,10 @@ ghost use Rattle.grid.specs.Cases.{gridOf, Valid};
 ghost use Rattle.list_derive.specs.Searching.{NextAnswer};
 use busset::BusSet;
 use grid::Case;
+use observe::test::by_unit;
+use observe::test::by_zero;
 use step::Reason;
 use step::Step;
-use testing::by_unit;
-use testing::by_zero;
 
 pub enum Next {
     Take(Step),

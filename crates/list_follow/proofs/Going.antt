@@ -19,7 +19,7 @@ use Rattle.grid.specs.Cases.{mostSteps}
 use Rattle.refusals.specs.declared.Refusal.{Refusal}
 use Rattle.refusals.specs.Refusals.{numberOf, Check, Passed, Failed}
 use Rattle.refusals.proofs.Orders.{failed-sooner}
-use Rattle.testing.specs.Testing.{stepChecksAt}
+use Rattle.observe.specs.Testing.{stepChecksAt}
 use Rattle.list_value.specs.Lists.{listOf, pushed}
 use Rattle.list_value.specs.declared.StepList.{StepList}
 use Rattle.list_value.proofs.Listing.{pushed-list}

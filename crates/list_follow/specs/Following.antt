@@ -13,7 +13,7 @@ use Rattle.grid.specs.declared.Case.{Case}
 use Rattle.grid.specs.Cases.{mostSteps, gridOf, Valid}
 use Rattle.refusals.specs.declared.Refusal.{Refusal}
 use Rattle.refusals.specs.Refusals.{numberOf, Check, check, Passed, Failed}
-use Rattle.testing.specs.Testing.{stepChecksAt}
+use Rattle.observe.specs.Testing.{stepChecksAt}
 use Rattle.list_value.specs.Lists.{listOf}
 use Rattle.list_follow.specs.declared.Task.{Task}
 use Rattle.list_follow.specs.declared.Task.the-variants.{Replay, Weave}

@@ -13,10 +13,10 @@ use grid::Case;
 use list_value::StepList;
 use list_value::no_steps;
 use list_value::push;
+use observe::test::Tested;
+use observe::test::tested_at;
 use refusals::Refusal;
 use step::Step;
-use testing::Tested;
-use testing::tested_at;
 
 // Replay refuses a step for an observed bus; weaving passes over it.
 pub enum Task {
@@ -149,7 +149,7 @@ pub fn is_finished(case: Case, s: BusSet) -> bool
     if !busset::is_subset(grid::with_neighbours(&nbr, case.units), s) {
         return false;
     }
-    busset::same(observe::sweeps::sweep(&nbr, case.zero, s), s)
+    busset::same(observe::set::sweep(&nbr, case.zero, s), s)
 }
 
 // Replay's answer for the list that ends so.

@@ -9,8 +9,8 @@ use Rattle.rules.specs.Figures.{figure}
 use Rattle.grid.specs.declared.Case.{Case}
 use Rattle.grid.specs.Cases.{gridOf, Valid}
 use Rattle.refusals.specs.Refusals.{Check, check, Passed, Failed}
-use Rattle.testing.specs.Testing.{stepChecksAt, TestedBy}
-use Rattle.testing.specs.declared.Tested.{Tested}
+use Rattle.observe.specs.Testing.{stepChecksAt, TestedBy}
+use Rattle.observe.specs.declared.test.Tested.{Tested}
 use Rattle.observe_calls.specs.declared.Observed.{Observed}
 use Rattle.observe_calls.specs.declared.Observed.the-variants as observed
 use Rattle.observe_calls.specs.declared.Figured.{Figured}

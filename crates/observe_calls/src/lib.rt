@@ -2,10 +2,10 @@
 ghost use Rattle.observe_calls.specs.Replies.{ObservedReply, FigureReply, StepReply};
 use busset::BusSet;
 use grid::Case;
+use observe::test::Tested;
+use observe::test::tested_at;
 use refusals::Refusal;
 use step::Step;
-use testing::Tested;
-use testing::tested_at;
 
 pub enum Observed {
     Set(BusSet),
@@ -25,7 +25,7 @@ pub fn observed_set(case: Case) -> Observed
         return Observed::Refused(Refusal::InvalidCase);
     }
     let nbr = case.nbr;
-    Observed::Set(observe::sweeps::observed(&nbr, case.zero, case.units))
+    Observed::Set(observe::set::observed(&nbr, case.zero, case.units))
 }
 
 // The firing figure of bus i towards its neighbour j, where the buses of s are observed.
@@ -46,7 +46,7 @@ pub fn firing_figure(case: Case, s: BusSet, i: usize, j: usize) -> Figured
     if !busset::has(grid::row(&nbr, i), j) {
         return Figured::Refused(Refusal::NotJoined);
     }
-    Figured::Figure(figures::figure_of(&nbr, busset::up_to(s, n), i, j))
+    Figured::Figure(observe::figure::figure_of(&nbr, busset::up_to(s, n), i, j))
 }
 
 // Whether the step is allowed where the buses of s are observed: it is step 1, and buses above n are ignored.

@@ -16,7 +16,7 @@ pub fn tried(n: usize, nbr: &[BusSet; 64], zero: BusSet, c: BusSet, x: usize) ->
     if busset::is_subset(here, c) {
         return c;
     }
-    let d = observe::sweeps::spread(nbr, zero, busset::union(c, here));
+    let d = observe::set::spread(nbr, zero, busset::union(c, here));
     if grid::is_full(n, d) {
         return c;
     }

@@ -61,7 +61,7 @@ pub fn fewest(
     requires { ⌜ (n ≤ width) × Proper (gridWith n (now nbr) zero site units) × (budget ≤ 8) ⌝ }
     ensures { λ r. ⌜ FewestIs (gridWith n (now (nbr .entry)) zero site units) budget r ⌝ }
 {
-    let s = observe::sweeps::observed(nbr, zero, units);
+    let s = observe::set::observed(nbr, zero, units);
     let free = busset::minus(site, units);
     for k in 0..budget + 1 {
         let r = search(n, nbr, zero, s, free, k);

@@ -40,7 +40,7 @@ pub fn greedy(nbr: &[BusSet; 64], zero: BusSet, site: BusSet, units: BusSet, bud
     ensures { λ r. ⌜ ((n : ℕ) → Listed (gridWith n (now (nbr .entry)) zero site units) budget (r .count) (r .sites)) ⌝ }
 {
     let mut placed = units;
-    let mut s = observe::sweeps::observed(nbr, zero, units);
+    let mut s = observe::set::observed(nbr, zero, units);
     let mut sites: [usize; 64] = [0; 64];
     let mut count: usize = 0;
     while count < budget {

@@ -10,12 +10,12 @@ pub fn lit(nbr: &[BusSet; 64], zero: BusSet, s: BusSet, x: usize) -> BusSet
     ensures { λ r. ⌜ Lit (neighbours (now (nbr .entry))) (setOf zero) (setOf s) x (setOf r) ⌝ }
 {
     let here = busset::with(grid::row(nbr, x), x);
-    observe::sweeps::spread(nbr, zero, busset::union(s, here))
+    observe::set::spread(nbr, zero, busset::union(s, here))
 }
 
 // What is observed where s is and units stand at the buses u.
 pub fn lit_all(nbr: &[BusSet; 64], zero: BusSet, s: BusSet, u: BusSet) -> BusSet
     ensures { λ r. ⌜ LitAll (neighbours (now (nbr .entry))) (setOf zero) (setOf s) (setOf u) (setOf r) ⌝ }
 {
-    observe::sweeps::spread(nbr, zero, busset::union(s, grid::with_neighbours(nbr, u)))
+    observe::set::spread(nbr, zero, busset::union(s, grid::with_neighbours(nbr, u)))
 }

@@ -21,7 +21,7 @@ use Rattle.place_calls.specs.Replies.{VerdictReply, GreedyReply, FewestReply}
 use Rattle.text_calls.specs.Replies.{CaseReadReply, CaseWrittenReply, StepsCheckedReply}
 use Rattle.observe_calls.specs.declared.Observed.the-variants as observed
 use Rattle.observe_calls.specs.declared.Figured.the-variants as figured
-use Rattle.testing.specs.declared.Tested.the-variants as tested
+use Rattle.observe.specs.declared.test.Tested.the-variants as tested
 use Rattle.list_derive.specs.declared.DerivationAnswer.the-variants as derived
 use Rattle.place_calls.specs.declared.Verdict.the-variants as verdict
 use Rattle.place_calls.specs.declared.Greedy.the-variants as greedy

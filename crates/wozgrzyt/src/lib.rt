@@ -8,12 +8,12 @@ pub use step::Reason;
 pub use step::Step;
 
 // one case: the observed set, a firing figure, the test of one step
+pub use observe::test::Tested;
 pub use observe_calls::Figured;
 pub use observe_calls::Observed;
 pub use observe_calls::firing_figure;
 pub use observe_calls::observed_set;
 pub use observe_calls::test_step;
-pub use testing::Tested;
 
 // lists: the derivation, replay and weaving
 pub use list_calls::replay;

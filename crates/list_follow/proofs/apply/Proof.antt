@@ -4,7 +4,7 @@ use mathlib.Core.List.{List}
 use Rattle.busset.specs.Sets.{setOf}
 use Rattle.rules.proofs.Reasons.{names-more}
 use Rattle.refusals.specs.Refusals.{Check, Passed, Failed}
-use Rattle.testing.specs.Testing.{stepChecksAt, TestedBy}
+use Rattle.observe.specs.Testing.{stepChecksAt, TestedBy}
 use Rattle.list_follow.specs.declared.Standing.the-variants.{Good}
 use Rattle.list_follow.proofs.Going.{bad-stays, small-grid, room-left, taken, kept}
 use borrow.Author.Needs.{needs}

@@ -7,8 +7,8 @@ use borrow.Author.Tests.{not-true, not-false}
 use Rattle.basics.proofs.Tests.{refutes}
 use Rattle.grid.specs.Cases.{Valid}
 use Rattle.refusals.proofs.Orders.{itself}
-use Rattle.testing.specs.Testing.{stepChecksAt, TestedBy}
-use Rattle.testing.proofs.Holding.{tested-after}
+use Rattle.observe.specs.Testing.{stepChecksAt, TestedBy}
+use Rattle.observe.proofs.Holding.{tested-after}
 use borrow.Author.Needs.{needs}
 use Rattle.observe_calls.proofs.test_step.Statement.{statement}
 use Rattle.observe_calls.proofs.test_step.Tie as tie
