@@ -14,8 +14,8 @@ use Rattle.step_text.specs.declared.StepsRead.{StepsRead}
 use Rattle.step_text.specs.declared.taking.Taken.{Taken}
 use Rattle.step_text.proofs.StepsRead as steps-read
 use Rattle.step_text.proofs.StepsRead.Laws as steps-read′
-use Rattle.step_text.proofs.Taken as taken
-use Rattle.step_text.proofs.Taken.Laws as taken′
+use Rattle.step_text.proofs.taking.Taken as taken
+use Rattle.step_text.proofs.taking.Taken.Laws as taken′
 
 module _ {M : Type 1} (𝓤 : URA M) (H : Heap 𝓤) (A : Atoms 𝓤) where
   pub steps-read-made : Makes 𝓤 H A steps-read.the-row (Is steps-read.the-row)

@@ -61,8 +61,8 @@ use Rattle.step_text.specs.declared.taking.Taken.{Taken}
 use Rattle.step_text.proofs.TakingLaws.{count-fits, placed, takes-next, read-law}
 use Rattle.step_text.proofs.StepsRead as O
 use Rattle.step_text.proofs.StepsRead.Laws as O′
-use Rattle.step_text.proofs.Taken as K
-use Rattle.step_text.proofs.Taken.Laws as K′
+use Rattle.step_text.proofs.taking.Taken as K
+use Rattle.step_text.proofs.taking.Taken.Laws as K′
 use Rattle.step_text.proofs.taking.check_room as check-room
 use Rattle.step_text.proofs.taking.check_room.Symbol as check-room-def
 use Rattle.step_text.proofs.taking.check_room.Symbol.{name as #taking·check-room}
