@@ -16,6 +16,8 @@ import re
 import sys
 
 ENDS = ("demands", "starred", "tables")
+# the programs that try and time the calls, and what they share
+TRIED = r"(?:try_|time_|asked$|drawn$|shown$)"
 DOCUMENTS = ["README.md", "docs/*.md"]
 MODIFIERS = ("pub", "abbrev", "unfoldable")
 WORD = r"[^\s(){}.,;\"⌜⌝]+"
@@ -184,33 +186,40 @@ def dead():
         yield "%s: nothing uses %s" % (file, table[file, name].name)
 
 
+def variants(text, enum):
+    """The variants of an enum of the code, if the text declares it."""
+    body = re.search(r"^(?:pub )?enum %s \{\n(.*?)^\}" % enum, text, re.M | re.S)
+    return re.findall(r"^    (\w+)", body[1], re.M) if body else []
+
+
 def two_meanings():
+    """Each public name of specs and each type of the code means one thing; two that differ by capitals are one name.
+
+    No public declaration of proofs, no constructor of specs and no refusal of the code has such a name.
+    Constructors may repeat one another, and so may variants: their type is always at hand.
+    """
     files, _ = read()
-    places = collections.defaultdict(list)
+    names, others = collections.defaultdict(list), []
     for file, declarations in files.items():
-        if file.parts[2] == "specs":
-            for d in declarations:
-                for name in [d.name] + d.constructors if d.public else []:
-                    places[name].append(str(file))
-    for name in sorted(places):
-        if len(places[name]) > 1:
-            yield "%s is declared in %s" % (name, " and in ".join(places[name]))
-    alike = collections.defaultdict(list)
-    for name in places:
-        alike[name.lower()].append(name)
-    for names in alike.values():
-        if len(names) > 1:
-            pair = ("%s (%s)" % (name, ", ".join(places[name])) for name in sorted(names))
-            yield " and ".join(pair) + " differ by a capital"
-    types = collections.defaultdict(list)
+        for d in declarations:
+            if d.public and file.parts[2] == "specs":
+                names[d.name.lower()].append((d.name, file))
+                others += [(name, file) for name in d.constructors]
+            elif d.public and file.name != "Proof.antt":
+                others.append((d.name, file))
     for file in sorted(pathlib.Path("crates").glob("*/src/**/*.rt")):
-        for name in re.findall(r"^(?:pub )?(?:struct|enum|type) (\w+)", file.read_text(), re.M):
-            types[name].append(str(file))
-    for name in sorted(types):
-        if name in places:
-            yield "%s is a type in %s and is declared in %s" % (name, ", ".join(types[name]), ", ".join(places[name]))
-        elif len(types[name]) > 1:
-            yield "%s is a type in %s" % (name, " and in ".join(types[name]))
+        text = file.read_text()
+        if not re.match(TRIED, file.parts[1]):
+            for name in re.findall(r"^(?:pub )?(?:struct|enum|type) (\w+)", text, re.M):
+                names[name.lower()].append((name, file))
+        others += [(name, file) for name in variants(text, "Refusal")]
+    for _, alike in sorted(names.items()):
+        if len(alike) > 1:
+            yield " and ".join("%s (%s)" % place for place in alike) + " are one name with two meanings"
+    for name, file in sorted(others):
+        for one, home in names[name.lower()]:
+            if one == name:
+                yield "%s (%s) and %s (%s) are one name with two meanings" % (one, home, name, file)
 
 
 def main():

@@ -11,15 +11,15 @@ use Rattle.basics.proofs.Tests.{below-or, same-or}
 use Rattle.grid.specs.Cases.{neighbours}
 use Rattle.case_line.specs.declared.Record.{Record}
 use Rattle.case_line.specs.declared.Record.the-variants.{Grid, Bus, Line, Pmu, End, Wrong}
-use Rattle.case_judge.specs.Judging.{verdict}
-use Rattle.case_read.specs.Reading.{caseOf, Reader, next, start}
-use Rattle.case_inverse.specs.Grammar.{Reads}
-use Rattle.case_inverse.specs.Grammar.Reads.{ends, goes}
+use Rattle.case_judge.specs.Judging.{judged}
+use Rattle.case_read.specs.Reading.{caseSoFar, Reader, nextReader, start}
+use Rattle.case_inverse.specs.Grammar.{ReadsAs}
+use Rattle.case_inverse.specs.Grammar.ReadsAs.{ends, goes}
 use Rattle.case_line.specs.CaseText.{has, members, lineRecords}
 use Rattle.grid.specs.declared.Case.{Case}
-use Rattle.case_judge.specs.declared.Verdict.the-variants.{Next}
+use Rattle.case_judge.specs.declared.Judgement.the-variants.{Next}
 use Rattle.case_judge.proofs.Judged.{fit-of}
-use Rattle.case_inverse.proofs.Places.{Pair, Ask, Proper, place, placeOf, answer, joined, unchanged}
+use Rattle.case_inverse.proofs.Places.{Pair, Ask, AskInRange, place, recordPlace, answer, joined, unchanged}
 use Rattle.case_inverse.proofs.Places.Ask.{lineAt}
 use Rattle.case_inverse.proofs.Unique.{Stand, Stepped, stepped, Settled, settled}
 use Rattle.case_inverse.proofs.Texts.{begun, first-stand}
@@ -30,7 +30,7 @@ abbrev Rising : Case → ℕ → List Record → Type 0
 Rising c p [] = Unit {0}
 Rising c p (Grid n ∷ L) = ⊥
 Rising c p (Bus k z o ∷ L) = ⊥
-Rising c p (Line a b ∷ L) = Pair a b × (p < placeOf (Line a b)) × (joined (c .nbr) a b ≡ 1) × Rising c (placeOf (Line a b)) L
+Rising c p (Line a b ∷ L) = Pair a b × (p < recordPlace (Line a b)) × (joined (c .nbr) a b ≡ 1) × Rising c (recordPlace (Line a b)) L
 Rising c p (Pmu k ∷ L) = ⊥
 Rising c p (End ∷ L) = ⊥
 Rising c p (Wrong ∷ L) = ⊥
@@ -64,34 +64,36 @@ lines-from c (suc m) a h k p q =
     (lines-from c m (a + 1) (omega arith) (omega arith)) p (omega arith)
 
 -- nothing is answered between where the reader stands and its next record
-quiet : {s : Reader} {p : ℕ} {c : Case} (r : Record) (q : Ask) → Stand s p → Stepped s p r → Settled c (next s r) (placeOf r) → Proper q
-    → p < place q → place q < placeOf r → answer c q ≡ 0
+quiet : {s : Reader} {p : ℕ} {c : Case} (r : Record) (q : Ask) → Stand s p → Stepped s p r → Settled c (nextReader s r) (recordPlace r)
+    → AskInRange q
+    → p < place q → place q < recordPlace r → answer c q ≡ 0
 quiet {s} r q t u m h l k =
     m q h (omega arith) ∙ unchanged s r q (t .at .rows) (t .grid) (u .fact) h (λ e. omega arith) ∙ t .at .fresh q h l
 
-few-turn : {s : Reader} {p : ℕ} {x : List ℕ} {c : Case} → Stand s p → s .place .lines ≤ 256 → (r : Record) → verdict (s .place) r ≡ Next
-    → Reads (next s r) x c → (a b : ℕ) (L : List Record) → Rising c p (Line a b ∷ L) → Stepped s p r
-    → (next s r .place .lines ≤ 256 → (M : List Record) → Rising c (placeOf r) M → next s r .place .lines + length M ≤ 256)
+few-turn : {s : Reader} {p : ℕ} {x : List ℕ} {c : Case} → Stand s p → s .place .lines ≤ 256 → (r : Record) → judged (s .place) r ≡ Next
+    → ReadsAs (nextReader s r) x c → (a b : ℕ) (L : List Record) → Rising c p (Line a b ∷ L) → Stepped s p r
+    → (nextReader s r .place .lines ≤ 256 → (M : List Record) → Rising c (recordPlace r) M → nextReader s r .place .lines + length M ≤ 256)
     → s .place .lines + suc (length L) ≤ 256
 few-turn {s} t l (Grid n) e d a b L g u on = absurd (omega (arith, u .fact, t .grid))
 few-turn {s} t l (Bus k z o) e d a b L g u on = on l (Line a b ∷ L) (g .0, omega (arith, u .fact .bus .most), g .2, g .3)
 few-turn {s} {p} {c = c} t l (Line i j) e d a b L g u on =
     let n : s .place .lines < 256 = fit-of (s .place) (Line i j) (t .at .small) e .2 in
     ⊎-elim
-    (λ (k : placeOf (Line a b) < placeOf (Line i j)).
+    (λ (k : recordPlace (Line a b) < recordPlace (Line i j)).
     absurd (omega (arith, g .2, quiet {c = c} (Line i j) (lineAt a b) t u (settled (u .on) d) (g .0) (g .1) k)))
-    (λ (k : placeOf (Line i j) ≤ placeOf (Line a b)). ⊎-elim
-    (λ (q : placeOf (Line a b) ≡ placeOf (Line i j)). omega (arith, on (omega arith) L (subst (λ (w : ℕ). Rising c w L) q (g .3))))
-    (λ (q : placeOf (Line a b) ≡ placeOf (Line i j) → ⊥). omega (arith, on (omega arith) (Line a b ∷ L) (g .0, omega arith, g .2, g .3)))
-    (same-or (placeOf (Line a b)) (placeOf (Line i j))))
-    (below-or (placeOf (Line a b)) (placeOf (Line i j)))
+    (λ (k : recordPlace (Line i j) ≤ recordPlace (Line a b)). ⊎-elim
+    (λ (q : recordPlace (Line a b) ≡ recordPlace (Line i j)). omega (arith, on (omega arith) L (subst (λ (w : ℕ). Rising c w L) q (g .3))))
+    (λ (q : recordPlace (Line a b) ≡ recordPlace (Line i j) → ⊥). omega
+    (arith, on (omega arith) (Line a b ∷ L) (g .0, omega arith, g .2, g .3)))
+    (same-or (recordPlace (Line a b)) (recordPlace (Line i j))))
+    (below-or (recordPlace (Line a b)) (recordPlace (Line i j)))
 few-turn {s} {c = c} t l (Pmu k) e d a b L g u on =
     let y = g .0 in
     absurd (omega (arith, g .2, quiet {c = c} (Pmu k) (lineAt a b) t u (settled (u .on) d) y (g .1) (omega (arith, y .less, y .high))))
 few-turn {s} t l End e d a b L g u on = absurd (omega (arith, u .over))
 few-turn {s} t l Wrong e d a b L g u on = absurd (u .fact)
 
-few-ends : {s : Reader} {p : ℕ} → Stand s p → s .place .lines ≤ 256 → (L : List Record) → Rising (caseOf s) p L
+few-ends : {s : Reader} {p : ℕ} → Stand s p → s .place .lines ≤ 256 → (L : List Record) → Rising (caseSoFar s) p L
     → s .place .lines + length L ≤ 256
 few-ends t l [] g = omega arith
 few-ends t l (Grid n ∷ L) g = absurd g
@@ -101,9 +103,9 @@ few-ends t l (Pmu k ∷ L) g = absurd g
 few-ends t l (End ∷ L) g = absurd g
 few-ends t l (Wrong ∷ L) g = absurd g
 
-few-goes : {s : Reader} {p : ℕ} {x : List ℕ} {c : Case} → Stand s p → s .place .lines ≤ 256 → (r : Record) → verdict (s .place) r ≡ Next
-    → Reads (next s r) x c → (L : List Record) → Rising c p L → Stepped s p r
-    → (next s r .place .lines ≤ 256 → (M : List Record) → Rising c (placeOf r) M → next s r .place .lines + length M ≤ 256)
+few-goes : {s : Reader} {p : ℕ} {x : List ℕ} {c : Case} → Stand s p → s .place .lines ≤ 256 → (r : Record) → judged (s .place) r ≡ Next
+    → ReadsAs (nextReader s r) x c → (L : List Record) → Rising c p L → Stepped s p r
+    → (nextReader s r .place .lines ≤ 256 → (M : List Record) → Rising c (recordPlace r) M → nextReader s r .place .lines + length M ≤ 256)
     → s .place .lines + length L ≤ 256
 few-goes t l r e d [] g u on = omega arith
 few-goes t l r e d (Grid n ∷ L) g u on = absurd g
@@ -113,13 +115,13 @@ few-goes t l r e d (Pmu k ∷ L) g u on = absurd g
 few-goes t l r e d (End ∷ L) g u on = absurd g
 few-goes t l r e d (Wrong ∷ L) g u on = absurd g
 
-few-lines : {s : Reader} {p : ℕ} {x : List ℕ} {c : Case} → Stand s p → s .place .lines ≤ 256 → Reads s x c → (L : List Record)
+few-lines : {s : Reader} {p : ℕ} {x : List ℕ} {c : Case} → Stand s p → s .place .lines ≤ 256 → ReadsAs s x c → (L : List Record)
     → Rising c p L → s .place .lines + length L ≤ 256
 few-lines t l (ends e) L g = few-ends t l L g
 few-lines t l (goes r e d) L g = few-goes t l r e d L g (stepped r t e) (λ h M k. few-lines (stepped r t e .on) h d M k)
 
 -- what is read has at most 256 lines
-pub read-few : (x : List ℕ) (c : Case) → Reads start x c → length (lineRecords (neighbours (c .nbr)) 1 (c .n)) ≤ 256
+pub read-few : (x : List ℕ) (c : Case) → ReadsAs start x c → length (lineRecords (neighbours (c .nbr)) 1 (c .n)) ≤ 256
 read-few x c d =
     let b = begun d in
     let t = first-stand (c .n) (b .told) in

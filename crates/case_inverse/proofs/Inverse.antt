@@ -12,7 +12,7 @@ use Rattle.grid.specs.Cases.{neighbours, gridOf, Valid, mostBytes}
 use Rattle.grid.specs.declared.Case.{Case}
 use Rattle.rules.specs.Grids.{Proper as ProperGrid}
 use Rattle.case_read.specs.Reading.{start, got, readLines, readCase}
-use Rattle.case_inverse.specs.Grammar.{Reads}
+use Rattle.case_inverse.specs.Grammar.{ReadsAs}
 use Rattle.case_line.specs.CaseText.{records, caseText, lineRecords}
 use Rattle.case_read.proofs.Lengths.{lines-length, buses-length, members-length}
 use Rattle.case_inverse.proofs.Grammars.{read-reads}
@@ -57,7 +57,7 @@ read-written c l v =
     let e : c ≡ r .case′ =
     known c (r .case′) (v .buses .most) (r .size) (record { rows = l; proper = v .proper })
     (read-sound _ (r .case′) (r .reads)) (r .agree) in
-    of-reads (caseText c) c (text-within c v) (subst⁻¹ (λ (d : Case). Reads start (caseText c) d) e (r .reads))
+    of-reads (caseText c) c (text-within c v) (subst⁻¹ (λ (d : Case). ReadsAs start (caseText c) d) e (r .reads))
 
 -- ---- what is read is valid
 
@@ -66,7 +66,7 @@ pub record ReadValid (c : Case) : Type 0 where
   pub rows : length (c .nbr) ≡ 64
   pub valid : Valid c
 
-reads-valid : (x : List ℕ) (c : Case) → Reads start x c → ReadValid c
+reads-valid : (x : List ℕ) (c : Case) → ReadsAs start x c → ReadValid c
 reads-valid x c d =
     let s = read-sound x c d in
     let t = first-stand (c .n) (begun d .told) in

@@ -22,9 +22,9 @@ use Rattle.grid.specs.declared.Case.{Case}
 use Rattle.grid.proofs.Rows.{row-at, row-zero}
 use Rattle.case_build.specs.Building.{withEnd, withLine}
 use Rattle.case_judge.specs.Judging.{isAfter, pastBuses}
-use Rattle.case_read.specs.Reading.{Reader, caseOf, next}
+use Rattle.case_read.specs.Reading.{Reader, caseSoFar, nextReader}
 use Rattle.case_judge.specs.declared.Place.{Place}
-use Rattle.case_judge.proofs.Judged.{Accepted, inside, line-ends, apart}
+use Rattle.case_judge.proofs.Judged.{TestsPassed, inside, line-ends, not-one}
 
 -- ---- rows
 
@@ -98,11 +98,11 @@ answer c (siteAt k) = bit (setOf (c .site)) k
 answer c (unitAt k) = bit (setOf (c .units)) k
 answer c (lineAt i j) = joined (c .nbr) i j
 
-abbrev pub Proper : Ask → Type 0
-Proper (zeroAt k) = IsBus width k
-Proper (siteAt k) = IsBus width k
-Proper (unitAt k) = IsBus width k
-Proper (lineAt i j) = Pair i j
+abbrev pub AskInRange : Ask → Type 0
+AskInRange (zeroAt k) = IsBus width k
+AskInRange (siteAt k) = IsBus width k
+AskInRange (unitAt k) = IsBus width k
+AskInRange (lineAt i j) = Pair i j
 
 -- the place of a question, and of a record
 abbrev pub place : Ask → ℕ
@@ -111,13 +111,13 @@ place (siteAt k) = k
 place (unitAt k) = 10000 + k
 place (lineAt i j) = 1000 + (i * 128 + j)
 
-abbrev pub placeOf : Record → ℕ
-placeOf (Grid n) = 0
-placeOf (Bus k z o) = k
-placeOf (Line a b) = 1000 + (a * 128 + b)
-placeOf (Pmu p) = 10000 + p
-placeOf End = 0
-placeOf Wrong = 0
+abbrev pub recordPlace : Record → ℕ
+recordPlace (Grid n) = 0
+recordPlace (Bus k z o) = k
+recordPlace (Line a b) = 1000 + (a * 128 + b)
+recordPlace (Pmu p) = 10000 + p
+recordPlace End = 0
+recordPlace Wrong = 0
 
 -- ---- what an accepted record says, in numbers
 
@@ -145,9 +145,9 @@ Facts s (Pmu p) = NextUnit s p
 Facts s End = s .n ≤ s .bus
 Facts s Wrong = ⊥
 
-pub past : (s : Place) → pastBuses s ≡ true → s .n ≤ s .bus
+pub past-buses : (s : Place) → pastBuses s ≡ true → s .n ≤ s .bus
 unfolding pastBuses
-past s e = let p = both (ltb 0 (s .n)) (leb (s .n) (s .bus)) e in leb-true (s .n) (s .bus) (p .1)
+past-buses s e = let p = both (ltb 0 (s .n)) (leb (s .n) (s .bus)) e in leb-true (s .n) (s .bus) (p .1)
 
 risen : (a b c d : ℕ) → b ≤ 64 → isAfter a b c d ≡ true → a * 128 + b < c * 128 + d
 unfolding isAfter
@@ -157,7 +157,7 @@ risen a b c d h e = go (ltb a c) refl e
     go true f e = omega (arith, ltb-true a c f)
     go false f e = let p = both (eqb a c) (ltb b d) e in omega (arith, eqb-true a c (p .0), ltb-true b d (p .1))
 
-pub facts : (s : Place) (r : Record) → s .n ≤ mostBuses → s .b ≤ 64 → Accepted s r → Facts s r
+pub facts : (s : Place) (r : Record) → s .n ≤ mostBuses → s .b ≤ 64 → TestsPassed s r → Facts s r
 facts s (Grid n) h k a = eqb-true (s .n) 0 (a .place)
 facts s (Bus x z o) h k a =
     let i = inside (s .n) x (a .range) in
@@ -171,7 +171,7 @@ facts s (Line x y) h k a =
     let t = line-ends s x y (a .range) in
     let o = both (ltb x y) (isAfter (s .a) (s .b) x y) (a .order) in
     record {
-      past = past s (p .0);
+      past = past-buses s (p .0);
       none = eqb-true (s .unit) 0 (p .1);
       pair = record { one = t .from .some; less = ltb-true x y (o .0); high = omega (arith, t .to .most) };
       rises = risen (s .a) (s .b) x y k (o .1);
@@ -179,12 +179,12 @@ facts s (Line x y) h k a =
 facts s (Pmu x) h k a =
     let i = inside (s .n) x (a .range) in
     record {
-      past = past s (a .place);
+      past = past-buses s (a .place);
       bus = record { some = i .some; most = omega (arith, i .most) };
       rises = ltb-true (s .unit) x (a .order);
     }
-facts s End h k a = past s (a .place)
-facts s Wrong h k a = let e = a .place in apart (cc)
+facts s End h k a = past-buses s (a .place)
+facts s Wrong h k a = let e = a .place in not-one (cc)
 
 -- ---- one record
 
@@ -196,10 +196,10 @@ pub record At (s : Reader) (p : ℕ) : Type 0 where
   pub to-bus : s .place .bus < s .place .n → p ≤ s .place .bus
   pub to-line : s .place .unit ≡ 0 → p ≤ 1000 + (s .place .a * 128 + s .place .b)
   pub to-unit : p ≤ 10000 + s .place .unit
-  pub fresh : (q : Ask) → Proper q → p < place q → answer (caseOf s) q ≡ 0
+  pub fresh : (q : Ask) → AskInRange q → p < place q → answer (caseSoFar s) q ≡ 0
 
 -- a record is beyond where the reader stands
-pub beyond : (s : Reader) (p : ℕ) (r : Record) → At s p → 0 < s .place .n → (r ≡ End → ⊥) → Facts (s .place) r → p < placeOf r
+pub beyond : (s : Reader) (p : ℕ) (r : Record) → At s p → 0 < s .place .n → (r ≡ End → ⊥) → Facts (s .place) r → p < recordPlace r
 beyond s p (Grid n) t g e f = absurd (omega arith)
 beyond s p (Bus k z o) t g e f = omega (arith, t .to-bus (f .more))
 beyond s p (Line a b) t g e f = omega (arith, t .to-line (f .none))
@@ -208,9 +208,9 @@ beyond s p End t g e f = absurd (e refl)
 beyond s p Wrong t g e f = absurd f
 
 -- it changes no answer but those at its own place
-pub unchanged : (s : Reader) (r : Record) (q : Ask) → length (s .rows) ≡ 64 → 0 < s .place .n → Facts (s .place) r → Proper q
-    → (place q ≡ placeOf r → ⊥)
-    → answer (caseOf (next s r)) q ≡ answer (caseOf s) q
+pub unchanged : (s : Reader) (r : Record) (q : Ask) → length (s .rows) ≡ 64 → 0 < s .place .n → Facts (s .place) r → AskInRange q
+    → (place q ≡ recordPlace r → ⊥)
+    → answer (caseSoFar (nextReader s r)) q ≡ answer (caseSoFar s) q
 unchanged s (Grid n) q l g f h d = absurd (omega arith)
 unchanged s (Bus k z o) (zeroAt j) l g f h d = if-there z (s .marks .zero) k j (f .bus .some) d
 unchanged s (Bus k z o) (siteAt j) l g f h d = if-there o (s .marks .site) k j (f .bus .some) d
@@ -227,7 +227,7 @@ unchanged s (Pmu p) (lineAt i j) l g f h d = refl
 unchanged s End q l g f h d = refl
 unchanged s Wrong q l g f h d = absurd f
 
-same-rows : (s : Reader) (r : Record) → length (s .rows) ≡ 64 → length (next s r .rows) ≡ 64
+same-rows : (s : Reader) (r : Record) → length (s .rows) ≡ 64 → length (nextReader s r .rows) ≡ 64
 same-rows s (Grid n) l = l
 same-rows s (Bus k z o) l = l
 same-rows s (Line a b) l = simp length-set l
@@ -236,16 +236,18 @@ same-rows s End l = l
 same-rows s Wrong l = l
 
 -- and the reader then stands at its place
-pub stands : (s : Reader) (p : ℕ) (r : Record) → At s p → 0 < s .place .n → (r ≡ End → ⊥) → Facts (s .place) r → At (next s r) (placeOf r)
+pub stands : (s : Reader) (p : ℕ) (r : Record) → At s p → 0 < s .place .n → (r ≡ End → ⊥) → Facts (s .place) r
+    → At (nextReader s r) (recordPlace r)
 stands s p r t g e f =
     let b = beyond s p r t g e f in
-    let new : (q : Ask) → Proper q → placeOf r < place q → answer (caseOf (next s r)) q ≡ 0 =
+    let new : (q : Ask) → AskInRange q → recordPlace r < place q → answer (caseSoFar (nextReader s r)) q ≡ 0 =
     λ q h l. unchanged s r q (t .rows) g f h (λ d. omega arith) ∙ t .fresh q h (omega arith) in
     stood s r t g e f new (same-rows s r (t .rows))
   where
     stood : (s : Reader) (r : Record) → At s p → 0 < s .place .n → (r ≡ End → ⊥) → Facts (s .place) r →
-        ((q : Ask) → Proper q → placeOf r < place q → answer (caseOf (next s r)) q ≡ 0) → length (next s r .rows) ≡ 64
-        → At (next s r) (placeOf r)
+        ((q : Ask) → AskInRange q → recordPlace r < place q → answer (caseSoFar (nextReader s r)) q ≡ 0)
+        → length (nextReader s r .rows) ≡ 64
+        → At (nextReader s r) (recordPlace r)
     stood s (Grid n) t g e f new l = absurd (omega arith)
     stood s (Bus k z o) t g e f new l =
         let m = f .bus .most in
@@ -285,7 +287,7 @@ stands s p r t g e f =
     stood s End t g e f new l = absurd (e refl)
     stood s Wrong t g e f new l = absurd f
 
-pub same-n : (s : Reader) (r : Record) → 0 < s .place .n → Facts (s .place) r → next s r .place .n ≡ s .place .n
+pub same-n : (s : Reader) (r : Record) → 0 < s .place .n → Facts (s .place) r → nextReader s r .place .n ≡ s .place .n
 same-n s (Grid n) g f = absurd (omega arith)
 same-n s (Bus k z o) g f = refl
 same-n s (Line a b) g f = refl
@@ -293,5 +295,5 @@ same-n s (Pmu p) g f = refl
 same-n s End g f = refl
 same-n s Wrong g f = refl
 
-pub more-buses : (s : Reader) (r : Record) → 0 < s .place .n → Facts (s .place) r → 0 < next s r .place .n
+pub more-buses : (s : Reader) (r : Record) → 0 < s .place .n → Facts (s .place) r → 0 < nextReader s r .place .n
 more-buses s r g f = rw (same-n s r g f) g

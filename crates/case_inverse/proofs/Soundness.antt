@@ -21,11 +21,11 @@ use Rattle.grid.specs.Cases.{neighbours, gridOf, Lines}
 use Rattle.grid.specs.declared.Case.{Case}
 use Rattle.case_build.specs.Building.{withLine}
 use Rattle.case_judge.specs.Judging.{inRange}
-use Rattle.case_read.specs.Reading.{Reader, caseOf, next, start}
-use Rattle.case_inverse.specs.Grammar.{Reads}
-use Rattle.case_inverse.specs.Grammar.Reads.{ends, goes}
+use Rattle.case_read.specs.Reading.{Reader, caseSoFar, nextReader, start}
+use Rattle.case_inverse.specs.Grammar.{ReadsAs}
+use Rattle.case_inverse.specs.Grammar.ReadsAs.{ends, goes}
 use Rattle.case_judge.proofs.Judged.{accepted-of, inside, line-ends}
-use Rattle.case_inverse.proofs.Places.{Pair, Ask, Proper, answer, joined, Facts, line-here, line-back, line-other}
+use Rattle.case_inverse.proofs.Places.{Pair, Ask, AskInRange, answer, joined, Facts, line-here, line-back, line-other}
 use Rattle.case_inverse.proofs.Places.Ask.{zeroAt, siteAt, unitAt, lineAt}
 use Rattle.case_inverse.proofs.Unique.{Stand, stepped}
 use Rattle.case_inverse.proofs.Texts.{begun, first-stand, no-bus, no-line}
@@ -86,10 +86,10 @@ module _ (n : ℕ) (rows : List ℕ) (a b : ℕ) (l : length rows ≡ 64) (p : P
       (same-or i a)
 
 abbrev ProperAt : Reader → Type 0
-ProperAt s = ProperGrid (gridOf (caseOf s))
+ProperAt s = ProperGrid (gridOf (caseSoFar s))
 
 proper-next : (s : Reader) (r : Record) → length (s .rows) ≡ 64 → 0 < s .place .n → Facts (s .place) r → inRange (s .place) r ≡ true
-    → ProperAt s → ProperAt (next s r)
+    → ProperAt s → ProperAt (nextReader s r)
 proper-next s (Grid n) l g f e c = absurd (omega arith)
 proper-next s (Bus k z o) l g f e c =
     let b = inside (s .place .n) k e in
@@ -113,13 +113,13 @@ pub record Sound (c : Case) : Type 0 where
   pub rows : length (c .nbr) ≡ 64
   pub proper : ProperGrid (gridOf c)
 
-sound-reads : {s : Reader} {p : ℕ} {x : List ℕ} {c : Case} → Stand s p → ProperAt s → Reads s x c → Sound c
+sound-reads : {s : Reader} {p : ℕ} {x : List ℕ} {c : Case} → Stand s p → ProperAt s → ReadsAs s x c → Sound c
 sound-reads t o (ends e) = record { rows = t .at .rows; proper = o }
 sound-reads {s} t o (goes r e d) =
     let u = stepped r t e in
     sound-reads (u .on) (proper-next s r (t .at .rows) (t .grid) (u .fact) (accepted-of (s .place) r e .range) o) d
 
-none-proper : (n : ℕ) → ProperAt (next start (Grid n))
+none-proper : (n : ℕ) → ProperAt (nextReader start (Grid n))
 none-proper n = record {
   lines = λ i j h. absurd (omega (arith, no-line i j));
   zeros = λ i h. absurd (omega (arith, no-bus i));
@@ -127,7 +127,7 @@ none-proper n = record {
   units = λ i h. absurd (omega (arith, no-bus i));
 }
 
-pub read-sound : (x : List ℕ) (c : Case) → Reads start x c → Sound c
+pub read-sound : (x : List ℕ) (c : Case) → ReadsAs start x c → Sound c
 read-sound x c d = let b = begun d in sound-reads (first-stand (c .n) (b .told)) (none-proper (c .n)) (b .on)
 
 -- ---- a case with a proper grid is known by its answers
@@ -152,7 +152,7 @@ row-within : (n : ℕ) (rows : List ℕ) → Lines n (neighbours rows) → (i : 
 row-within n rows lines i j h = lines i j h .to
 
 module _ (c d : Case) (l : c .n ≤ 64) (same : c .n ≡ d .n) (x : Sound c) (y : Sound d)
-    (e : (q : Ask) → Proper q → answer c q ≡ answer d q) where
+    (e : (q : Ask) → AskInRange q → answer c q ≡ answer d q) where
   second : (s : ℕ) → Within (d .n) s → Within (c .n) s
   second s w i p = subst⁻¹ (λ (n : ℕ). IsBus n i) same (w i p)
 

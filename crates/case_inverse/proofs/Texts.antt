@@ -17,15 +17,15 @@ use Rattle.text_field.proofs.Cutting.{join-split}
 use Rattle.case_line.specs.Record.{recordText}
 use Rattle.case_line.specs.declared.Record.{Record}
 use Rattle.case_line.specs.declared.Record.the-variants.{Grid, Bus, Line, Pmu, End, Wrong}
-use Rattle.case_judge.specs.Judging.{verdict, pastBuses}
-use Rattle.case_read.specs.Reading.{caseOf, Reader, next, start, refused, got, readLines, readText, readCase}
+use Rattle.case_judge.specs.Judging.{judged, pastBuses}
+use Rattle.case_read.specs.Reading.{caseSoFar, Reader, nextReader, start, refused, got, readLines, readText, readCase}
 use Rattle.case_build.specs.Building.{noRows}
-use Rattle.case_inverse.specs.Grammar.{Reads}
-use Rattle.case_inverse.specs.Grammar.Reads.{ends, goes}
+use Rattle.case_inverse.specs.Grammar.{ReadsAs}
+use Rattle.case_inverse.specs.Grammar.ReadsAs.{ends, goes}
 use Rattle.grid.specs.declared.Case.{Case}
-use Rattle.case_judge.specs.declared.Verdict.the-variants.{Next}
+use Rattle.case_judge.specs.declared.Judgement.the-variants.{Next}
 use Rattle.refusals.specs.declared.Refusal.the-variants.{TextTooLong}
-use Rattle.case_judge.proofs.Judged.{accepted-of, last-place, inside, apart}
+use Rattle.case_judge.proofs.Judged.{accepted-of, last-place, inside, not-one}
 use Rattle.case_inverse.proofs.Grammars.{not-got, reads-read, read-reads}
 use Rattle.case_inverse.proofs.Places.{Ask, place, answer, same-n}
 use Rattle.case_inverse.proofs.Places.Ask.{zeroAt, siteAt, unitAt, lineAt}
@@ -34,15 +34,15 @@ use Rattle.case_inverse.proofs.Unique.{Stand, stepped, unique}
 -- ---- the whole text
 
 -- a text is read as c exactly when the grammar has it
-pub reads-of : (x : List ℕ) (c : Case) → readCase x ≡ got c → Reads start x c
+pub reads-of : (x : List ℕ) (c : Case) → readCase x ≡ got c → ReadsAs start x c
 unfolding readCase readText
 reads-of x c e = go (ltb 8192 (length x)) e
   where
-    go : (b : Bool) → cond b (refused TextTooLong) (readLines start 1 (split 10 x .first) (split 10 x .rest)) ≡ got c → Reads start x c
+    go : (b : Bool) → cond b (refused TextTooLong) (readLines start 1 (split 10 x .first) (split 10 x .rest)) ≡ got c → ReadsAs start x c
     go true e = absurd (not-got c e)
-    go false e = subst (λ (y : List ℕ). Reads start y c) (join-split 10 x) (read-reads (split 10 x .rest) start 1 (split 10 x .first) c e)
+    go false e = subst (λ (y : List ℕ). ReadsAs start y c) (join-split 10 x) (read-reads (split 10 x .rest) start 1 (split 10 x .first) c e)
 
-pub of-reads : (x : List ℕ) (c : Case) → length x ≤ 8192 → Reads start x c → readCase x ≡ got c
+pub of-reads : (x : List ℕ) (c : Case) → length x ≤ 8192 → ReadsAs start x c → readCase x ≡ got c
 unfolding readCase readText
 of-reads x c h d = rw (le-ltb 8192 (length x) h) (reads-read start x c 1 (omega arith) d)
 
@@ -61,13 +61,13 @@ unfolding neighbours
 no-line zero j = no-bus j
 no-line (suc i) j = ap (λ (x : ℕ). bit (setOf x) j) (zeros 64 i) ∙ no-bus j
 
-pub empty-answer : (n : ℕ) (q : Ask) → answer (caseOf (next start (Grid n))) q ≡ 0
+pub empty-answer : (n : ℕ) (q : Ask) → answer (caseSoFar (nextReader start (Grid n))) q ≡ 0
 empty-answer n (zeroAt k) = no-bus k
 empty-answer n (siteAt k) = no-bus k
 empty-answer n (unitAt k) = no-bus k
 empty-answer n (lineAt i j) = no-line i j
 
-pub first-stand : (n : ℕ) → verdict (start .place) (Grid n) ≡ Next → Stand (next start (Grid n)) 0
+pub first-stand : (n : ℕ) → judged (start .place) (Grid n) ≡ Next → Stand (nextReader start (Grid n)) 0
 first-stand n e =
     let b = inside 64 n (accepted-of (start .place) (Grid n) e .range) in
     record {
@@ -83,39 +83,39 @@ first-stand n e =
       grid = b .some;
     }
 
-kept : {s : Reader} {p : ℕ} {x : List ℕ} {c : Case} → Stand s p → Reads s x c → c .n ≡ s .place .n
+kept : {s : Reader} {p : ℕ} {x : List ℕ} {c : Case} → Stand s p → ReadsAs s x c → c .n ≡ s .place .n
 kept t (ends e) = refl
 kept {s} {p} t (goes r e d) = let u = stepped r t e in kept (u .on) d ∙ same-n s r (t .grid) (u .fact)
 
-pub record Begun (x : List ℕ) (c : Case) : Type 0 where
+pub record BegunText (x : List ℕ) (c : Case) : Type 0 where
   pub rest : List ℕ
-  pub told : verdict (start .place) (Grid (c .n)) ≡ Next
-  pub on : Reads (next start (Grid (c .n))) rest c
+  pub told : judged (start .place) (Grid (c .n)) ≡ Next
+  pub on : ReadsAs (nextReader start (Grid (c .n))) rest c
   pub text : x ≡ recordText (Grid (c .n)) ++ 10 ∷ rest
 
 not-past : pastBuses (start .place) ≡ true → ⊥
 unfolding pastBuses
-not-past e = apart (cc)
+not-past e = not-one (cc)
 
 -- at the start only `grid` is accepted
-first-grid : (r : Record) (x : List ℕ) (c : Case) → verdict (start .place) r ≡ Next → Reads (next start r) x c
-    → Begun (recordText r ++ 10 ∷ x) c
+first-grid : (r : Record) (x : List ℕ) (c : Case) → judged (start .place) r ≡ Next → ReadsAs (nextReader start r) x c
+    → BegunText (recordText r ++ 10 ∷ x) c
 first-grid (Grid n) x c e d =
     let f : n ≡ c .n = sym (kept (first-stand n e) d) in
     record {
       rest = x;
-      told = subst (λ (m : ℕ). verdict (start .place) (Grid m) ≡ Next) f e;
-      on = subst (λ (m : ℕ). Reads (next start (Grid m)) x c) f d;
+      told = subst (λ (m : ℕ). judged (start .place) (Grid m) ≡ Next) f e;
+      on = subst (λ (m : ℕ). ReadsAs (nextReader start (Grid m)) x c) f d;
       text = ap (λ (m : ℕ). recordText (Grid m) ++ 10 ∷ x) f;
     }
-first-grid (Bus k z o) x c e d = let a = accepted-of (start .place) (Bus k z o) e .place in apart (cc)
+first-grid (Bus k z o) x c e d = let a = accepted-of (start .place) (Bus k z o) e .place in not-one (cc)
 first-grid (Line a b) x c e d =
     let p = both (pastBuses (start .place)) true (accepted-of (start .place) (Line a b) e .place) in absurd (not-past (p .0))
 first-grid (Pmu p) x c e d = absurd (not-past (accepted-of (start .place) (Pmu p) e .place))
 first-grid End x c e d = absurd (not-past (accepted-of (start .place) End e .place))
-first-grid Wrong x c e d = let a = accepted-of (start .place) Wrong e .place in apart (cc)
+first-grid Wrong x c e d = let a = accepted-of (start .place) Wrong e .place in not-one (cc)
 
-pub begun : {x : List ℕ} {c : Case} → Reads start x c → Begun x c
+pub begun : {x : List ℕ} {c : Case} → ReadsAs start x c → BegunText x c
 begun (ends e) = absurd (not-past (last-place (start .place) End e))
 begun (goes r {x = x} {c = c} e d) = first-grid r x c e d
 

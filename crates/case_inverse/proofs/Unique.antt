@@ -11,16 +11,16 @@ use Rattle.busset.proofs.Holding.{hold-here, if-here}
 use Rattle.case_line.specs.Record.{recordText}
 use Rattle.case_line.specs.declared.Record.{Record}
 use Rattle.case_line.specs.declared.Record.the-variants.{Grid, Bus, Line, Pmu, End, Wrong}
-use Rattle.case_judge.specs.Judging.{verdict, accepted}
-use Rattle.case_read.specs.Reading.{caseOf, Reader, next}
-use Rattle.case_inverse.specs.Grammar.{Reads}
-use Rattle.case_inverse.specs.Grammar.Reads.{ends, goes}
+use Rattle.case_judge.specs.Judging.{judged, nextOrLast}
+use Rattle.case_read.specs.Reading.{caseSoFar, Reader, nextReader}
+use Rattle.case_inverse.specs.Grammar.{ReadsAs}
+use Rattle.case_inverse.specs.Grammar.ReadsAs.{ends, goes}
 use Rattle.grid.specs.declared.Case.{Case}
 use Rattle.case_judge.specs.declared.Place.{Place}
-use Rattle.case_judge.specs.declared.Verdict.the-variants.{Next, Last}
-use Rattle.case_judge.proofs.Judged.{accepted-of, goes-of, last-place, apart}
-use Rattle.case_inverse.proofs.Places.{Ask, Proper, place, placeOf, answer, Facts, facts, At}
-use Rattle.case_inverse.proofs.Places.{beyond, unchanged, stands, more-buses, past, line-here}
+use Rattle.case_judge.specs.declared.Judgement.the-variants.{Next, Last}
+use Rattle.case_judge.proofs.Judged.{accepted-of, goes-of, last-place, not-one}
+use Rattle.case_inverse.proofs.Places.{Ask, AskInRange, place, recordPlace, answer, Facts, facts, At}
+use Rattle.case_inverse.proofs.Places.{beyond, unchanged, stands, more-buses, past-buses, line-here}
 use Rattle.case_inverse.proofs.Places.Ask.{zeroAt, siteAt, unitAt, lineAt}
 
 -- a reader that has read `grid` and stands at p
@@ -31,13 +31,13 @@ pub record Stand (s : Reader) (p : ℕ) : Type 0 where
 -- one record from there
 pub record Stepped (s : Reader) (p : ℕ) (r : Record) : Type 0 where
   pub fact : Facts (s .place) r
-  pub over : p < placeOf r
-  pub on : Stand (next s r) (placeOf r)
+  pub over : p < recordPlace r
+  pub on : Stand (nextReader s r) (recordPlace r)
 
-not-end : (s : Place) (r : Record) → verdict s r ≡ Next → r ≡ End → ⊥
-not-end s r e f = apart (cc (goes-of s r e, ap accepted f))
+not-end : (s : Place) (r : Record) → judged s r ≡ Next → r ≡ End → ⊥
+not-end s r e f = not-one (cc (goes-of s r e, ap nextOrLast f))
 
-pub stepped : {s : Reader} {p : ℕ} (r : Record) → Stand s p → verdict (s .place) r ≡ Next → Stepped s p r
+pub stepped : {s : Reader} {p : ℕ} (r : Record) → Stand s p → judged (s .place) r ≡ Next → Stepped s p r
 stepped {s} {p} r t e =
     let f = facts (s .place) r (t .at .small) (t .at .low) (accepted-of (s .place) r e) in
     record {
@@ -48,9 +48,9 @@ stepped {s} {p} r t e =
 
 -- the case c answers as s does, as far as p
 abbrev pub Settled : Case → Reader → ℕ → Type 0
-Settled c s p = (q : Ask) → Proper q → place q ≤ p → answer c q ≡ answer (caseOf s) q
+Settled c s p = (q : Ask) → AskInRange q → place q ≤ p → answer c q ≡ answer (caseSoFar s) q
 
-pub settled : {s : Reader} {p : ℕ} {x : List ℕ} {c : Case} → Stand s p → Reads s x c → Settled c s p
+pub settled : {s : Reader} {p : ℕ} {x : List ℕ} {c : Case} → Stand s p → ReadsAs s x c → Settled c s p
 settled {s} {p} t (ends e) q h l = refl
 settled {s} {p} t (goes r e d) q h l =
     let u = stepped r t e in
@@ -60,8 +60,8 @@ settled {s} {p} t (goes r e d) q h l =
 
 -- a question that r answers with 1 is not passed over
 missed : {s : Reader} {p : ℕ} {c : Case} (r r′ : Record) (q : Ask) → Stand s p → Stepped s p r → Stepped s p r′
-    → Settled c (next s r) (placeOf r) → Settled c (next s r′) (placeOf r′)
-    → Proper q → place q ≡ placeOf r → answer (caseOf (next s r)) q ≡ 1 → placeOf r < placeOf r′ → ⊥
+    → Settled c (nextReader s r) (recordPlace r) → Settled c (nextReader s r′) (recordPlace r′)
+    → AskInRange q → place q ≡ recordPlace r → answer (caseSoFar (nextReader s r)) q ≡ 1 → recordPlace r < recordPlace r′ → ⊥
 missed {s} {p} {c} r r′ q t u v m m′ h e one l =
     omega (
       arith,
@@ -80,7 +80,7 @@ flags false false e = refl
 
 module _ {s : Reader} {p : ℕ} {c : Case} (t : Stand s p) where
   buses : (k j : ℕ) (z o y w : Bool) → Stepped s p (Bus k z o) → Stepped s p (Bus j y w) →
-      Settled c (next s (Bus k z o)) k → Settled c (next s (Bus j y w)) j → Bus k z o ≡ Bus j y w
+      Settled c (nextReader s (Bus k z o)) k → Settled c (nextReader s (Bus j y w)) j → Bus k z o ≡ Bus j y w
   buses k j z o y w u v m n =
       let e : k ≡ j = omega (arith, u .fact .next, v .fact .next) in
       let hk = u .fact .bus in
@@ -95,48 +95,49 @@ module _ {s : Reader} {p : ℕ} {c : Case} (t : Stand s p) where
       ∙ if-here w (s .marks .site) j (hj .some) (t .at .fresh (siteAt j) hj (v .over))) in
       cc (e, a, b)
 
-  line-missed : (a b : ℕ) (r : Record) → Stepped s p (Line a b) → Stepped s p r → Settled c (next s (Line a b)) (placeOf (Line a b))
-      → Settled c (next s r) (placeOf r)
-      → placeOf (Line a b) < placeOf r → ⊥
+  line-missed : (a b : ℕ) (r : Record) → Stepped s p (Line a b) → Stepped s p r
+      → Settled c (nextReader s (Line a b)) (recordPlace (Line a b))
+      → Settled c (nextReader s r) (recordPlace r)
+      → recordPlace (Line a b) < recordPlace r → ⊥
   line-missed a b r u v m n l =
       missed {c = c} (Line a b) r (lineAt a b) t u v m n (u .fact .pair) refl (line-here (s .rows) a b (t .at .rows) (u .fact .pair)) l
 
-  unit-missed : (k : ℕ) (r : Record) → Stepped s p (Pmu k) → Stepped s p r → Settled c (next s (Pmu k)) (placeOf (Pmu k))
-      → Settled c (next s r) (placeOf r)
-      → placeOf (Pmu k) < placeOf r → ⊥
+  unit-missed : (k : ℕ) (r : Record) → Stepped s p (Pmu k) → Stepped s p r → Settled c (nextReader s (Pmu k)) (recordPlace (Pmu k))
+      → Settled c (nextReader s r) (recordPlace r)
+      → recordPlace (Pmu k) < recordPlace r → ⊥
   unit-missed k r u v m n l =
       missed {c = c} (Pmu k) r (unitAt k) t u v m n (u .fact .bus) refl (hold-here (s .marks .units) k (u .fact .bus .some)) l
 
-  lines : (a b i j : ℕ) → Stepped s p (Line a b) → Stepped s p (Line i j) → Settled c (next s (Line a b)) (placeOf (Line a b))
-      → Settled c (next s (Line i j)) (placeOf (Line i j))
+  lines : (a b i j : ℕ) → Stepped s p (Line a b) → Stepped s p (Line i j) → Settled c (nextReader s (Line a b)) (recordPlace (Line a b))
+      → Settled c (nextReader s (Line i j)) (recordPlace (Line i j))
       → Line a b ≡ Line i j
   lines a b i j u v m n =
-      let low : placeOf (Line i j) ≤ placeOf (Line a b) =
-      ⊎-elim (λ (l : placeOf (Line a b) < placeOf (Line i j)). absurd (line-missed a b (Line i j) u v m n l))
-      (λ (l : placeOf (Line i j) ≤ placeOf (Line a b)). l) (below-or (placeOf (Line a b)) (placeOf (Line i j))) in
-      let high : placeOf (Line a b) ≤ placeOf (Line i j) =
-      ⊎-elim (λ (l : placeOf (Line i j) < placeOf (Line a b)). absurd (line-missed i j (Line a b) v u n m l))
-      (λ (l : placeOf (Line a b) ≤ placeOf (Line i j)). l) (below-or (placeOf (Line i j)) (placeOf (Line a b))) in
+      let low : recordPlace (Line i j) ≤ recordPlace (Line a b) =
+      ⊎-elim (λ (l : recordPlace (Line a b) < recordPlace (Line i j)). absurd (line-missed a b (Line i j) u v m n l))
+      (λ (l : recordPlace (Line i j) ≤ recordPlace (Line a b)). l) (below-or (recordPlace (Line a b)) (recordPlace (Line i j))) in
+      let high : recordPlace (Line a b) ≤ recordPlace (Line i j) =
+      ⊎-elim (λ (l : recordPlace (Line i j) < recordPlace (Line a b)). absurd (line-missed i j (Line a b) v u n m l))
+      (λ (l : recordPlace (Line a b) ≤ recordPlace (Line i j)). l) (below-or (recordPlace (Line i j)) (recordPlace (Line a b))) in
       let hu = u .fact .pair .high in
       let hv = v .fact .pair .high in
       let e : a ≡ i = omega arith in
       let f : b ≡ j = omega arith in
       cc (e, f)
 
-  units : (k j : ℕ) → Stepped s p (Pmu k) → Stepped s p (Pmu j) → Settled c (next s (Pmu k)) (placeOf (Pmu k))
-      → Settled c (next s (Pmu j)) (placeOf (Pmu j)) → Pmu k ≡ Pmu j
+  units : (k j : ℕ) → Stepped s p (Pmu k) → Stepped s p (Pmu j) → Settled c (nextReader s (Pmu k)) (recordPlace (Pmu k))
+      → Settled c (nextReader s (Pmu j)) (recordPlace (Pmu j)) → Pmu k ≡ Pmu j
   units k j u v m n =
-      let low : placeOf (Pmu j) ≤ placeOf (Pmu k) =
-      ⊎-elim (λ (l : placeOf (Pmu k) < placeOf (Pmu j)). absurd (unit-missed k (Pmu j) u v m n l))
-      (λ (l : placeOf (Pmu j) ≤ placeOf (Pmu k)). l) (below-or (placeOf (Pmu k)) (placeOf (Pmu j))) in
-      let high : placeOf (Pmu k) ≤ placeOf (Pmu j) =
-      ⊎-elim (λ (l : placeOf (Pmu j) < placeOf (Pmu k)). absurd (unit-missed j (Pmu k) v u n m l))
-      (λ (l : placeOf (Pmu k) ≤ placeOf (Pmu j)). l) (below-or (placeOf (Pmu j)) (placeOf (Pmu k))) in
+      let low : recordPlace (Pmu j) ≤ recordPlace (Pmu k) =
+      ⊎-elim (λ (l : recordPlace (Pmu k) < recordPlace (Pmu j)). absurd (unit-missed k (Pmu j) u v m n l))
+      (λ (l : recordPlace (Pmu j) ≤ recordPlace (Pmu k)). l) (below-or (recordPlace (Pmu k)) (recordPlace (Pmu j))) in
+      let high : recordPlace (Pmu k) ≤ recordPlace (Pmu j) =
+      ⊎-elim (λ (l : recordPlace (Pmu j) < recordPlace (Pmu k)). absurd (unit-missed j (Pmu k) v u n m l))
+      (λ (l : recordPlace (Pmu k) ≤ recordPlace (Pmu j)). l) (below-or (recordPlace (Pmu j)) (recordPlace (Pmu k))) in
       let e : k ≡ j = omega arith in
       ap Pmu e
 
-  same-record : (r r′ : Record) → verdict (s .place) r ≡ Next → verdict (s .place) r′ ≡ Next → Stepped s p r → Stepped s p r′
-      → Settled c (next s r) (placeOf r) → Settled c (next s r′) (placeOf r′) → r ≡ r′
+  same-record : (r r′ : Record) → judged (s .place) r ≡ Next → judged (s .place) r′ ≡ Next → Stepped s p r → Stepped s p r′
+      → Settled c (nextReader s r) (recordPlace r) → Settled c (nextReader s r′) (recordPlace r′) → r ≡ r′
   same-record (Grid n) r′ d e u v m n′ = absurd (omega (arith, u .fact, t .grid))
   same-record (Bus k z o) (Grid n) d e u v m n′ = absurd (omega (arith, v .fact, t .grid))
   same-record (Bus k z o) (Bus j y w) d e u v m n = buses k j z o y w u v m n
@@ -162,8 +163,8 @@ module _ {s : Reader} {p : ℕ} {c : Case} (t : Stand s p) where
   same-record Wrong r′ d e u v m n = absurd (u .fact)
 
   -- and where the case is complete, none is
-  no-more : (r : Record) → c ≡ caseOf s → s .place .n ≤ s .place .bus → verdict (s .place) r ≡ Next → Stepped s p r
-      → Settled c (next s r) (placeOf r) → ⊥
+  no-more : (r : Record) → c ≡ caseSoFar s → s .place .n ≤ s .place .bus → judged (s .place) r ≡ Next → Stepped s p r
+      → Settled c (nextReader s r) (recordPlace r) → ⊥
   no-more (Grid n) e l d u m = omega (arith, u .fact, t .grid)
   no-more (Bus k z o) e l d u m = omega (arith, u .fact .more)
   no-more (Line a b) e l d u m =
@@ -190,36 +191,37 @@ module _ {s : Reader} {p : ℕ} {c : Case} (t : Stand s p) where
 -- ---- the texts
 
 pub record Ended (s : Reader) (y : List ℕ) (c : Case) : Type 0 where
-  pub last : verdict (s .place) End ≡ Last
+  pub last : judged (s .place) End ≡ Last
   pub text : y ≡ recordText End ++ 10 ∷ []
-  pub is : c ≡ caseOf s
+  pub is : c ≡ caseSoFar s
 
 pub record Went (s : Reader) (y : List ℕ) (c : Case) : Type 0 where
   pub by : Record
   pub rest : List ℕ
-  pub told : verdict (s .place) by ≡ Next
-  pub on : Reads (next s by) rest c
+  pub told : judged (s .place) by ≡ Next
+  pub on : ReadsAs (nextReader s by) rest c
   pub text : y ≡ recordText by ++ 10 ∷ rest
 
-pub seen : {s : Reader} {y : List ℕ} {c : Case} → Reads s y c → Ended s y c ⊎ Went s y c
+pub seen : {s : Reader} {y : List ℕ} {c : Case} → ReadsAs s y c → Ended s y c ⊎ Went s y c
 seen (ends e) = inl (record { last = e; text = refl; is = refl })
 seen (goes r {x = x} e d) = inr (record { by = r; rest = x; told = e; on = d; text = refl })
 
-pub unique : {s : Reader} {p : ℕ} {x y : List ℕ} {c : Case} → Stand s p → Reads s x c → Reads s y c → x ≡ y
+pub unique : {s : Reader} {p : ℕ} {x y : List ℕ} {c : Case} → Stand s p → ReadsAs s x c → ReadsAs s y c → x ≡ y
 unique {s} {p} {y = y} t (ends e) d =
     ⊎-elim
-    (λ (w : Ended s y (caseOf s)). sym (w .text))
-    (λ (w : Went s y (caseOf s)).
+    (λ (w : Ended s y (caseSoFar s)). sym (w .text))
+    (λ (w : Went s y (caseSoFar s)).
     let u = stepped (w .by) t (w .told) in
-    absurd (no-more t (w .by) refl (past (s .place) (last-place (s .place) End e)) (w .told) u (settled (u .on) (w .on))))
+    absurd (no-more t (w .by) refl (past-buses (s .place) (last-place (s .place) End e)) (w .told) u (settled (u .on) (w .on))))
     (seen d)
 unique {s} {p} {y = y} {c = c} t (goes r {x = x} e g) d =
     let u = stepped r t e in
     ⊎-elim
-    (λ (w : Ended s y c). absurd (no-more t r (w .is) (past (s .place) (last-place (s .place) End (w .last))) e u (settled (u .on) g)))
+    (λ (w : Ended s y c). absurd
+    (no-more t r (w .is) (past-buses (s .place) (last-place (s .place) End (w .last))) e u (settled (u .on) g)))
     (λ (w : Went s y c).
     let v = stepped (w .by) t (w .told) in
     let f : r ≡ w .by = same-record {c = c} t r (w .by) e (w .told) u v (settled (u .on) g) (settled (v .on) (w .on)) in
-    let h : Reads (next s r) (w .rest) c = subst (λ (b : Record). Reads (next s b) (w .rest) c) (sym f) (w .on) in
+    let h : ReadsAs (nextReader s r) (w .rest) c = subst (λ (b : Record). ReadsAs (nextReader s b) (w .rest) c) (sym f) (w .on) in
     ap₂ (λ (b : Record) (z : List ℕ). recordText b ++ 10 ∷ z) f (unique (u .on) g h) ∙ sym (w .text))
     (seen d)

@@ -15,15 +15,15 @@ use Rattle.grid.specs.Cases.{neighbours}
 use Rattle.case_judge.specs.declared.Place.{Place}
 use Rattle.case_line.specs.declared.Record.{Record}
 use Rattle.case_line.specs.declared.Record.the-variants.{Grid, Line, Pmu, End}
-use Rattle.case_judge.specs.Judging.{isBus, isAfter, pastBuses, verdict}
-use Rattle.case_read.specs.Reading.{caseOf, Reader, next, start}
-use Rattle.case_inverse.specs.Grammar.{Reads}
-use Rattle.case_inverse.specs.Grammar.Reads.{ends, goes}
+use Rattle.case_judge.specs.Judging.{isBus, isAfter, pastBuses, judged}
+use Rattle.case_read.specs.Reading.{caseSoFar, Reader, nextReader, start}
+use Rattle.case_inverse.specs.Grammar.{ReadsAs}
+use Rattle.case_inverse.specs.Grammar.ReadsAs.{ends, goes}
 use Rattle.case_line.specs.CaseText.{has, busRecord, busRecords, members, lineRecords, linesText, records}
 use Rattle.grid.specs.declared.Case.{Case}
-use Rattle.case_judge.specs.declared.Verdict.the-variants.{Next}
+use Rattle.case_judge.specs.declared.Judgement.the-variants.{Next}
 use Rattle.case_judge.proofs.Judged.{accept}
-use Rattle.case_inverse.proofs.Places.{Pair, Ask, Proper, place, placeOf, joined, answer, unchanged, line-here}
+use Rattle.case_inverse.proofs.Places.{Pair, Ask, AskInRange, place, recordPlace, joined, answer, unchanged, line-here}
 use Rattle.case_inverse.proofs.Places.Ask.{zeroAt, siteAt, unitAt, lineAt}
 use Rattle.case_inverse.proofs.Unique.{Stand, stepped}
 use Rattle.case_inverse.proofs.Texts.{first-stand}
@@ -41,11 +41,11 @@ pub record Upto (c : Case) (s : Reader) (p w : ℕ) : Type 0 where
   pub stand : Stand s p
   pub low : p < w
   pub size : c .n ≡ s .place .n
-  pub agree : (q : Ask) → Proper q → place q < w → answer c q ≡ answer (caseOf s) q
+  pub agree : (q : Ask) → AskInRange q → place q < w → answer c q ≡ answer (caseSoFar s) q
 
 -- where the case answers 0 there is nothing to write
 pub skip : {c : Case} {s : Reader} {p w : ℕ} (v : ℕ) → w ≤ v → Upto c s p w
-    → ((q : Ask) → Proper q → w ≤ place q → place q < v → answer c q ≡ 0) → Upto c s p v
+    → ((q : Ask) → AskInRange q → w ≤ place q → place q < v → answer c q ≡ 0) → Upto c s p v
 skip {c} {s} {p} {w} v l u z =
     record {
       stand = u .stand;
@@ -58,10 +58,10 @@ skip {c} {s} {p} {w} v l u z =
     }
 
 -- a record whose answers are the case's
-pub take-next : {c : Case} {s : Reader} {p : ℕ} (r : Record) → Upto c s p (placeOf r) → verdict (s .place) r ≡ Next
-    → next s r .place .n ≡ s .place .n
-    → ((q : Ask) → Proper q → place q ≡ placeOf r → answer c q ≡ answer (caseOf (next s r)) q)
-    → Upto c (next s r) (placeOf r) (placeOf r + 1)
+pub take-next : {c : Case} {s : Reader} {p : ℕ} (r : Record) → Upto c s p (recordPlace r) → judged (s .place) r ≡ Next
+    → nextReader s r .place .n ≡ s .place .n
+    → ((q : Ask) → AskInRange q → place q ≡ recordPlace r → answer c q ≡ answer (caseSoFar (nextReader s r)) q)
+    → Upto c (nextReader s r) (recordPlace r) (recordPlace r + 1)
 take-next {c} {s} {p} r u e m a =
     let t = stepped r (u .stand) e in
     record {
@@ -69,27 +69,27 @@ take-next {c} {s} {p} r u e m a =
       low = omega arith;
       size = u .size ∙ sym m;
       agree = λ q h k. ⊎-elim
-          (λ (b : place q ≡ placeOf r). a q h b)
-          (λ (d : place q ≡ placeOf r → ⊥).
-          let l : place q < placeOf r = omega arith in
+          (λ (b : place q ≡ recordPlace r). a q h b)
+          (λ (d : place q ≡ recordPlace r → ⊥).
+          let l : place q < recordPlace r = omega arith in
           u .agree q h l ∙ sym (unchanged s r q (u .stand .at .rows) (u .stand .grid) (t .fact) h d))
-          (same-or (place q) (placeOf r));
+          (same-or (place q) (recordPlace r));
     }
 
 -- ---- phases: what is written from where the reader stands is read as a case that answers as c does
 
 pub record Readable (c : Case) (s : Reader) (rs : List Record) : Type 0 where
   pub case′ : Case
-  pub reads : Reads s (linesText rs) case′
+  pub reads : ReadsAs s (linesText rs) case′
   pub size : c .n ≡ case′ .n
-  pub agree : (q : Ask) → Proper q → answer c q ≡ answer case′ q
+  pub agree : (q : Ask) → AskInRange q → answer c q ≡ answer case′ q
 
-read-on : {c : Case} {s : Reader} (r : Record) {rs : List Record} → verdict (s .place) r ≡ Next → Readable c (next s r) rs
+read-on : {c : Case} {s : Reader} (r : Record) {rs : List Record} → judged (s .place) r ≡ Next → Readable c (nextReader s r) rs
     → Readable c s (r ∷ rs)
 unfolding linesText
 read-on r e t = record { case′ = t .case′; reads = goes r e (t .reads); size = t .size; agree = t .agree }
 
-all-below : (q : Ask) → Proper q → place q < 10065
+all-below : (q : Ask) → AskInRange q → place q < 10065
 all-below (zeroAt k) h = omega (arith, h .most)
 all-below (siteAt k) h = omega (arith, h .most)
 all-below (unitAt k) h = omega (arith, h .most)
@@ -99,7 +99,7 @@ read-end : {c : Case} {s : Reader} {p : ℕ} → Upto c s p 10065 → s .place .
 unfolding linesText
 read-end {c} {s} u l =
     record {
-      case′ = caseOf s;
+      case′ = caseSoFar s;
       reads = ends (accept (s .place) End (past-is (s .place) (u .stand .grid) l) refl refl);
       size = u .size;
       agree = λ q h. u .agree q h (all-below q h);
@@ -117,8 +117,8 @@ abbrev busOf : Case → ℕ → Record
 busOf c k = busRecord (setOf (c .zero)) (setOf (c .site)) k
 
 -- the answers at a bus's place are its class and its site
-bus-answer : (c : Case) (s : Reader) (p k : ℕ) → Upto c s p k → IsBus width k → (q : Ask) → Proper q → place q ≡ k →
-    answer c q ≡ answer (caseOf (next s (busOf c k))) q
+bus-answer : (c : Case) (s : Reader) (p k : ℕ) → Upto c s p k → IsBus width k → (q : Ask) → AskInRange q → place q ≡ k →
+    answer c q ≡ answer (caseSoFar (nextReader s (busOf c k))) q
 bus-answer c s p k u b (zeroAt j) h e =
     let f : j ≡ k = e in
     let t = has (setOf (c .zero)) k in
@@ -160,12 +160,13 @@ read-buses c rs (suc m) k s p u b l z on =
     let e = accept (s .place) r (lt-ltb (s .place .bus) (s .place .n) (omega arith)) (inside (s .place .n) k h i)
     (eq-eqb k (s .place .bus + 1) b) in
     read-on r e
-    (read-buses c rs m (k + 1) (next s r) k (take-next r u e refl (bus-answer c s p k u (record { some = h; most = j }))) refl (omega arith)
+    (read-buses c rs m (k + 1) (nextReader s r) k (take-next r u e refl (bus-answer c s p k u (record { some = h; most = j }))) refl
+    (omega arith)
     (record { unit = z .unit; a = z .a; b = z .b; lines = z .lines }) on)
 
 -- the answer at a unit's place is whether it stands there
-unit-answer : (c : Case) (s : Reader) (k : ℕ) → has (setOf (c .units)) k ≡ true → 1 ≤ k → (q : Ask) → Proper q → place q ≡ 10000 + k →
-    answer c q ≡ answer (caseOf (next s (Pmu k))) q
+unit-answer : (c : Case) (s : Reader) (k : ℕ) → has (setOf (c .units)) k ≡ true → 1 ≤ k → (q : Ask) → AskInRange q → place q ≡ 10000 + k →
+    answer c q ≡ answer (caseSoFar (nextReader s (Pmu k))) q
 unit-answer c s k t a (zeroAt j) h e = let m = h .most in absurd (omega arith)
 unit-answer c s k t a (siteAt j) h e = let m = h .most in absurd (omega arith)
 unit-answer c s k t a (unitAt j) h e =
@@ -174,7 +175,7 @@ unit-answer c s k t a (unitAt j) h e =
     ∙ ap (λ (x : ℕ). bit (setOf (hold (s .marks .units) k)) x) (sym f)
 unit-answer c s k t a (lineAt i j) h e = absurd (omega (arith, h .less, h .high))
 
-unit-none : (c : Case) (k : ℕ) → has (setOf (c .units)) k ≡ false → (q : Ask) → Proper q → 10000 + k ≤ place q → place q < 10000 + k + 1
+unit-none : (c : Case) (k : ℕ) → has (setOf (c .units)) k ≡ false → (q : Ask) → AskInRange q → 10000 + k ≤ place q → place q < 10000 + k + 1
     → answer c q ≡ 0
 unit-none c k t (zeroAt j) h a b = let m = h .most in absurd (omega arith)
 unit-none c k t (siteAt j) h a b = let m = h .most in absurd (omega arith)
@@ -190,7 +191,7 @@ unit-turn : (c : Case) (rs : List Record) (m k : ℕ) (s : Reader) (p : ℕ) (t 
     → Readable c s (cond t (Pmu k ∷ members Pmu (setOf (c .units)) (k + 1) m) (members Pmu (setOf (c .units)) (k + 1) m) ++ rs)
 unit-turn c rs m k s p true t u l z h i on =
     let e = accept (s .place) (Pmu k) (past-is (s .place) (u .stand .grid) l) (inside (s .place .n) k h i) (lt-ltb (s .place .unit) k z) in
-    read-on (Pmu k) e (on (next s (Pmu k)) (10000 + k) (take-next (Pmu k) u e refl (unit-answer c s k t h)) l (omega arith))
+    read-on (Pmu k) e (on (nextReader s (Pmu k)) (10000 + k) (take-next (Pmu k) u e refl (unit-answer c s k t h)) l (omega arith))
 unit-turn c rs m k s p false t u l z h i on = on s p (skip (10000 + k + 1) (omega arith) u (unit-none c k t)) l (omega arith)
 
 pub read-units : (c : Case) (rs : List Record) (m k : ℕ) (s : Reader) (p : ℕ) → Upto c s p (10000 + k) → s .place .n ≤ s .place .bus
@@ -218,8 +219,8 @@ above-is a b c d h k l =
     (below-or a c)
 
 line-answer : (c : Case) (s : Reader) (a b : ℕ) → length (s .rows) ≡ 64 → Pair a b → has (neighbours (c .nbr) a) b ≡ true → (q : Ask)
-    → Proper q → place q ≡ 1000 + (a * 128 + b)
-    → answer c q ≡ answer (caseOf (next s (Line a b))) q
+    → AskInRange q → place q ≡ 1000 + (a * 128 + b)
+    → answer c q ≡ answer (caseSoFar (nextReader s (Line a b))) q
 line-answer c s a b l y t (zeroAt j) h e = absurd (omega (arith, y .one))
 line-answer c s a b l y t (siteAt j) h e = absurd (omega (arith, y .one))
 line-answer c s a b l y t (unitAt j) h e = absurd (omega (arith, y .less, y .high))
@@ -229,9 +230,10 @@ line-answer c s a b l y t (lineAt i j) h e =
     let f : i ≡ a = omega arith in
     let g : j ≡ b = omega arith in
     ap₂ (λ (x z : ℕ). joined (c .nbr) x z) f g ∙ eqb-true _ 1 t ∙ sym (line-here (s .rows) a b l y)
-    ∙ ap₂ (λ (x z : ℕ). joined (next s (Line a b) .rows) x z) (sym f) (sym g)
+    ∙ ap₂ (λ (x z : ℕ). joined (nextReader s (Line a b) .rows) x z) (sym f) (sym g)
 
-line-none : (c : Case) (a b : ℕ) → Pair a b → has (neighbours (c .nbr) a) b ≡ false → (q : Ask) → Proper q → 1000 + (a * 128 + b) ≤ place q
+line-none : (c : Case) (a b : ℕ) → Pair a b → has (neighbours (c .nbr) a) b ≡ false → (q : Ask) → AskInRange q
+    → 1000 + (a * 128 + b) ≤ place q
     → place q < 1000 + (a * 128 + (b + 1)) → answer c q ≡ 0
 line-none c a b y t (zeroAt j) h k l = let m = h .most in absurd (omega arith)
 line-none c a b y t (siteAt j) h k l = let m = h .most in absurd (omega arith)
@@ -270,10 +272,10 @@ line-turn c ls rs a b s p true t y l g on =
     (rw (inside (s .place .n) a yo i, inside (s .place .n) b hb j, lt-ltb (s .place .lines) 256 (omega (arith, g .room))))
     (rw (lt-ltb a b yl, above-is (s .place .a) (s .place .b) a b lo (y .high) (g .below))) in
     let f : 1000 + (a * 128 + b) + 1 ≡ 1000 + (a * 128 + (b + 1)) = omega arith in
-    read-on (Line a b) e (on (next s (Line a b)) (1000 + (a * 128 + b))
+    read-on (Line a b) e (on (nextReader s (Line a b)) (1000 + (a * 128 + b))
     (record {
       upto =
-          subst (λ (w : ℕ). Upto c (next s (Line a b)) (1000 + (a * 128 + b)) w) f
+          subst (λ (w : ℕ). Upto c (nextReader s (Line a b)) (1000 + (a * 128 + b)) w) f
           (take-next (Line a b) u e refl (line-answer c s a b (u .stand .at .rows) y t));
       past = g .past;
       none = g .none;
@@ -325,10 +327,10 @@ pub record Writable (c : Case) : Type 0 where
   pub one : 1 ≤ c .n
   pub most : c .n ≤ 64
   pub few : length (lineRecords (neighbours (c .nbr)) 1 (c .n)) ≤ 256
-  pub above : (q : Ask) → Proper q → Above (c .n) q → answer c q ≡ 0
+  pub above : (q : Ask) → AskInRange q → Above (c .n) q → answer c q ≡ 0
 
 -- the places after row a and before row a + 1
-row-gap : (c : Case) (a : ℕ) → Writable c → a ≤ c .n → (q : Ask) → Proper q → 1000 + (a * 128 + (c .n + 1)) ≤ place q
+row-gap : (c : Case) (a : ℕ) → Writable c → a ≤ c .n → (q : Ask) → AskInRange q → 1000 + (a * 128 + (c .n + 1)) ≤ place q
     → place q < 1000 + ((a + 1) * 128 + (a + 1 + 1)) → answer c q ≡ 0
 row-gap c a w l (zeroAt k) h x y = let m = h .most in absurd (omega arith)
 row-gap c a w l (siteAt k) h x y = let m = h .most in absurd (omega arith)
@@ -357,26 +359,26 @@ read-lines c rs w (suc m) a s p h e g on =
     on)
 
 -- the places between the buses and the lines, the lines and the units, and after the units
-bus-gap : (c : Case) → Writable c → (q : Ask) → Proper q → c .n + 1 ≤ place q → place q < 1000 + (1 * 128 + (1 + 1)) → answer c q ≡ 0
+bus-gap : (c : Case) → Writable c → (q : Ask) → AskInRange q → c .n + 1 ≤ place q → place q < 1000 + (1 * 128 + (1 + 1)) → answer c q ≡ 0
 bus-gap c w (zeroAt k) h x y = w .above (zeroAt k) h (omega arith)
 bus-gap c w (siteAt k) h x y = w .above (siteAt k) h (omega arith)
 bus-gap c w (unitAt k) h x y = let m = h .most in absurd (omega arith)
 bus-gap c w (lineAt i j) h x y = let o = h .one in let l = h .less in absurd (omega arith)
 
-line-gap : (c : Case) → Writable c → (q : Ask) → Proper q → 1000 + ((c .n + 1) * 128 + (c .n + 1 + 1)) ≤ place q → place q < 10000 + 1
+line-gap : (c : Case) → Writable c → (q : Ask) → AskInRange q → 1000 + ((c .n + 1) * 128 + (c .n + 1 + 1)) ≤ place q → place q < 10000 + 1
     → answer c q ≡ 0
 line-gap c w (zeroAt k) h x y = let m = h .most in absurd (omega arith)
 line-gap c w (siteAt k) h x y = let m = h .most in absurd (omega arith)
 line-gap c w (unitAt k) h x y = let m = h .most in absurd (omega arith)
 line-gap c w (lineAt i j) h x y = let l = h .less in let k = h .high in w .above (lineAt i j) h (omega arith)
 
-unit-gap : (c : Case) → Writable c → (q : Ask) → Proper q → 10000 + (c .n + 1) ≤ place q → place q < 10065 → answer c q ≡ 0
+unit-gap : (c : Case) → Writable c → (q : Ask) → AskInRange q → 10000 + (c .n + 1) ≤ place q → place q < 10065 → answer c q ≡ 0
 unit-gap c w (zeroAt k) h x y = let m = h .most in absurd (omega arith)
 unit-gap c w (siteAt k) h x y = let m = h .most in absurd (omega arith)
 unit-gap c w (unitAt k) h x y = w .above (unitAt k) h (omega arith)
 unit-gap c w (lineAt i j) h x y = let l = h .less in let k = h .high in absurd (omega arith)
 
-no-place : (c : Case) (n : ℕ) (q : Ask) → Proper q → place q < 1 → answer c q ≡ answer (caseOf (next start (Grid n))) q
+no-place : (c : Case) (n : ℕ) (q : Ask) → AskInRange q → place q < 1 → answer c q ≡ answer (caseSoFar (nextReader start (Grid n))) q
 no-place c n (zeroAt k) h l = let m = h .some in absurd (omega arith)
 no-place c n (siteAt k) h l = let m = h .some in absurd (omega arith)
 no-place c n (unitAt k) h l = absurd (omega arith)
@@ -384,11 +386,11 @@ no-place c n (lineAt i j) h l = absurd (omega arith)
 
 pub readable : (c : Case) → Writable c → Readable c start (records c)
 readable c w =
-    let e : verdict (start .place) (Grid (c .n)) ≡ Next =
+    let e : judged (start .place) (Grid (c .n)) ≡ Next =
     accept (start .place) (Grid (c .n)) refl (inside 64 (c .n) (w .one) (w .most)) refl in
     let k = w .most in
     read-on (Grid (c .n)) e
-    (read-buses c _ (c .n) 1 (next start (Grid (c .n))) 0
+    (read-buses c _ (c .n) 1 (nextReader start (Grid (c .n))) 0
     (record { stand = first-stand (c .n) e; low = omega arith; size = refl; agree = no-place c (c .n) })
     refl (omega arith) (record { unit = refl; a = refl; b = refl; lines = refl })
     (λ s p u b z. let n = u .size in

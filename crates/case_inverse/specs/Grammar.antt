@@ -6,12 +6,12 @@ use Rattle.case_line.specs.Record.{recordText}
 use Rattle.case_line.specs.declared.Record.{Record}
 use Rattle.case_line.specs.declared.Record.the-variants.{End}
 use Rattle.grid.specs.declared.Case.{Case}
-use Rattle.case_judge.specs.Judging.{verdict}
-use Rattle.case_read.specs.Reading.{Reader, caseOf, next}
-use Rattle.case_judge.specs.declared.Verdict.the-variants.{Next, Last}
+use Rattle.case_judge.specs.Judging.{judged}
+use Rattle.case_read.specs.Reading.{Reader, caseSoFar, nextReader}
+use Rattle.case_judge.specs.declared.Judgement.the-variants.{Next, Last}
 
 -- from where s stands, the text is read as the case c
-pub data Reads : Reader → List ℕ → Case → Type 0 where
-  ends : {s : Reader} → verdict (s .place) End ≡ Last → Reads s (recordText End ++ 10 ∷ []) (caseOf s)
-  goes : {s : Reader} (r : Record) {x : List ℕ} {c : Case} → verdict (s .place) r ≡ Next → Reads (next s r) x c
-      → Reads s (recordText r ++ 10 ∷ x) c
+pub data ReadsAs : Reader → List ℕ → Case → Type 0 where
+  ends : {s : Reader} → judged (s .place) End ≡ Last → ReadsAs s (recordText End ++ 10 ∷ []) (caseSoFar s)
+  goes : {s : Reader} (r : Record) {x : List ℕ} {c : Case} → judged (s .place) r ≡ Next → ReadsAs (nextReader s r) x c
+      → ReadsAs s (recordText r ++ 10 ∷ x) c

@@ -13,10 +13,10 @@ use Rattle.text_field.proofs.Tested.{both}
 use Rattle.case_line.specs.declared.Record.{Record}
 use Rattle.case_line.specs.declared.Record.the-variants.{Grid, Bus, Line, Pmu, End, Wrong}
 use Rattle.grid.specs.Cases.{mostBuses, mostLines}
-use Rattle.case_judge.specs.Judging.{isBus, inPlace, inRange, inOrder, accepted, verdict, nextPlace, Fit}
+use Rattle.case_judge.specs.Judging.{isBus, inPlace, inRange, inOrder, nextOrLast, judged, nextPlace, Fit}
 use Rattle.case_judge.specs.declared.Place.{Place}
-use Rattle.case_judge.specs.declared.Verdict.{Verdict}
-use Rattle.case_judge.specs.declared.Verdict.the-variants.{Next, Last, Form, Range, Order}
+use Rattle.case_judge.specs.declared.Judgement.{Judgement}
+use Rattle.case_judge.specs.declared.Judgement.the-variants.{Next, Last, Form, Range, Order}
 
 -- ---- the next bus
 
@@ -32,44 +32,48 @@ next-some k last n = go (eqb (k - 1) last) refl
 
 -- ---- three tests passed
 
-pub record Accepted (s : Place) (r : Record) : Type 0 where
+pub record TestsPassed (s : Place) (r : Record) : Type 0 where
   pub place : inPlace s r ≡ true
   pub range : inRange s r ≡ true
   pub order : inOrder s r ≡ true
 
--- a verdict that is none of the refusals comes of three tests passed
-passed : (p q o : Bool) {v w : Verdict} → cond p (cond q (cond o v Order) Range) Form ≡ w →
+-- a judgement that is none of the refusals comes of three tests passed
+passed : (p q o : Bool) {v w : Judgement} → cond p (cond q (cond o v Order) Range) Form ≡ w →
     (Form ≡ w → ⊥) → (Range ≡ w → ⊥) → (Order ≡ w → ⊥) → (p ≡ true) × (q ≡ true) × (o ≡ true) × (v ≡ w)
 passed true true true e f r o = (refl, refl, refl, e)
 passed true true false e f r o = absurd (o e)
 passed true false q e f r o = absurd (r e)
 passed false p q e f r o = absurd (f e)
 
-pub apart : {A : Type 0} → _≡_ {A = ℕ} 0 1 → A
-apart e = absurd (omega arith)
+pub not-one : {A : Type 0} → _≡_ {A = ℕ} 0 1 → A
+not-one e = absurd (omega arith)
 
 module _ (s : Place) (r : Record) where
-  pub last-of : verdict s r ≡ Last → accepted r ≡ Last
-  unfolding verdict
-  last-of e = passed (inPlace s r) (inRange s r) (inOrder s r) {v = accepted r} e (λ z. apart (cc)) (λ z. apart (cc)) (λ z. apart (cc)) .3
+  pub last-of : judged s r ≡ Last → nextOrLast r ≡ Last
+  unfolding judged
+  last-of e =
+      passed (inPlace s r) (inRange s r) (inOrder s r) {v = nextOrLast r} e (λ z. not-one (cc)) (λ z. not-one (cc)) (λ z. not-one (cc)) .3
 
-  pub last-place : verdict s r ≡ Last → inPlace s r ≡ true
-  unfolding verdict
+  pub last-place : judged s r ≡ Last → inPlace s r ≡ true
+  unfolding judged
   last-place e =
-      passed (inPlace s r) (inRange s r) (inOrder s r) {v = accepted r} e (λ z. apart (cc)) (λ z. apart (cc)) (λ z. apart (cc)) .0
+      passed (inPlace s r) (inRange s r) (inOrder s r) {v = nextOrLast r} e (λ z. not-one (cc)) (λ z. not-one (cc)) (λ z. not-one (cc)) .0
 
-  pub goes-of : verdict s r ≡ Next → accepted r ≡ Next
-  unfolding verdict
-  goes-of e = passed (inPlace s r) (inRange s r) (inOrder s r) {v = accepted r} e (λ z. apart (cc)) (λ z. apart (cc)) (λ z. apart (cc)) .3
+  pub goes-of : judged s r ≡ Next → nextOrLast r ≡ Next
+  unfolding judged
+  goes-of e =
+      passed (inPlace s r) (inRange s r) (inOrder s r) {v = nextOrLast r} e (λ z. not-one (cc)) (λ z. not-one (cc)) (λ z. not-one (cc)) .3
 
-  pub accepted-of : verdict s r ≡ Next → Accepted s r
-  unfolding verdict
+  pub accepted-of : judged s r ≡ Next → TestsPassed s r
+  unfolding judged
   accepted-of e =
-      let p = passed (inPlace s r) (inRange s r) (inOrder s r) {v = accepted r} e (λ z. apart (cc)) (λ z. apart (cc)) (λ z. apart (cc)) in
+      let p =
+      passed (inPlace s r) (inRange s r) (inOrder s r) {v = nextOrLast r} e (λ z. not-one (cc)) (λ z. not-one (cc))
+      (λ z. not-one (cc)) in
       record { place = p .0; range = p .1; order = p .2 }
 
-  pub accept : inPlace s r ≡ true → inRange s r ≡ true → inOrder s r ≡ true → verdict s r ≡ accepted r
-  unfolding verdict
+  pub accept : inPlace s r ≡ true → inRange s r ≡ true → inOrder s r ≡ true → judged s r ≡ nextOrLast r
+  unfolding judged
   accept p q o = rw (p, q, o)
 
 -- ---- the numbers of an accepted record
@@ -107,7 +111,7 @@ fit s (Pmu p) h e = bounded (s .n) p h e
 fit s End h e = tt
 fit s Wrong h e = tt
 
-pub fit-of : (s : Place) (r : Record) → s .n ≤ mostBuses → verdict s r ≡ Next → Fit s r
+pub fit-of : (s : Place) (r : Record) → s .n ≤ mostBuses → judged s r ≡ Next → Fit s r
 fit-of s r h e = fit s r h (accepted-of s r e .range)
 
 -- what fits, in the arm of a record
@@ -129,5 +133,5 @@ small s (Pmu p) h e = h
 small s End h e = h
 small s Wrong h e = h
 
-pub small-of : (s : Place) (r : Record) → s .n ≤ mostBuses → verdict s r ≡ Next → nextPlace s r .n ≤ mostBuses
+pub small-of : (s : Place) (r : Record) → s .n ≤ mostBuses → judged s r ≡ Next → nextPlace s r .n ≤ mostBuses
 small-of s r h e = small s r h (accepted-of s r e .range)

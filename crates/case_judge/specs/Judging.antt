@@ -7,8 +7,8 @@ use Rattle.case_line.specs.declared.Record.{Record}
 use Rattle.case_line.specs.declared.Record.the-variants.{Grid, Bus, Line, Pmu, End, Wrong}
 use Rattle.grid.specs.Cases.{mostBuses, mostLines}
 use Rattle.case_judge.specs.declared.Place.{Place}
-use Rattle.case_judge.specs.declared.Verdict.{Verdict}
-use Rattle.case_judge.specs.declared.Verdict.the-variants.{Next, Last, Form, Range, Order}
+use Rattle.case_judge.specs.declared.Judgement.{Judgement}
+use Rattle.case_judge.specs.declared.Judgement.the-variants.{Next, Last, Form, Range, Order}
 
 -- k is a number from 1 to n
 unfoldable pub isBus : ℕ → ℕ → Bool
@@ -50,20 +50,20 @@ inOrder s End = true
 inOrder s Wrong = true
 
 -- an accepted record is the next, or the last
-abbrev pub accepted : Record → Verdict
-accepted (Grid n) = Next
-accepted (Bus k zero site) = Next
-accepted (Line a b) = Next
-accepted (Pmu p) = Next
-accepted End = Last
-accepted Wrong = Next
+abbrev pub nextOrLast : Record → Judgement
+nextOrLast (Grid n) = Next
+nextOrLast (Bus k zero site) = Next
+nextOrLast (Line a b) = Next
+nextOrLast (Pmu p) = Next
+nextOrLast End = Last
+nextOrLast Wrong = Next
 
 -- 2 before 3 before 4
-unfoldable pub verdict : Place → Record → Verdict
-verdict s r =
+unfoldable pub judged : Place → Record → Judgement
+judged s r =
     cond (inPlace s r)
     (cond (inRange s r)
-    (cond (inOrder s r) (accepted r) Order)
+    (cond (inOrder s r) (nextOrLast r) Order)
     Range)
     Form
 
@@ -76,7 +76,7 @@ nextPlace s (Pmu p) = record { n = s .n; bus = s .bus; a = s .a; b = s .b; lines
 nextPlace s End = s
 nextPlace s Wrong = s
 
--- what a verdict of `Next` gives: a record's numbers are buses, and one line more is not too many
+-- what the judgement `Next` gives: a record's numbers are buses, and one line more is not too many
 abbrev pub Fit : Place → Record → Type 0
 Fit s (Grid n) = Unit {0}
 Fit s (Bus k zero site) = IsBus width k

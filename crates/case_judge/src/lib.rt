@@ -4,7 +4,7 @@ ghost use mathlib.Core.Bool.{_&&_};
 ghost use Prim.Native.Nat.{_+_};
 ghost use lib.Dec.{eqb, ltb};
 ghost use Rattle.case_judge.specs.Judging.{isAfter, pastBuses, inPlace, inRange, inOrder};
-ghost use Rattle.case_judge.specs.Judging.{accepted, verdict, nextPlace, Fit};
+ghost use Rattle.case_judge.specs.Judging.{nextOrLast, judged, nextPlace, Fit};
 use busset::is_bus;
 use case_line::Record;
 
@@ -19,7 +19,7 @@ pub struct Place {
 }
 
 // What a record is where the reader stands: the next, the last, or refused.
-pub enum Verdict {
+pub enum Judgement {
     Next,
     Last,
     Form,
@@ -123,34 +123,34 @@ fn in_order(s: Place, r: Record) -> bool
     }
 }
 
-fn accepts(r: Record) -> Verdict
-    ensures { λ v. ⌜ v ≡ accepted r ⌝ }
+fn accepts(r: Record) -> Judgement
+    ensures { λ v. ⌜ v ≡ nextOrLast r ⌝ }
 {
     match r {
-        Record::Grid(_) => Verdict::Next,
+        Record::Grid(_) => Judgement::Next,
         Record::Bus {
             number: _,
             zero: _,
             site: _,
-        } => Verdict::Next,
-        Record::Line(_, _) => Verdict::Next,
-        Record::Pmu(_) => Verdict::Next,
-        Record::End => Verdict::Last,
-        Record::Wrong => Verdict::Next,
+        } => Judgement::Next,
+        Record::Line(_, _) => Judgement::Next,
+        Record::Pmu(_) => Judgement::Next,
+        Record::End => Judgement::Last,
+        Record::Wrong => Judgement::Next,
     }
 }
 
-pub fn judge(s: Place, r: Record) -> Verdict
-    ensures { λ v. ⌜ v ≡ verdict s r ⌝ }
+pub fn judge(s: Place, r: Record) -> Judgement
+    ensures { λ v. ⌜ v ≡ judged s r ⌝ }
 {
     if !in_place(s, r) {
-        return Verdict::Form;
+        return Judgement::Form;
     }
     if !in_range(s, r) {
-        return Verdict::Range;
+        return Judgement::Range;
     }
     if !in_order(s, r) {
-        return Verdict::Order;
+        return Judgement::Order;
     }
     accepts(r)
 }

@@ -7,11 +7,11 @@ use native.Mathlib.Omega.{arith}
 use borrow.Author.Tests.{eq-eqb, ne-eqb}
 use lib.ListN.{length, getD}
 use Rattle.text_field.specs.Split.{split, part, after, PieceEnd}
-use Rattle.text_field.specs.Number.{numberOf}
+use Rattle.text_field.specs.Number.{numeralOf}
 use Rattle.text_field.specs.declared.Numeral.{Numeral}
 use Rattle.text_field.proofs.Cutting.{after-none, after-some, after-next}
-use Rattle.case_line.specs.Fields.{markOf, classOf, one, none, oneSite}
-use Rattle.case_line.specs.Record.{busOf, busFields}
+use Rattle.case_line.specs.Fields.{markOf, classOf, ifOneField, ifNoField, oneSite}
+use Rattle.case_line.specs.Record.{busRecordOf, busFields}
 use Rattle.case_line.specs.declared.Record.{Record}
 use Rattle.case_line.specs.declared.Record.the-variants.{Wrong}
 use Rattle.case_line.specs.declared.Mark.{Mark}
@@ -57,26 +57,26 @@ module _ {A : Type 0} (f : List (List ℕ) → A) where
   by-next h p i = i ∙ sym (ap f (after-next h p))
 
 module _ {A : Type 0} (w : A) (g : List ℕ → A) where
-  pub one-none : (s : List ℕ) (e : ℕ) → length s ≤ e → w ≡ one w g (after 9 s e)
-  unfolding one
-  one-none s e h = by-none (one w g) s e h
+  pub one-none : (s : List ℕ) (e : ℕ) → length s ≤ e → w ≡ ifOneField w g (after 9 s e)
+  unfolding ifOneField
+  one-none s e h = by-none (ifOneField w g) s e h
 
-  pub one-more : {s : List ℕ} {a e : ℕ} → a < length s → PieceEnd 9 s (a + 1) e → e < length s → w ≡ one w g (after 9 s a)
-  unfolding one
+  pub one-more : {s : List ℕ} {a e : ℕ} → a < length s → PieceEnd 9 s (a + 1) e → e < length s → w ≡ ifOneField w g (after 9 s a)
+  unfolding ifOneField
   one-more {s} {a} {e} h p l = sym (rw (after-next h p, after-some 9 s e l))
 
   pub one-is : {s : List ℕ} {a e : ℕ} {r : A} → a < length s → PieceEnd 9 s (a + 1) e → length s ≤ e → r ≡ g (part s (a + 1) e)
-      → r ≡ one w g (after 9 s a)
-  unfolding one
+      → r ≡ ifOneField w g (after 9 s a)
+  unfolding ifOneField
   one-is {s} {a} {e} h p l i = i ∙ sym (rw (after-next h p, after-none 9 s e l))
 
 module _ {A : Type 0} (w v : A) where
-  pub none-is : (s : List ℕ) (e : ℕ) → length s ≤ e → v ≡ none w v (after 9 s e)
-  unfolding none
-  none-is s e h = by-none (none w v) s e h
+  pub none-is : (s : List ℕ) (e : ℕ) → length s ≤ e → v ≡ ifNoField w v (after 9 s e)
+  unfolding ifNoField
+  none-is s e h = by-none (ifNoField w v) s e h
 
-  pub none-more : (s : List ℕ) (e : ℕ) → e < length s → w ≡ none w v (after 9 s e)
-  unfolding none
+  pub none-more : (s : List ℕ) (e : ℕ) → e < length s → w ≡ ifNoField w v (after 9 s e)
+  unfolding ifNoField
   none-more s e h = rw (after-some 9 s e h)
 
 pub bus-one : {s : List ℕ} {a e : ℕ} → a < length s → PieceEnd 9 s (a + 1) e → length s ≤ e → Wrong ≡ busFields (after 9 s a)
@@ -85,7 +85,7 @@ bus-one {s} {a} {e} h p l = sym (rw (after-next h p, after-none 9 s e l))
 
 pub bus-is : {s : List ℕ} {a e d : ℕ} {n : Numeral} {x y : Mark} {r : Record} → a < length s → PieceEnd 9 s (a + 1) e → e < length s
     → PieceEnd 9 s (e + 1) d
-    → n ≡ numberOf (part s (a + 1) e) → x ≡ classOf (part s (e + 1) d) → y ≡ oneSite (after 9 s d) → r ≡ busOf n x y
+    → n ≡ numeralOf (part s (a + 1) e) → x ≡ classOf (part s (e + 1) d) → y ≡ oneSite (after 9 s d) → r ≡ busRecordOf n x y
     → r ≡ busFields (after 9 s a)
 unfolding busFields
 bus-is h p l q i j k m = rw (after-next h p, after-next l q, ← i, ← j, ← k) m

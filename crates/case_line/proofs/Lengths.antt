@@ -6,11 +6,11 @@ use native.Mathlib.Omega.{arith}
 use lib.ListN.{length, length-append}
 use Rattle.text_field.specs.Split.{join}
 use Rattle.text_field.proofs.Digits.{text-length}
-use Rattle.case_line.specs.Record.{letter, recordText}
+use Rattle.case_line.specs.Record.{letterIf, recordText}
 use Rattle.case_line.specs.declared.Record.{Record}
 use Rattle.case_line.specs.declared.Record.the-variants.{Grid, Bus, Line, Pmu, End, Wrong}
 
-pub letter-length : (t : Bool) (p q : ℕ) → length (letter t p q) ≡ 1
+pub letter-length : (t : Bool) (p q : ℕ) → length (letterIf t p q) ≡ 1
 letter-length true p q = refl
 letter-length false p q = refl
 

@@ -8,14 +8,14 @@ use native.Mathlib.Omega.{arith}
 use lib.Dec.{eqb}
 use borrow.Author.Tests.{eqb-true}
 use Rattle.text_field.specs.Split.{split, join, same, bytes}
-use Rattle.text_field.specs.Number.{numberOf}
+use Rattle.text_field.specs.Number.{numeralOf}
 use Rattle.text_field.specs.declared.Numeral.{Numeral}
 use Rattle.text_field.specs.declared.Numeral.the-variants.{Is, Wrong as NoNumber}
-use Rattle.text_field.proofs.Cutting.{Free, AllFree, same-is, split-join, join-split, free-join}
+use Rattle.text_field.proofs.Cutting.{FreeOf, AllFree, same-is, split-join, join-split, free-join}
 use Rattle.text_field.proofs.Digits.{read-number, written-number, number-free}
-use Rattle.case_line.specs.Fields.{markOf, classOf, siteOf, one, none}
-use Rattle.case_line.specs.Record.{wordOf, gridOf, pmuOf, lineOf, busOf, lineFields, busFields, byWord}
-use Rattle.case_line.specs.Record.{recordOf, letter, wordText, fieldTexts, recordText, Formed}
+use Rattle.case_line.specs.Fields.{markOf, classOf, siteOf, ifOneField, ifNoField}
+use Rattle.case_line.specs.Record.{recordWordOf, gridRecordOf, pmuRecordOf, lineRecordOf, busRecordOf, lineFields, busFields, byWord}
+use Rattle.case_line.specs.Record.{recordOf, letterIf, wordText, fieldTexts, recordText, Formed}
 use Rattle.case_line.specs.declared.Record.{Record}
 use Rattle.case_line.specs.declared.Record.the-variants.{Grid, Bus, Line, Pmu, End, Wrong}
 use Rattle.case_line.specs.declared.Word.{Word}
@@ -26,12 +26,12 @@ use Rattle.case_line.specs.declared.Mark.the-variants.{Is as Letter, Nei
 
 -- ---- written, then read
 
-letter-free : (c p q : ℕ) (t : Bool) → (p ≡ c → ⊥) → (q ≡ c → ⊥) → Free c (letter t p q)
+letter-free : (c p q : ℕ) (t : Bool) → (p ≡ c → ⊥) → (q ≡ c → ⊥) → FreeOf c (letterIf t p q)
 letter-free c p q true f g = (f, tt)
 letter-free c p q false f g = (g, tt)
 
 -- neither a tab nor a line feed stands in a word or a field
-pub word-free : (c : ℕ) (r : Record) → c < 48 → Free c (wordText r)
+pub word-free : (c : ℕ) (r : Record) → c < 48 → FreeOf c (wordText r)
 word-free c (Grid n) h = ((λ e. omega arith), ((λ e. omega arith), ((λ e. omega arith), ((λ e. omega arith), tt))))
 word-free c (Bus n z o) h = ((λ e. omega arith), ((λ e. omega arith), ((λ e. omega arith), tt)))
 word-free c (Line a b) h = ((λ e. omega arith), ((λ e. omega arith), ((λ e. omega arith), ((λ e. omega arith), tt))))
@@ -53,8 +53,8 @@ fields-free c (Pmu n) h f = (number-free c n h f, tt)
 fields-free c End h f = tt
 fields-free c Wrong h f = tt
 
-read-fields : (r : Record) → Formed r → byWord (wordOf (wordText r)) (fieldTexts r) ≡ r
-unfolding wordOf same one none lineFields busFields markOf
+read-fields : (r : Record) → Formed r → byWord (recordWordOf (wordText r)) (fieldTexts r) ≡ r
+unfolding recordWordOf same ifOneField ifNoField lineFields busFields markOf
 read-fields (Grid n) f = rw (read-number n f)
 read-fields (Bus n true true) f = rw (read-number n f)
 read-fields (Bus n true false) f = rw (read-number n f)
@@ -88,8 +88,8 @@ choose : (b : Bool) (w : List ℕ) (v u : Word) → (b ≡ true → word-spelt w
 choose true w v u f g = f refl
 choose false w v u f g = g
 
-word-told : (w : List ℕ) → word-spelt w (wordOf w)
-unfolding wordOf word-spelt
+word-told : (w : List ℕ) → word-spelt w (recordWordOf w)
+unfolding recordWordOf word-spelt
 word-told w =
     choose (same w (bytes "grid")) w GridWord _ (same-is w _)
     (choose (same w (bytes "bus")) w BusWord _ (same-is w _)
@@ -97,27 +97,28 @@ word-told w =
     (choose (same w (bytes "pmu")) w PmuWord _ (same-is w _)
     (choose (same w (bytes "end")) w EndWord _ (same-is w _) tt))))
 
-mark-told : (p q : ℕ) (f : List ℕ) (t : Bool) → markOf p q f ≡ Letter t → letter t p q ≡ f
+mark-told : (p q : ℕ) (f : List ℕ) (t : Bool) → markOf p q f ≡ Letter t → letterIf t p q ≡ f
 unfolding markOf
 mark-told p q [] t e = let z : _≡_ {A = ℕ} 0 1 = cc in absurd (omega arith)
 mark-told p q (b ∷ []) t e = first (eqb b p) (eqb b q) (eqb-true b p) (eqb-true b q) e
   where
     first : (x y : Bool) → (x ≡ true → b ≡ p) → (y ≡ true → b ≡ q) → cond x (Letter true) (cond y (Letter false) Neither) ≡ Letter t
-        → letter t p q ≡ b ∷ []
+        → letterIf t p q ≡ b ∷ []
     first true y f g e = let h : true ≡ t = cc in rw (← h) (ap (λ (x : ℕ). x ∷ []) (sym (f refl)))
     first false true f g e = let h : false ≡ t = cc in rw (← h) (ap (λ (x : ℕ). x ∷ []) (sym (g refl)))
     first false false f g e = let z : _≡_ {A = ℕ} 0 1 = cc in absurd (omega arith)
 mark-told p q (b ∷ c ∷ f) t e = let z : _≡_ {A = ℕ} 0 1 = cc in absurd (omega arith)
 
-grid-spells : (w f : List ℕ) (x : Numeral) → w ≡ bytes "grid" → numberOf f ≡ x → Spells (gridOf x) w (f ∷ [])
+grid-spells : (w f : List ℕ) (x : Numeral) → w ≡ bytes "grid" → numeralOf f ≡ x → Spells (gridRecordOf x) w (f ∷ [])
 grid-spells w f (Is n) e h = let t = written-number f n h in inr (t .small, sym e, ap (λ (x : List ℕ). x ∷ []) (t .text))
 grid-spells w f NoNumber e h = inl refl
 
-pmu-spells : (w f : List ℕ) (x : Numeral) → w ≡ bytes "pmu" → numberOf f ≡ x → Spells (pmuOf x) w (f ∷ [])
+pmu-spells : (w f : List ℕ) (x : Numeral) → w ≡ bytes "pmu" → numeralOf f ≡ x → Spells (pmuRecordOf x) w (f ∷ [])
 pmu-spells w f (Is n) e h = let t = written-number f n h in inr (t .small, sym e, ap (λ (x : List ℕ). x ∷ []) (t .text))
 pmu-spells w f NoNumber e h = inl refl
 
-line-spells : (w f g : List ℕ) (x y : Numeral) → w ≡ bytes "line" → numberOf f ≡ x → numberOf g ≡ y → Spells (lineOf x y) w (f ∷ g ∷ [])
+line-spells : (w f g : List ℕ) (x y : Numeral) → w ≡ bytes "line" → numeralOf f ≡ x → numeralOf g ≡ y
+    → Spells (lineRecordOf x y) w (f ∷ g ∷ [])
 line-spells w f g (Is a) (Is b) e h i =
     let s = written-number f a h in
     let t = written-number g b i in
@@ -125,8 +126,8 @@ line-spells w f g (Is a) (Is b) e h i =
 line-spells w f g (Is a) NoNumber e h i = inl refl
 line-spells w f g NoNumber y e h i = inl refl
 
-bus-spells : (w f g h : List ℕ) (x : Numeral) (c s : Mark) → w ≡ bytes "bus" → numberOf f ≡ x → classOf g ≡ c → siteOf h ≡ s
-    → Spells (busOf x c s) w (f ∷ g ∷ h ∷ [])
+bus-spells : (w f g h : List ℕ) (x : Numeral) (c s : Mark) → w ≡ bytes "bus" → numeralOf f ≡ x → classOf g ≡ c → siteOf h ≡ s
+    → Spells (busRecordOf x c s) w (f ∷ g ∷ h ∷ [])
 bus-spells w f g h (Is n) (Letter z) (Letter o) e i j k =
     let t = written-number f n i in
     let u = mark-told 90 73 g z j in
@@ -136,31 +137,31 @@ bus-spells w f g h (Is n) (Letter z) Neither e i j k = inl refl
 bus-spells w f g h (Is n) Neither s e i j k = inl refl
 bus-spells w f g h NoNumber c s e i j k = inl refl
 
-bus-neither : (x : Numeral) (c : Mark) → busOf x c Neither ≡ Wrong
+bus-neither : (x : Numeral) (c : Mark) → busRecordOf x c Neither ≡ Wrong
 bus-neither (Is n) (Letter z) = refl
 bus-neither (Is n) Neither = refl
 bus-neither NoNumber c = refl
 
-line-neither : (x : Numeral) → lineOf x NoNumber ≡ Wrong
+line-neither : (x : Numeral) → lineRecordOf x NoNumber ≡ Wrong
 line-neither (Is n) = refl
 line-neither NoNumber = refl
 
 spells : (w : List ℕ) (v : Word) (fs : List (List ℕ)) → word-spelt w v → Spells (byWord v fs) w fs
-unfolding word-spelt one none lineFields busFields
+unfolding word-spelt ifOneField ifNoField lineFields busFields
 spells w GridWord [] e = inl refl
-spells w GridWord (f ∷ []) e = grid-spells w f (numberOf f) e refl
+spells w GridWord (f ∷ []) e = grid-spells w f (numeralOf f) e refl
 spells w GridWord (f ∷ g ∷ fs) e = inl refl
 spells w BusWord [] e = inl refl
 spells w BusWord (f ∷ []) e = inl refl
-spells w BusWord (f ∷ g ∷ []) e = inl (bus-neither (numberOf f) (classOf g))
-spells w BusWord (f ∷ g ∷ h ∷ []) e = bus-spells w f g h (numberOf f) (classOf g) (siteOf h) e refl refl refl
-spells w BusWord (f ∷ g ∷ h ∷ i ∷ fs) e = inl (bus-neither (numberOf f) (classOf g))
+spells w BusWord (f ∷ g ∷ []) e = inl (bus-neither (numeralOf f) (classOf g))
+spells w BusWord (f ∷ g ∷ h ∷ []) e = bus-spells w f g h (numeralOf f) (classOf g) (siteOf h) e refl refl refl
+spells w BusWord (f ∷ g ∷ h ∷ i ∷ fs) e = inl (bus-neither (numeralOf f) (classOf g))
 spells w LineWord [] e = inl refl
-spells w LineWord (f ∷ []) e = inl (line-neither (numberOf f))
-spells w LineWord (f ∷ g ∷ []) e = line-spells w f g (numberOf f) (numberOf g) e refl refl
-spells w LineWord (f ∷ g ∷ h ∷ fs) e = inl (line-neither (numberOf f))
+spells w LineWord (f ∷ []) e = inl (line-neither (numeralOf f))
+spells w LineWord (f ∷ g ∷ []) e = line-spells w f g (numeralOf f) (numeralOf g) e refl refl
+spells w LineWord (f ∷ g ∷ h ∷ fs) e = inl (line-neither (numeralOf f))
 spells w PmuWord [] e = inl refl
-spells w PmuWord (f ∷ []) e = pmu-spells w f (numberOf f) e refl
+spells w PmuWord (f ∷ []) e = pmu-spells w f (numeralOf f) e refl
 spells w PmuWord (f ∷ g ∷ fs) e = inl refl
 spells w EndWord [] e = inr (tt, sym e, refl)
 spells w EndWord (f ∷ fs) e = inl refl
@@ -177,13 +178,14 @@ spelt l n =
     let w = split 9 l .first in
     let fs = split 9 l .rest in
     ⊎-elim
-    (λ (e : byWord (wordOf w) fs ≡ Wrong). absurd (n e))
-    (λ (s : Formed (byWord (wordOf w) fs) × (wordText (byWord (wordOf w) fs) ≡ w) × (fieldTexts (byWord (wordOf w) fs) ≡ fs)).
+    (λ (e : byWord (recordWordOf w) fs ≡ Wrong). absurd (n e))
+    (λ (s : Formed (byWord (recordWordOf w) fs) × (wordText (byWord (recordWordOf w) fs) ≡ w)
+    × (fieldTexts (byWord (recordWordOf w) fs) ≡ fs)).
     record { formed = s .0; text = ap₂ (join 9) (s .1) (s .2) ∙ join-split 9 l })
-    (spells w (wordOf w) fs (word-told w))
+    (spells w (recordWordOf w) fs (word-told w))
 
 -- no line feed stands in a record's text
-pub text-free : (r : Record) → Formed r → Free 10 (recordText r)
+pub text-free : (r : Record) → Formed r → FreeOf 10 (recordText r)
 unfolding recordText
 text-free r f =
     free-join 10 9 (wordText r) (fieldTexts r) (λ e. omega arith) (word-free 10 r (omega arith)) (fields-free 10 r (omega arith) f)

@@ -3,7 +3,7 @@ use mathlib.Core.Bool.{true, false, cond}
 use mathlib.Core.List.{List, [], _∷_}
 use Prim.Native.Nat.{ℕ}
 use lib.Dec.{eqb}
-use Rattle.text_field.specs.Number.{numberOf}
+use Rattle.text_field.specs.Number.{numeralOf}
 use Rattle.text_field.specs.declared.Numeral.{Numeral}
 use Rattle.text_field.specs.declared.Numeral.the-variants.{Wrong as NoNumber}
 use Rattle.case_line.specs.declared.Mark.{Mark}
@@ -37,20 +37,20 @@ abbrev pub siteOf : List ℕ → Mark
 siteOf = markOf letterY letterN
 
 -- the value of the one field that there is, or w where there are none or more
-unfoldable pub one : {A : Type 0} → A → (List ℕ → A) → List (List ℕ) → A
-one w g [] = w
-one w g (f ∷ []) = g f
-one w g (f ∷ h ∷ fs) = w
+unfoldable pub ifOneField : {A : Type 0} → A → (List ℕ → A) → List (List ℕ) → A
+ifOneField w g [] = w
+ifOneField w g (f ∷ []) = g f
+ifOneField w g (f ∷ h ∷ fs) = w
 
 -- the value v where there is no field, or w
-unfoldable pub none : {A : Type 0} → A → A → List (List ℕ) → A
-none w v [] = v
-none w v (f ∷ fs) = w
+unfoldable pub ifNoField : {A : Type 0} → A → A → List (List ℕ) → A
+ifNoField w v [] = v
+ifNoField w v (f ∷ fs) = w
 
 -- one field, a number
 abbrev pub oneNumber : List (List ℕ) → Numeral
-oneNumber = one NoNumber numberOf
+oneNumber = ifOneField NoNumber numeralOf
 
 -- one field, a site
 abbrev pub oneSite : List (List ℕ) → Mark
-oneSite = one Neither siteOf
+oneSite = ifOneField Neither siteOf

@@ -3,10 +3,10 @@ use mathlib.Core.Bool.{Bool, cond}
 use mathlib.Core.List.{List, [], _∷_}
 use Prim.Native.Nat.{ℕ, _<_}
 use Rattle.text_field.specs.Split.{split, join, same, bytes, tab}
-use Rattle.text_field.specs.Number.{numberOf, numberText}
+use Rattle.text_field.specs.Number.{numeralOf, numberText}
 use Rattle.text_field.specs.declared.Numeral.{Numeral}
 use Rattle.text_field.specs.declared.Numeral.the-variants.{Is, Wrong as NoNumber}
-use Rattle.case_line.specs.Fields.{letterZ, letterI, letterY, letterN, classOf, none, oneNumber, oneSite}
+use Rattle.case_line.specs.Fields.{letterZ, letterI, letterY, letterN, classOf, ifNoField, oneNumber, oneSite}
 use Rattle.case_line.specs.declared.Record.{Record}
 use Rattle.case_line.specs.declared.Record.the-variants.{Grid, Bus, Line, Pmu, End, Wrong}
 use Rattle.case_line.specs.declared.Word.{Word}
@@ -16,8 +16,8 @@ use Rattle.case_line.specs.declared.Mark.{Mark}
 use Rattle.case_line.specs.declared.Mark.the-variants.{Is as Letter, Neither}
 
 -- the word that a field is
-unfoldable pub wordOf : List ℕ → Word
-wordOf f =
+unfoldable pub recordWordOf : List ℕ → Word
+recordWordOf f =
     cond (same f (bytes "grid")) GridWord
     (cond (same f (bytes "bus")) BusWord
     (cond (same f (bytes "line")) LineWord
@@ -28,61 +28,61 @@ wordOf f =
 -- ---- the fields of each record
 
 -- `grid n`
-abbrev pub gridOf : Numeral → Record
-gridOf (Is n) = Grid n
-gridOf NoNumber = Wrong
+abbrev pub gridRecordOf : Numeral → Record
+gridRecordOf (Is n) = Grid n
+gridRecordOf NoNumber = Wrong
 
 -- `pmu number`
-abbrev pub pmuOf : Numeral → Record
-pmuOf (Is n) = Pmu n
-pmuOf NoNumber = Wrong
+abbrev pub pmuRecordOf : Numeral → Record
+pmuRecordOf (Is n) = Pmu n
+pmuRecordOf NoNumber = Wrong
 
 -- `line a b`
-abbrev pub lineOf : Numeral → Numeral → Record
-lineOf (Is a) (Is b) = Line a b
-lineOf (Is a) NoNumber = Wrong
-lineOf NoNumber b = Wrong
+abbrev pub lineRecordOf : Numeral → Numeral → Record
+lineRecordOf (Is a) (Is b) = Line a b
+lineRecordOf (Is a) NoNumber = Wrong
+lineRecordOf NoNumber b = Wrong
 
 -- `bus number class site`
-abbrev pub busOf : Numeral → Mark → Mark → Record
-busOf (Is n) (Letter zero) (Letter site) = Bus n zero site
-busOf (Is n) (Letter zero) Neither = Wrong
-busOf (Is n) Neither site = Wrong
-busOf NoNumber class site = Wrong
+abbrev pub busRecordOf : Numeral → Mark → Mark → Record
+busRecordOf (Is n) (Letter zero) (Letter site) = Bus n zero site
+busRecordOf (Is n) (Letter zero) Neither = Wrong
+busRecordOf (Is n) Neither site = Wrong
+busRecordOf NoNumber class site = Wrong
 
 -- the two fields of `line`
 unfoldable pub lineFields : List (List ℕ) → Record
 lineFields [] = Wrong
-lineFields (a ∷ fs) = lineOf (numberOf a) (oneNumber fs)
+lineFields (a ∷ fs) = lineRecordOf (numeralOf a) (oneNumber fs)
 
 -- the three fields of `bus`
 unfoldable pub busFields : List (List ℕ) → Record
 busFields [] = Wrong
 busFields (n ∷ []) = Wrong
-busFields (n ∷ class ∷ fs) = busOf (numberOf n) (classOf class) (oneSite fs)
+busFields (n ∷ class ∷ fs) = busRecordOf (numeralOf n) (classOf class) (oneSite fs)
 
 -- `end`, which no field follows
 abbrev pub noFields : List (List ℕ) → Record
-noFields = none Wrong End
+noFields = ifNoField Wrong End
 
 -- the word, and the fields after it
 abbrev pub byWord : Word → List (List ℕ) → Record
-byWord GridWord fs = gridOf (oneNumber fs)
+byWord GridWord fs = gridRecordOf (oneNumber fs)
 byWord BusWord fs = busFields fs
 byWord LineWord fs = lineFields fs
-byWord PmuWord fs = pmuOf (oneNumber fs)
+byWord PmuWord fs = pmuRecordOf (oneNumber fs)
 byWord EndWord fs = noFields fs
 byWord Other fs = Wrong
 
 -- the record that a line is
 unfoldable pub recordOf : List ℕ → Record
-recordOf l = byWord (wordOf (split tab l .first)) (split tab l .rest)
+recordOf l = byWord (recordWordOf (split tab l .first)) (split tab l .rest)
 
 -- ---- a record's text
 
 -- the first letter or the second
-abbrev pub letter : Bool → ℕ → ℕ → List ℕ
-letter t p q = cond t (p ∷ []) (q ∷ [])
+abbrev pub letterIf : Bool → ℕ → ℕ → List ℕ
+letterIf t p q = cond t (p ∷ []) (q ∷ [])
 
 -- its word, and its fields
 abbrev pub wordText : Record → List ℕ
@@ -95,7 +95,7 @@ wordText Wrong = []
 
 abbrev pub fieldTexts : Record → List (List ℕ)
 fieldTexts (Grid n) = numberText n ∷ []
-fieldTexts (Bus n zero site) = numberText n ∷ letter zero letterZ letterI ∷ letter site letterY letterN ∷ []
+fieldTexts (Bus n zero site) = numberText n ∷ letterIf zero letterZ letterI ∷ letterIf site letterY letterN ∷ []
 fieldTexts (Line a b) = numberText a ∷ numberText b ∷ []
 fieldTexts (Pmu n) = numberText n ∷ []
 fieldTexts End = []

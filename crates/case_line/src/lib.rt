@@ -2,7 +2,7 @@
 ghost use mathlib.Core.Path.{_≡_};
 ghost use Rattle.text_field.specs.Split.{after};
 ghost use Rattle.case_line.specs.Fields.{markOf, oneNumber, oneSite};
-ghost use Rattle.case_line.specs.Record.{wordOf, gridOf, busOf, lineOf, pmuOf};
+ghost use Rattle.case_line.specs.Record.{recordWordOf, gridRecordOf, busRecordOf, lineRecordOf, pmuRecordOf};
 ghost use Rattle.case_line.specs.Record.{busFields, lineFields, noFields, recordOf};
 use text_field::Numeral;
 
@@ -37,7 +37,7 @@ pub enum Mark {
 }
 
 fn word_of(f: &[u8]) -> Word
-    ensures { λ r. ⌜ r ≡ wordOf (now (f .entry)) ⌝ }
+    ensures { λ r. ⌜ r ≡ recordWordOf (now (f .entry)) ⌝ }
 {
     if text_field::is_same(f, b"grid") {
         return Word::Grid;
@@ -74,7 +74,7 @@ fn mark_of(f: &[u8], yes: u8, no: u8) -> Mark
 }
 
 fn grid_of(n: Numeral) -> Record
-    ensures { λ r. ⌜ r ≡ gridOf n ⌝ }
+    ensures { λ r. ⌜ r ≡ gridRecordOf n ⌝ }
 {
     match n {
         Numeral::Is(v) => Record::Grid(v),
@@ -83,7 +83,7 @@ fn grid_of(n: Numeral) -> Record
 }
 
 fn pmu_of(n: Numeral) -> Record
-    ensures { λ r. ⌜ r ≡ pmuOf n ⌝ }
+    ensures { λ r. ⌜ r ≡ pmuRecordOf n ⌝ }
 {
     match n {
         Numeral::Is(v) => Record::Pmu(v),
@@ -92,7 +92,7 @@ fn pmu_of(n: Numeral) -> Record
 }
 
 fn line_of(a: Numeral, b: Numeral) -> Record
-    ensures { λ r. ⌜ r ≡ lineOf a b ⌝ }
+    ensures { λ r. ⌜ r ≡ lineRecordOf a b ⌝ }
 {
     match a {
         Numeral::Is(v) => match b {
@@ -104,7 +104,7 @@ fn line_of(a: Numeral, b: Numeral) -> Record
 }
 
 fn bus_of(n: Numeral, class: Mark, site: Mark) -> Record
-    ensures { λ r. ⌜ r ≡ busOf n class site ⌝ }
+    ensures { λ r. ⌜ r ≡ busRecordOf n class site ⌝ }
 {
     match n {
         Numeral::Is(number) => match class {

@@ -17,13 +17,13 @@ use Rattle.grid.specs.Cases.{mostBuses, mostBytes}
 use Rattle.grid.specs.declared.Case.{Case}
 use Rattle.refusals.specs.declared.Refusal.the-variants.{TextTooLong, WrongForm}
 use Rattle.case_build.specs.Building.{nextRows, nextMarks, noRows, noMarks}
-use Rattle.case_judge.specs.Judging.{verdict, nextPlace}
-use Rattle.case_read.specs.Reading.{Reader, start, caseOf, refused, closed, said, readLines, readText, readCase}
+use Rattle.case_judge.specs.Judging.{judged, nextPlace}
+use Rattle.case_read.specs.Reading.{Reader, start, caseSoFar, refused, caseEnded, recordSaid, readLines, readText, readCase}
 use Rattle.case_build.specs.declared.Marks.{Marks}
 use Rattle.case_judge.specs.declared.Place.{Place}
 use Rattle.case_read.specs.declared.CaseRead.{CaseRead}
-use Rattle.case_judge.specs.declared.Verdict.{Verdict}
-use Rattle.case_judge.specs.declared.Verdict.the-variants.{Next}
+use Rattle.case_judge.specs.declared.Judgement.{Judgement}
+use Rattle.case_judge.specs.declared.Judgement.the-variants.{Next}
 use Rattle.case_judge.proofs.Judged.{small-of}
 
 -- what is read from a text that is still to be cut into lines
@@ -31,7 +31,7 @@ abbrev from : Reader → ℕ → List ℕ → CaseRead
 from s k t = readLines s k (split 10 t .first) (split 10 t .rest)
 
 abbrev ending : Case → ℕ → List ℕ → CaseRead
-ending c k t = closed c k (split 10 t .first) (split 10 t .rest)
+ending c k t = caseEnded c k (split 10 t .first) (split 10 t .rest)
 
 -- ---- after `end`, whose line feed stands at e: f has one value where nothing follows, another where anything does
 
@@ -75,16 +75,17 @@ module _ {text : List ℕ} {f₀ k₀ : ℕ} {s : Place} {rows : List ℕ} {m : 
   unfolding readLines
   no-feed h xi = xi ∙ sym (g .is ∙ rw (p .cut, after-none 10 text e h))
 
-  module _ {r : Record} {v w : Verdict} (h : e < length text) (ri : r ≡ recordOf (part text at e))
-      (vi : v ≡ verdict s r) (told : v ≡ w) where
+  module _ {r : Record} {v w : Judgement} (h : e < length text) (ri : r ≡ recordOf (part text at e))
+      (vi : v ≡ judged s r) (told : v ≡ w) where
     pub line-said : {x : CaseRead} →
-        x ≡ said w k (from (record { place = nextPlace s r; rows = nextRows rows r; marks = nextMarks m r }) (k + 1) (drop (e + 1) text))
-        (ending (caseOf (record { place = s; rows = rows; marks = m })) (k + 1) (drop (e + 1) text)) → x ≡ readText k₀ (drop f₀ text)
+        x ≡ recordSaid w k
+        (from (record { place = nextPlace s r; rows = nextRows rows r; marks = nextMarks m r }) (k + 1) (drop (e + 1) text))
+        (ending (caseSoFar (record { place = s; rows = rows; marks = m })) (k + 1) (drop (e + 1) text)) → x ≡ readText k₀ (drop f₀ text)
     unfolding readLines
     line-said xi = xi ∙ sym (g .is ∙ rw (p .cut, after-some 10 text e h, ← ri, ← vi, told, add-one e))
 
-  pub going-on : {r : Record} {v : Verdict} {t : Place} {rows′ : List ℕ} {m′ : Marks} → e < length text → r ≡ recordOf (part text at e)
-      → v ≡ verdict s r → v ≡ Next
+  pub going-on : {r : Record} {v : Judgement} {t : Place} {rows′ : List ℕ} {m′ : Marks} → e < length text → r ≡ recordOf (part text at e)
+      → v ≡ judged s r → v ≡ Next
       → t ≡ nextPlace s r → rows′ ≡ nextRows rows r → m′ ≡ nextMarks m r → Going text f₀ k₀ t rows′ m′ (k + 1) (e + 1)
   going-on {r} {v} {t} {rows′} {m′} h ri vi told ti wi mi =
       let l = p .low in

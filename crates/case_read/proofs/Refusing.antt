@@ -14,11 +14,12 @@ use Rattle.grid.specs.declared.Case.{Case}
 use Rattle.refusals.specs.declared.Refusal.{Refusal}
 use Rattle.refusals.specs.declared.Refusal.the-variants.{TextTooLong}
 use Rattle.refusals.specs.Refusals.{placeOf}
-use Rattle.case_judge.specs.Judging.{verdict}
-use Rattle.case_read.specs.Reading.{Reader, next, start, caseOf, refused, closed, said, readLines, readText, readCase}
+use Rattle.case_judge.specs.Judging.{judged}
+use Rattle.case_read.specs.Reading.{Reader, nextReader, start, caseSoFar, refused, caseEnded, recordSaid, readLines, readText}
+use Rattle.case_read.specs.Reading.{readCase}
 use Rattle.grid.specs.Cases.{mostBytes}
-use Rattle.case_judge.specs.declared.Verdict.{Verdict}
-use Rattle.case_judge.specs.declared.Verdict.the-variants.{Next, Last, Form, Range, Order}
+use Rattle.case_judge.specs.declared.Judgement.{Judgement}
+use Rattle.case_judge.specs.declared.Judgement.the-variants.{Next, Last, Form, Range, Order}
 use Rattle.case_read.specs.declared.ReadAnswer.{ReadAnswer}
 use Rattle.case_read.specs.declared.ReadAnswer.the-variants.{Read, Refused}
 use Rattle.case_read.specs.declared.CaseRead.{CaseRead}
@@ -28,15 +29,15 @@ abbrev pub PlacedBy : ℕ → ReadAnswer → Type 0
 PlacedBy m Read = Unit {0}
 PlacedBy m (Refused q) = placeOf q ≤ m
 
-said-placed : (m k : ℕ) (v : Verdict) (on end : CaseRead) → k ≤ m → PlacedBy m (on .answer) → PlacedBy m (end .answer)
-    → PlacedBy m (said v k on end .answer)
+said-placed : (m k : ℕ) (v : Judgement) (on end : CaseRead) → k ≤ m → PlacedBy m (on .answer) → PlacedBy m (end .answer)
+    → PlacedBy m (recordSaid v k on end .answer)
 said-placed m k Next on end h p q = p
 said-placed m k Last on end h p q = q
 said-placed m k Form on end h p q = h
 said-placed m k Range on end h p q = h
 said-placed m k Order on end h p q = h
 
-closed-placed : (m k : ℕ) (c : Case) (l : List ℕ) (ms : List (List ℕ)) → k ≤ m → PlacedBy m (closed c k l ms .answer)
+closed-placed : (m k : ℕ) (c : Case) (l : List ℕ) (ms : List (List ℕ)) → k ≤ m → PlacedBy m (caseEnded c k l ms .answer)
 closed-placed m k c [] [] h = tt
 closed-placed m k c [] (l ∷ ms) h = h
 closed-placed m k c (b ∷ l) ms h = h
@@ -47,9 +48,9 @@ pub lines-placed : (m : ℕ) (ms : List (List ℕ)) (s : Reader) (k : ℕ) (l : 
 unfolding readLines
 lines-placed m [] s k l h = omega arith
 lines-placed m (n ∷ ms) s k l h =
-    said-placed m k (verdict (s .place) (recordOf l)) (readLines (next s (recordOf l)) (k + 1) n ms)
-    (closed (caseOf s) (k + 1) n ms) (omega arith)
-    (lines-placed m ms (next s (recordOf l)) (k + 1) n (omega arith)) (closed-placed m (k + 1) (caseOf s) n ms (omega arith))
+    said-placed m k (judged (s .place) (recordOf l)) (readLines (nextReader s (recordOf l)) (k + 1) n ms)
+    (caseEnded (caseSoFar s) (k + 1) n ms) (omega arith)
+    (lines-placed m ms (nextReader s (recordOf l)) (k + 1) n (omega arith)) (closed-placed m (k + 1) (caseSoFar s) n ms (omega arith))
 
 -- a text whose first line is line k
 pub text-placed : (m k : ℕ) (text : List ℕ) → k + length text ≤ m → PlacedBy m (readText k text .answer)

@@ -3,11 +3,11 @@ ghost use mathlib.Core.Path.{_≡_};
 ghost use Prim.Native.Nat.{_<_, _≤_};
 ghost use lib.ListN.{length, drop};
 ghost use Rattle.grid.specs.Cases.{mostBytes};
-ghost use Rattle.case_read.specs.Reading.{refused, closedAfter, readText, readCase};
+ghost use Rattle.case_read.specs.Reading.{refused, caseEndedAfter, readText, readCase};
 use busset::BusSet;
 use case_build::Marks;
+use case_judge::Judgement;
 use case_judge::Place;
-use case_judge::Verdict;
 use case_line::Record;
 use grid::Case;
 use refusals::Refusal;
@@ -43,7 +43,7 @@ pub fn refusal(r: Refusal) -> CaseRead
 // What was read, where the line feed of `end` stands at e and line k would follow.
 fn at_end(text: &[u8], e: usize, s: Place, rows: &[BusSet; 64], m: Marks, k: usize) -> CaseRead
     requires { ⌜ e < length (now text) ⌝ }
-    ensures { λ r. ⌜ r ≡ closedAfter (record { place = s; rows = now (rows .entry); marks = m })
+    ensures { λ r. ⌜ r ≡ caseEndedAfter (record { place = s; rows = now (rows .entry); marks = m })
         k (now (text .entry)) e ⌝ }
 {
     if e + 1 < text.len() {
@@ -90,21 +90,21 @@ pub fn read_text(text: &[u8], from: usize, first: usize) -> CaseRead
         }
         let r = case_line::record_of(&text[at..e]);
         match case_judge::judge(s, r) {
-            Verdict::Next => {
+            Judgement::Next => {
                 case_build::build_rows(&mut rows, s, r);
                 m = case_build::build_marks(m, s, r);
                 s = case_judge::next_place(s, r);
             }
-            Verdict::Last => {
+            Judgement::Last => {
                 return at_end(text, e, s, &rows, m, k + 1);
             }
-            Verdict::Form => {
+            Judgement::Form => {
                 return refusal(Refusal::WrongForm(k));
             }
-            Verdict::Range => {
+            Judgement::Range => {
                 return refusal(Refusal::OutOfRange(k));
             }
-            Verdict::Order => {
+            Judgement::Order => {
                 return refusal(Refusal::OutOfOrder(k));
             }
         }

@@ -1,7 +1,7 @@
 // Records written into lent bytes.
 ghost use mathlib.Core.List.{_∷_};
 ghost use Prim.Native.Nat.{_<_, _^_};
-ghost use Rattle.case_line.specs.Record.{letter, Formed};
+ghost use Rattle.case_line.specs.Record.{letterIf, Formed};
 ghost use Rattle.text_put.specs.Put.{Put};
 ghost use Rattle.case_write.specs.Lines.{lineText};
 
@@ -16,7 +16,7 @@ use text_put::put_tagged;
 // A tab, and one of two letters.
 fn put_mark(out: &mut [u8], at: usize, t: bool, p: u8, q: u8) -> usize
     requires { ⌜ at < 2 ^ 31 ⌝ }
-    ensures { λ r. ⌜ Put (now (out .entry)) at (9 ∷ letter t p q) (now (out .exit)) r ⌝ }
+    ensures { λ r. ⌜ Put (now (out .entry)) at (9 ∷ letterIf t p q) (now (out .exit)) r ⌝ }
 {
     let a = put_byte(out, at, 9);
     if t {

@@ -89,14 +89,14 @@ replay-exact c xs r v p = record {
 -- ---- the fewest
 
 refused-none : (c : Case) (budget : ℕ) (q : Refusal) → Valid c → budget ≤ mostBudget → Failed (fewestChecks c budget) q
-    → Is 11 0 q × (placing.SomePlan (gridOf c) budget → ⊥)
+    → Is 11 0 q × (placing.SomeAddition (gridOf c) budget → ⊥)
 refused-none c budget q v l (inl a) = absurd (a .0 v)
 refused-none c budget q v l (inr (_, inl a)) = absurd (a .0 l)
 refused-none c budget q v l (inr (_, inr (_, inl a))) = (a .1, a .0)
 refused-none c budget q v l (inr (_, inr (_, inr (_, a)))) = absurd a
 
 none-refused : (c : Case) (budget : ℕ) (r : Fewest) → Valid c → budget ≤ mostBudget → FewestReply c budget r
-    → (placing.SomePlan (gridOf c) budget → ⊥) → Refuses fewest.Refused r 11 0
+    → (placing.SomeAddition (gridOf c) budget → ⊥) → Refuses fewest.Refused r 11 0
 none-refused c budget (fewest.Sites m) v l p n = absurd (n (p .0 .1 .1 .0))
 none-refused c budget (fewest.Refused q) v l p n = (q, refl, refused-none c budget q v l p .0)
 

@@ -14,7 +14,7 @@ use Rattle.rules.proofs.Lists.{accepted-names}
 use Rattle.rules.proofs.Shuffles.{Woven, shuffle-each, weaving-shuffles}
 use Rattle.grid.specs.declared.Case.{Case}
 use Rattle.grid.specs.Cases.{gridOf}
-use Rattle.refusals.specs.Refusals.{Check, check, Passed}
+use Rattle.refusals.specs.Refusals.{Check, checkThat, Passed}
 use Rattle.refusals.proofs.Orders.{failed-or-passed}
 use Rattle.list_follow.specs.Following.{checksFrom}
 use Rattle.list_follow.specs.Replies.{weaveChecks, WeaveReply}
@@ -42,7 +42,7 @@ weaves c desks received before after (wove.Refused q) i p =
     w = weaving-shuffles (gridOf c) desks received (i .alone) (i .shuffled)
 
     last : List Check
-    last = check (length (woven received) ≤ length before) 6 0 ∷ []
+    last = checkThat (length (woven received) ≤ length before) 6 0 ∷ []
 
     names : Each (Names (c .n)) received
     names = shuffle-each (Names (c .n)) (i .shuffled) (each-names c (i .valid .proper) desks (i .alone))

@@ -31,12 +31,12 @@ use Rattle.estimator_reply.specs.declared.Answer.{Answer}
 use Rattle.estimator_reply.specs.declared.Answer.the-variants.{Set, Refused, Unread}
 use Rattle.estimator.specs.Answers.{ofObserved, ofVerdict, ofFewest, ofReplay, Said, ObservedFor, UnconfirmedFor, FewestFor, ReplayFor, OfRead, OfText}
 use Rattle.estimator_reply.specs.Results.{Replied, Answered}
-use Rattle.demands.specs.Order.{InOrder, FirstFails}
+use Rattle.demands.specs.Order.{InTableOrder, FirstFails}
 use Rattle.demands.specs.TextChecks.{caseChecks, stepTextChecks, withFifty, textReplayChecks, roomForSet, estimatorChecks}
 use Rattle.demands.specs.ByTable as asked
 use Rattle.demands.specs.ByTable.{Coded, TextRefuses, ByTable}
 use Rattle.demands.proofs.Firsts.{failed-first, Ends, met, ends-later, ends-sooner}
-use Rattle.demands.proofs.Turns.{TurnsBy, Follows, later-follows, then-ordered, then-turn, turn-more, then-follows, replay-turn}
+use Rattle.demands.proofs.Turns.{TurnsBy, ComesAfter, later-follows, then-ordered, then-turn, turn-more, then-follows, replay-turn}
 use Rattle.demands.proofs.TextTurns.{case-ordered, case-turn, fifty-text-turn}
 use Rattle.demands.proofs.Judging.{SaidBy, good, bad}
 use Rattle.demands.proofs.CaseTexts.{IsCase, case-judged}
@@ -109,7 +109,7 @@ of-text text P checks inner a p = go (case-judged text)
 
 -- what a call's own checks come to
 abbrev Fits : (Case → List Check) → Type 1
-Fits checks = (c : Case) → Follows 1 (checks c) × TurnsBy 8 (checks c)
+Fits checks = (c : Case) → ComesAfter 1 (checks c) × TurnsBy 8 (checks c)
 
 answered : (text : List ℕ) (P : Case → Answer → Type 0) (checks : Case → List Check) → Fits checks → ((c : Case) (a : Answer) → P c a → Ends (checks c) (AnswerRefuses a))
     → (lent left : List ℕ) (r : ℕ) → Answered (OfText text P) lent left r → ByTable (estimatorChecks text checks lent) (Coded r) lent left
@@ -120,7 +120,7 @@ answered text P checks fits inner lent left r p =
     own : List Check
     own = checks (readCase text .case)
 
-    order : InOrder (caseChecks text ++ (own ++ roomForSet lent))
+    order : InTableOrder (caseChecks text ++ (own ++ roomForSet lent))
     order =
         let f = fits (readCase text .case) in
         then-ordered 1 (caseChecks text) (own ++ roomForSet lent) (case-ordered text) (case-turn text)
@@ -169,7 +169,7 @@ fewest-ends budget c = said (FewestReply c budget) ofFewest (fewestAt budget c) 
 pub wz-fewest : (text : List ℕ) (budget : ℕ) (lent left : List ℕ) (r : ℕ) → Answered (OfText text (FewestFor budget)) lent left r → ByTable (estimatorChecks text (λ c. fewestChecks c budget) lent) (Coded r) lent left
 wz-fewest text budget = answered text (FewestFor budget) (fewestAt budget) (λ c. (o c, (lit≤ tt, (lit≤ tt, (lit≤ tt, tt))))) (fewest-ends budget)
   where
-    o : (c : Case) → Follows 1 (fewestAt budget c)
+    o : (c : Case) → ComesAfter 1 (fewestAt budget c)
     o c = later-follows 1 (fewestAt budget c) (lit≤ tt) (lit< tt) (refl, inl (lit< tt), (refl, inl (lit< tt), refl))
 
 -- what replaying a step text checks

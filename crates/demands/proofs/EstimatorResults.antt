@@ -8,7 +8,7 @@ use lib.Dec.{lit<, lit≤}
 use lib.ListN.{length, drop}
 use Rattle.grid.specs.declared.Case.{Case}
 use Rattle.grid.specs.Cases.{mostSteps, Valid}
-use Rattle.refusals.specs.Refusals.{Check, check, Passed}
+use Rattle.refusals.specs.Refusals.{Check, checkThat, Passed}
 use Rattle.refusals.proofs.Orders.{failed-or-passed}
 use Rattle.case_read.specs.Reading.{refused, readCase}
 use Rattle.case_read.specs.declared.CaseRead.{CaseRead}
@@ -21,7 +21,7 @@ use Rattle.observe_calls.specs.Replies.{observedChecks}
 use Rattle.place_calls.specs.Replies.{verdictChecks, fewestChecks}
 use Rattle.estimator.specs.Answers.{ObservedFor, UnconfirmedFor, FewestFor, ReplayFor, OfText}
 use Rattle.estimator_reply.specs.Results.{Answered}
-use Rattle.demands.specs.Order.{turn, Precedes, InOrder, FirstFails}
+use Rattle.demands.specs.Order.{turn, Precedes, InTableOrder, FirstFails}
 use Rattle.demands.specs.TextChecks.{caseChecks, stepTextChecks, withFifty, textReplayChecks, roomForSet, estimatorChecks}
 use Rattle.demands.specs.ByTable.{Coded, ByTable}
 use Rattle.demands.specs.Document01.{NoFiveOrTwelve}
@@ -37,10 +37,10 @@ use Rattle.demands.proofs.EstimatorByTable as by-table
 abbrev Never : ℕ → ℕ → Type 0
 Never n k = (n ≡ 5) ⊎ ((n ≡ 12) × (k ≡ 0))
 
-never-turn : {n k : ℕ} → Never n k → 4 ≤ turn (check ⊥ n k)
-never-turn {k = k} (inl e) = subst⁻¹ (λ (n : ℕ). 4 ≤ turn (check ⊥ n k)) e (lit≤ tt)
+never-turn : {n k : ℕ} → Never n k → 4 ≤ turn (checkThat ⊥ n k)
+never-turn {k = k} (inl e) = subst⁻¹ (λ (n : ℕ). 4 ≤ turn (checkThat ⊥ n k)) e (lit≤ tt)
 never-turn {k = k} (inr e) =
-    subst⁻¹ (λ (n : ℕ). 4 ≤ turn (check ⊥ n k)) (e .0) (subst⁻¹ (λ (place : ℕ). 4 ≤ turn (check ⊥ 12 place)) (e .1) (lit≤ tt))
+    subst⁻¹ (λ (n : ℕ). 4 ≤ turn (checkThat ⊥ n k)) (e .0) (subst⁻¹ (λ (place : ℕ). 4 ≤ turn (checkThat ⊥ 12 place)) (e .1) (lit≤ tt))
 
 -- another number is not it
 never-not : {n k : ℕ} (m : ℕ) → (m ≡ 5 → ⊥) → (m ≡ 12 → ⊥) → Never n k → m ≡ n → ⊥
@@ -53,17 +53,17 @@ never-room lent h (inl f) = never-not 6 (λ e. omega (arith, e)) (λ e. omega (a
 never-room lent h (inr f) = f .1
 
 -- nothing after 12 at place 0 is it
-never-after : {n k : ℕ} → Never n k → Precedes (check ⊥ 12 0) (check ⊥ n k) → ⊥
-never-after {k = k} (inl e) p = go (subst (λ (n : ℕ). Precedes (check ⊥ 12 0) (check ⊥ n k)) e p)
+never-after : {n k : ℕ} → Never n k → Precedes (checkThat ⊥ 12 0) (checkThat ⊥ n k) → ⊥
+never-after {k = k} (inl e) p = go (subst (λ (n : ℕ). Precedes (checkThat ⊥ 12 0) (checkThat ⊥ n k)) e p)
   where
-    go : Precedes (check ⊥ 12 0) (check ⊥ 5 k) → ⊥
+    go : Precedes (checkThat ⊥ 12 0) (checkThat ⊥ 5 k) → ⊥
     go (inl h) = omega (arith, h)
     go (inr h) = omega (arith, h .0)
 never-after {k = k} (inr e) p =
-    let twelve = subst (λ (n : ℕ). Precedes (check ⊥ 12 0) (check ⊥ n k)) (e .0) p in
-    go (subst (λ (place : ℕ). Precedes (check ⊥ 12 0) (check ⊥ 12 place)) (e .1) twelve)
+    let twelve = subst (λ (n : ℕ). Precedes (checkThat ⊥ 12 0) (checkThat ⊥ n k)) (e .0) p in
+    go (subst (λ (place : ℕ). Precedes (checkThat ⊥ 12 0) (checkThat ⊥ 12 place)) (e .1) twelve)
   where
-    go : Precedes (check ⊥ 12 0) (check ⊥ 12 0) → ⊥
+    go : Precedes (checkThat ⊥ 12 0) (checkThat ⊥ 12 0) → ⊥
     go (inl h) = omega (arith, h)
     go (inr (f, inl h)) = omega (arith, h)
     go (inr (f, inr h)) = omega (arith, h .1)
@@ -155,7 +155,7 @@ replay-never steps c lent n k v h f = go (first-in (fifty ++ replay) (roomForSet
     in-steps a (inl g) = g .0 v
     in-steps a (inr (_, inl g)) = g .0 (steps-within steps (fifty-passes (stepTextChecks steps) a))
     in-steps a (inr (_, inr g)) =
-        let twelve = check (length (stepsOf steps) ≤ mostSteps) 12 0 in
+        let twelve = checkThat (length (stepsOf steps) ≤ mostSteps) 12 0 in
         never-after h (first-after twelve (drop 2 replay) n k (replay-ordered c (stepsOf steps) .2) (g .1))
 
     in-text : FirstFails fifty n k ⊎ (Passed fifty × FirstFails replay n k) → ⊥

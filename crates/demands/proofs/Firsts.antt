@@ -6,7 +6,7 @@ use Prim.Native.Nat.{ℕ}
 use Rattle.refusals.specs.Refusals.{numberOf, placeOf, Check, Passed, Failed}
 use Rattle.refusals.specs.declared.Refusal.{Refusal}
 use Rattle.refusals.proofs.Orders.{itself, passed-then}
-use Rattle.demands.specs.Order.{InOrder, FirstFails}
+use Rattle.demands.specs.Order.{InTableOrder, FirstFails}
 use Rattle.demands.specs.ByTable.{Refuses, ByTable}
 
 -- ---- the first check that fails
@@ -37,7 +37,7 @@ Ends checks Refused =
     ⊎ ((n : ℕ) × (p : ℕ) × FirstFails checks n p × Refused n p × ((m o : ℕ) → Refused m o → (n ≡ m) × (p ≡ o)))
 
 -- where the checks end so, are in order and a refusal leaves what is lent, the reply is by the table
-pub met : {M : Type 0} {before after : M} (checks : List Check) (Refused : ℕ → ℕ → Type 0) → InOrder checks → ((n p : ℕ) → Refused n p → after ≡ before) → Ends checks Refused
+pub met : {M : Type 0} {before after : M} (checks : List Check) (Refused : ℕ → ℕ → Type 0) → InTableOrder checks → ((n p : ℕ) → Refused n p → after ≡ before) → Ends checks Refused
     → ByTable checks Refused before after
 met checks Refused order kept (inl a) = record {
   order = order;
@@ -57,7 +57,7 @@ met checks Refused order kept (inr (n, p, f, h, one)) = record {
 -- ---- a call whose reply is an answer or a refusal
 
 -- a refusal's promise is that the first check that fails gives it, and that what is lent stays; any other reply's, that all pass
-pub reply-meets : {R M : Type 0} {before after : M} (P : R → Type 0) (checks : List Check) (refused : Refusal → R) → InOrder checks
+pub reply-meets : {R M : Type 0} {before after : M} (P : R → Type 0) (checks : List Check) (refused : Refusal → R) → InTableOrder checks
     → ((q : Refusal) → P (refused q) → Failed checks q × (after ≡ before)) → ((r : R) → P r → Passed checks ⊎ ((q : Refusal) × (r ≡ refused q)))
     → (r : R) → P r → ByTable checks (Refuses refused r) before after
 reply-meets {before = before} {after = after} P checks refused order fails cases r h =

@@ -5,9 +5,9 @@ use Prim.Native.Nat.{ℕ}
 use Rattle.refusals.specs.declared.Written.{Written}
 use Rattle.report_lines.specs.Printing.{PrintedReply}
 use Rattle.report_lines.proofs.Printed.{PrintReply, printed-unique}
-use Rattle.report_day.specs.Day.{Day}
+use Rattle.report_day.specs.Day.{DayPrinted}
 use Rattle.report_day.proofs.Days.{day-unique}
-use Rattle.report_plan.specs.Plan.{Plan}
+use Rattle.report_plan.specs.Plan.{PlanPrinted}
 use Rattle.report_plan.proofs.Unique.{plan-unique}
 
 -- where P asks for one text
@@ -16,8 +16,8 @@ printed-one : (P : List ℕ → Type 0) → ((s t : List ℕ) → P s → P t �
 printed-one P one lent a b left right p q =
     let e = printed-unique one lent a b left right p q in (ap (λ (r : PrintReply). r .reply) e, ap (λ (r : PrintReply). r .left) e)
 
-pub day-report-unique : (text lent : List ℕ) (a b : Written) (left right : List ℕ) → PrintedReply (Day text) lent left a → PrintedReply (Day text) lent right b → (a ≡ b) × (left ≡ right)
-day-report-unique text = printed-one (Day text) (day-unique text)
+pub day-report-unique : (text lent : List ℕ) (a b : Written) (left right : List ℕ) → PrintedReply (DayPrinted text) lent left a → PrintedReply (DayPrinted text) lent right b → (a ≡ b) × (left ≡ right)
+day-report-unique text = printed-one (DayPrinted text) (day-unique text)
 
-pub plan-report-unique : (input lent : List ℕ) (a b : Written) (left right : List ℕ) → PrintedReply (Plan input) lent left a → PrintedReply (Plan input) lent right b → (a ≡ b) × (left ≡ right)
-plan-report-unique input = printed-one (Plan input) (plan-unique input)
+pub plan-report-unique : (input lent : List ℕ) (a b : Written) (left right : List ℕ) → PrintedReply (PlanPrinted input) lent left a → PrintedReply (PlanPrinted input) lent right b → (a ≡ b) × (left ≡ right)
+plan-report-unique input = printed-one (PlanPrinted input) (plan-unique input)

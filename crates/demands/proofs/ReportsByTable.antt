@@ -13,24 +13,24 @@ use Rattle.text_field.specs.declared.Numeral.the-variants as numeral
 use Rattle.grid.specs.declared.Case.{Case}
 use Rattle.refusals.specs.declared.Refusal.{Refusal}
 use Rattle.refusals.specs.declared.Refusal.the-variants.{TextTooLong, WrongForm}
-use Rattle.refusals.specs.Refusals.{Check, check, Passed, Failed}
+use Rattle.refusals.specs.Refusals.{Check, checkThat, Passed, Failed}
 use Rattle.refusals.proofs.Orders.{itself, failed-unique, failed-or-passed, passed-then, failed-sooner, failed-later}
 use Rattle.grid.specs.Cases.{mostBytes}
 use Rattle.case_read.specs.Reading.{start, refused, readLines, readCase}
 use Rattle.case_read.specs.declared.CaseRead.{CaseRead}
-use Rattle.report_lines.specs.Printing.{RefusedText, PrintedReply}
+use Rattle.report_lines.specs.Printing.{IsRefusedText, PrintedReply}
 use Rattle.refusals.specs.declared.Written.{Written}
 use Rattle.refusals.specs.declared.Written.the-variants as written
-use Rattle.report_day.specs.Day.{DayReport, DayFor, Day}
+use Rattle.report_day.specs.Day.{DayReport, DayFor, DayPrinted}
 use Rattle.report_day.proofs.Days.{day-unique}
 use Rattle.plan_input.specs.Asking.{budgetOf, unasked, askedWith, planLines, readPlan}
-use Rattle.report_plan.specs.Plan.{planChecks, PlanReport, found, none, PlanFor, Plan}
+use Rattle.report_plan.specs.Plan.{planChecks, PlanReport, found, none, PlanFor, PlanPrinted}
 use Rattle.report_plan.proofs.Unique.{plan-unique}
-use Rattle.demands.specs.Order.{InOrder}
+use Rattle.demands.specs.Order.{InTableOrder}
 use Rattle.demands.specs.TextChecks.{IsNumber, planLineChecks, inputChecks, caseChecks, lineChecks, printChecks}
 use Rattle.demands.specs.ByTable.{Refuses, ByTable, PrintedByTable, FewestPrinted}
 use Rattle.demands.proofs.Firsts.{reply-meets}
-use Rattle.demands.proofs.Turns.{Follows, later-follows, then-ordered}
+use Rattle.demands.proofs.Turns.{ComesAfter, later-follows, then-ordered}
 use Rattle.demands.proofs.TextTurns.{case-ordered, input-ordered, input-turn}
 use Rattle.demands.proofs.Judging.{good, bad, passing, failing}
 use Rattle.demands.proofs.CaseTexts.{ReadBy, lines-judged, case-judged}
@@ -46,16 +46,16 @@ print-meets P one lent left =
     cases (written.Bytes k) p = inl (λ t a. omega (arith, p .room, ap length (one t (p .text) a (p .asked))), tt)
     cases (written.Refused q) p = inr (q, refl)
 
-pub day-report : (text lent left : List ℕ) (r : Written) → PrintedReply (Day text) lent left r → ByTable (printChecks (Day text) lent) (Refuses written.Refused r) lent left
-day-report text = print-meets (Day text) (day-unique text)
+pub day-report : (text lent left : List ℕ) (r : Written) → PrintedReply (DayPrinted text) lent left r → ByTable (printChecks (DayPrinted text) lent) (Refuses written.Refused r) lent left
+day-report text = print-meets (DayPrinted text) (day-unique text)
 
-pub plan-report : (input lent left : List ℕ) (r : Written) → PrintedReply (Plan input) lent left r → ByTable (printChecks (Plan input) lent) (Refuses written.Refused r) lent left
-plan-report input = print-meets (Plan input) (plan-unique input)
+pub plan-report : (input lent left : List ℕ) (r : Written) → PrintedReply (PlanPrinted input) lent left r → ByTable (printChecks (PlanPrinted input) lent) (Refuses written.Refused r) lent left
+plan-report input = print-meets (PlanPrinted input) (plan-unique input)
 
 -- ---- what is printed
 
 -- the report where all pass, or the line of the refusal that the first check that fails gives
-printed-met : {Report : Type 0} {t : List ℕ} (checks : List Check) → InOrder checks → (Passed checks × Report) ⊎ ((q : Refusal) × Failed checks q × RefusedText q t)
+printed-met : {Report : Type 0} {t : List ℕ} (checks : List Check) → InTableOrder checks → (Passed checks × Report) ⊎ ((q : Refusal) × Failed checks q × IsRefusedText q t)
     → PrintedByTable checks Report t
 printed-met checks order (inl h) =
     record { order = order; replies = inl (h .0); report = λ p. h .1; refused = λ q f. absurd (failed-or-passed checks q f (h .0)) }
@@ -63,22 +63,22 @@ printed-met {t = t} checks order (inr (q, f, e)) = record {
   order = order;
   replies = inr (q, f);
   report = λ p. absurd (failed-or-passed checks q f p);
-  refused = λ k g. subst (λ (x : Refusal). RefusedText x t) (failed-unique checks q k f g) e;
+  refused = λ k g. subst (λ (x : Refusal). IsRefusedText x t) (failed-unique checks q k f g) e;
 }
 
-pub day-printed : (text t : List ℕ) → Day text t → PrintedByTable (caseChecks text) (DayReport (readCase text .case) t) t
+pub day-printed : (text t : List ℕ) → DayPrinted text t → PrintedByTable (caseChecks text) (DayReport (readCase text .case) t) t
 day-printed text t p = printed-met (caseChecks text) (case-ordered text) (go (case-judged text))
   where
     by : CaseRead → Type 0
     by x = DayFor (x .answer) (x .case) t
 
-    go : ReadBy (caseChecks text) (readCase text) → (Passed (caseChecks text) × DayReport (readCase text .case) t) ⊎ ((q : Refusal) × Failed (caseChecks text) q × RefusedText q t)
+    go : ReadBy (caseChecks text) (readCase text) → (Passed (caseChecks text) × DayReport (readCase text .case) t) ⊎ ((q : Refusal) × Failed (caseChecks text) q × IsRefusedText q t)
     go (good h (c, e)) = inl (h, subst⁻¹ (λ (x : CaseRead). DayReport (x .case) t) e (subst by e p))
     go (bad q f e) = inr (q, f, subst by e p)
 
 -- ---- the planning program's input
 
-plan-line-judged : (b : Numeral) (r : CaseRead) (checks : List Check) → ReadBy checks r → ReadBy (check (IsNumber b) 2 1 ∷ checks) (askedWith b r .read)
+plan-line-judged : (b : Numeral) (r : CaseRead) (checks : List Check) → ReadBy checks r → ReadBy (checkThat (IsNumber b) 2 1 ∷ checks) (askedWith b r .read)
 plan-line-judged (numeral.Is budget) r checks h = passing (IsNumber (numeral.Is budget)) 2 1 tt h
 plan-line-judged numeral.Wrong r checks h = failing (IsNumber numeral.Wrong) 2 1 (WrongForm 1) (λ x. x) (itself (WrongForm 1))
 
@@ -103,7 +103,7 @@ input-judged input = go (ltb mostBytes (length input)) refl
 
 -- ---- the planning program
 
-pub plan-printed : (input t : List ℕ) → Plan input t
+pub plan-printed : (input t : List ℕ) → PlanPrinted input t
     → PrintedByTable (inputChecks input ++ planChecks (readPlan input .read .case) (readPlan input .budget)) (FewestPrinted (readPlan input .read .case) (readPlan input .budget) t) t
 plan-printed input t p = printed-met (inputChecks input ++ rest) (then-ordered 1 (inputChecks input) rest (input-ordered input) (input-turn input) follows) (go (input-judged input))
   where
@@ -116,14 +116,14 @@ plan-printed input t p = printed-met (inputChecks input ++ rest) (then-ordered 1
     rest : List Check
     rest = planChecks c budget
 
-    follows : Follows 1 rest
+    follows : ComesAfter 1 rest
     follows = later-follows 1 rest (lit≤ tt) (lit< tt) (refl, inl (lit< tt), refl)
 
     by : CaseRead → Type 0
     by x = PlanFor (x .answer) (x .case) budget t
 
     Outcome : Type 0
-    Outcome = (Passed (inputChecks input ++ rest) × FewestPrinted c budget t) ⊎ ((q : Refusal) × Failed (inputChecks input ++ rest) q × RefusedText q t)
+    Outcome = (Passed (inputChecks input ++ rest) × FewestPrinted c budget t) ⊎ ((q : Refusal) × Failed (inputChecks input ++ rest) q × IsRefusedText q t)
 
     reported : Passed (inputChecks input) → PlanReport c budget t → Outcome
     reported h (found sites a f e) = inl (passed-then (inputChecks input) rest h a, (sites, f, e))

@@ -11,7 +11,7 @@ use Rattle.step.specs.declared.Step.{Step}
 use Rattle.grid.specs.declared.Case.{Case}
 use Rattle.refusals.specs.declared.Refusal.{Refusal}
 use Rattle.refusals.specs.declared.Refusal.the-variants.{NoRoom}
-use Rattle.refusals.specs.Refusals.{numberOf, placeOf, Check, check, Passed, Failed}
+use Rattle.refusals.specs.Refusals.{numberOf, placeOf, Check, checkThat, Passed, Failed}
 use Rattle.refusals.proofs.Orders.{itself}
 use Rattle.list_follow.specs.Replies.{replayChecks, ReplayReply}
 use Rattle.list_follow.specs.declared.Replayed.{Replayed}
@@ -32,7 +32,7 @@ use Rattle.demands.specs.Order.{FirstFails}
 use Rattle.demands.specs.TextChecks.{caseChecks, stepTextChecks, withFifty, stepsReadChecks, textReplayChecks}
 use Rattle.demands.specs.ByTable.{Refuses, Unread, TextRefuses, ByTable}
 use Rattle.demands.proofs.Firsts.{failed-first, Ends, met, ends-later, ends-sooner}
-use Rattle.demands.proofs.Turns.{Follows, then-ordered, then-follows, later-follows, replay-follows}
+use Rattle.demands.proofs.Turns.{ComesAfter, then-ordered, then-follows, later-follows, replay-follows}
 use Rattle.demands.proofs.TextTurns.{case-ordered, step-text-ordered, step-text-turn, fifty-follows, fifty-text-turn}
 use Rattle.demands.proofs.Judging.{SaidBy, good, bad, failing}
 use Rattle.demands.proofs.CaseTexts.{IsCase, case-judged}
@@ -82,7 +82,7 @@ check-steps text r p =
 
 -- the steps have room, or 6
 abbrev hasRoom : List ℕ → ℕ → List Check
-hasRoom text room = check (length (stepsOf text) ≤ room) 6 0 ∷ []
+hasRoom text room = checkThat (length (stepsOf text) ≤ room) 6 0 ∷ []
 
 -- where the text is good, it has as many steps as it says
 room-judged : (text : List ℕ) (room : ℕ) (r : StepsRead) → readSteps text ≡ r → SaidBy Refused IsCount (stepTextChecks text) r
@@ -151,7 +151,7 @@ text-replay-ends c text r p = go (steps-judged text)
         ends-later fifty steps (TextRefuses r) (fifty-passed (stepTextChecks text) a) (subst⁻¹ (λ (x : TextReplayed). Ends steps (TextRefuses x)) (t .2) (replayed-ends (t .0) (t .1)))
     go (bad q f e) = subst⁻¹ (λ (x : TextReplayed). Ends (fifty ++ steps) (TextRefuses x)) (read-as e) (unread-ends q f)
 
-pub text-replay-follows : (c : Case) (text : List ℕ) → Follows 1 (textReplayChecks c text)
+pub text-replay-follows : (c : Case) (text : List ℕ) → ComesAfter 1 (textReplayChecks c text)
 text-replay-follows c text =
     then-follows 3 1 (withFifty (stepTextChecks text)) (replayChecks c (stepsOf text)) (fifty-follows text) (fifty-text-turn text) (lit≤ tt) (replay-follows c (stepsOf text))
 

@@ -12,12 +12,12 @@ use Rattle.busset.specs.Sets.{empty, add}
 use Rattle.rules.specs.Weaving.{woven}
 use Rattle.grid.specs.declared.Case.{Case}
 use Rattle.grid.specs.Cases.{mostSteps}
-use Rattle.refusals.specs.Refusals.{Check, check}
+use Rattle.refusals.specs.Refusals.{Check, checkThat}
 use Rattle.list_follow.specs.Following.{checksFrom}
 use Rattle.list_follow.specs.Replies.{replayChecks, weaveChecks}
 use Rattle.list_follow.specs.declared.Task.{Task}
 use Rattle.list_follow.specs.declared.Task.the-variants.{Replay, Weave}
-use Rattle.demands.specs.Order.{order, isOf, isIn, groupOf, turnOf12, turn, InTable, Precedes, InOrder, FirstFails}
+use Rattle.demands.specs.Order.{order, isOf, isIn, groupOf, turnOf12, turn, InTable, Precedes, InTableOrder, FirstFails}
 
 -- ---- numbers in the table
 
@@ -48,7 +48,7 @@ pub ahead-most : {t k : ℕ} (p : Check) → Ahead t k p → turn p ≤ t
 ahead-most p (inl h) = omega (arith, h)
 ahead-most p (inr h) = omega (arith, h .0)
 
-pub ahead-first : {t k : ℕ} (p : Check) (n : ℕ) → Ahead t k p → turn (check ⊥ n k) ≡ t → Precedes p (check ⊥ n k)
+pub ahead-first : {t k : ℕ} (p : Check) (n : ℕ) → Ahead t k p → turn (checkThat ⊥ n k) ≡ t → Precedes p (checkThat ⊥ n k)
 ahead-first p n (inl h) e = inl (omega (arith, h, e))
 ahead-first p n (inr h) e = inr (h .0 ∙ sym e, inl (h .1))
 
@@ -66,34 +66,35 @@ turn-more t u [] l a = tt
 turn-more t u (p ∷ ps) l a = (omega (arith, l, a .0), turn-more t u ps l (a .1))
 
 -- what comes after every check of at most turn t
-abbrev pub Follows : ℕ → List Check → Type 1
-Follows t qs = InOrder qs × ((q : Check) → turn q ≤ t → InOrder (q ∷ qs))
+abbrev pub ComesAfter : ℕ → List Check → Type 1
+ComesAfter t qs = InTableOrder qs × ((q : Check) → turn q ≤ t → InTableOrder (q ∷ qs))
 
 -- the first of these has a later turn than t
 abbrev pub Later : ℕ → List Check → Type 0
 Later t [] = Unit {0}
 Later t (p ∷ qs) = t < turn p
 
-pub later-follows : (t : ℕ) (qs : List Check) → t ≤ 9 → Later t qs → InOrder qs → Follows t qs
+pub later-follows : (t : ℕ) (qs : List Check) → t ≤ 9 → Later t qs → InTableOrder qs → ComesAfter t qs
 later-follows t [] m l o = (tt, λ q h. in-table q (omega (arith, h, m)))
 later-follows t (p ∷ qs) m l o = (o, λ q h. (in-table q (omega (arith, h, m)), inl (omega (arith, h, l)), o))
 
 -- one list after another
-pub then-ordered : (t : ℕ) (ps qs : List Check) → InOrder ps → TurnsBy t ps → Follows t qs → InOrder (ps ++ qs)
+pub then-ordered : (t : ℕ) (ps qs : List Check) → InTableOrder ps → TurnsBy t ps → ComesAfter t qs → InTableOrder (ps ++ qs)
 then-ordered t [] qs o b f = f .0
 then-ordered t (p ∷ []) qs o b f = f .1 p (b .0)
 then-ordered t (p ∷ q ∷ ps) qs o b f = (o .0, o .1, then-ordered t (q ∷ ps) qs (o .2) (b .1) f)
 
-pub then-follows : (t u : ℕ) (ps qs : List Check) → Follows u ps → TurnsBy t ps → u ≤ t → Follows t qs → Follows u (ps ++ qs)
+pub then-follows : (t u : ℕ) (ps qs : List Check) → ComesAfter u ps → TurnsBy t ps → u ≤ t → ComesAfter t qs → ComesAfter u (ps ++ qs)
 then-follows t u ps qs o b l f =
     (then-ordered t ps qs (o .0) b f, λ q h. then-ordered t (q ∷ ps) qs (o .1 q h) (omega (arith, h, l), b) f)
 
 -- ---- the first that fails
 
 -- its turn is at most that of each
-pub first-turn : (t : ℕ) (qs : List Check) (n k : ℕ) → TurnsBy t qs → FirstFails qs n k → turn (check ⊥ n k) ≤ t
+pub first-turn : (t : ℕ) (qs : List Check) (n k : ℕ) → TurnsBy t qs → FirstFails qs n k → turn (checkThat ⊥ n k) ≤ t
 first-turn t (q ∷ qs) n k b (inl f) =
-    subst (λ (place : ℕ). turn (check ⊥ n place) ≤ t) (f .2) (subst (λ (number : ℕ). turn (check ⊥ number (q .place)) ≤ t) (f .1) (b .0))
+    subst (λ (place : ℕ). turn (checkThat ⊥ n place) ≤ t) (f .2)
+    (subst (λ (number : ℕ). turn (checkThat ⊥ number (q .place)) ≤ t) (f .1) (b .0))
 first-turn t (q ∷ qs) n k b (inr f) = first-turn t qs n k (b .1) (f .1)
 
 precedes-trans : (p q r : Check) → Precedes p q → Precedes q r → Precedes p r
@@ -106,11 +107,11 @@ precedes-trans p q r (inr (e, inr a)) (inr (f, inl b)) = inr (e ∙ f, inl (omeg
 precedes-trans p q r (inr (e, inr a)) (inr (f, inr b)) = inr (e ∙ f, inr (a .0 ∙ b .0, omega (arith, a .1, b .1)))
 
 -- it comes after what the list comes after
-pub first-after : (p : Check) (qs : List Check) (n k : ℕ) → InOrder (p ∷ qs) → FirstFails qs n k → Precedes p (check ⊥ n k)
+pub first-after : (p : Check) (qs : List Check) (n k : ℕ) → InTableOrder (p ∷ qs) → FirstFails qs n k → Precedes p (checkThat ⊥ n k)
 first-after p (q ∷ qs) n k o (inl f) =
-    subst (λ (place : ℕ). Precedes p (check ⊥ n place)) (f .2)
-    (subst (λ (number : ℕ). Precedes p (check ⊥ number (q .place))) (f .1) (o .1))
-first-after p (q ∷ qs) n k o (inr f) = precedes-trans p q (check ⊥ n k) (o .1) (first-after q qs n k (o .2) (f .1))
+    subst (λ (place : ℕ). Precedes p (checkThat ⊥ n place)) (f .2)
+    (subst (λ (number : ℕ). Precedes p (checkThat ⊥ number (q .place))) (f .1) (o .1))
+first-after p (q ∷ qs) n k o (inr f) = precedes-trans p q (checkThat ⊥ n k) (o .1) (first-after q qs n k (o .2) (f .1))
 
 -- ---- the steps of a list
 
@@ -119,8 +120,8 @@ abbrev stepTurn : ℕ
 stepTurn = 6
 
 -- after p come the steps from k on, and then the rest, where the rest comes after any step
-steps-ordered : (task : Task) (c : Case) (rest : List Check) → ((q : Check) → turn q ≤ stepTurn → InOrder (q ∷ rest))
-    → (k s : ℕ) (xs : List Step) (p : Check) → Ahead stepTurn k p → InOrder (p ∷ (checksFrom task c k s xs ++ rest))
+steps-ordered : (task : Task) (c : Case) (rest : List Check) → ((q : Check) → turn q ≤ stepTurn → InTableOrder (q ∷ rest))
+    → (k s : ℕ) (xs : List Step) (p : Check) → Ahead stepTurn k p → InTableOrder (p ∷ (checksFrom task c k s xs ++ rest))
 steps-ordered task c rest later k s [] p before = later p (ahead-most p before)
 steps-ordered Replay c rest later k s (x ∷ xs) p before = (
   in-table p (omega (arith, ahead-most p before)),
@@ -137,17 +138,17 @@ steps-ordered Weave c rest later k s (x ∷ xs) p before = (
   (refl, inr (refl, inr (refl, lit< tt)), steps-ordered Weave c rest later (suc k) (add s (x .bus)) xs _ (inr (refl, omega arith))),
 )
 
-pub replay-ordered : (c : Case) (xs : List Step) → InOrder (replayChecks c xs)
+pub replay-ordered : (c : Case) (xs : List Step) → InTableOrder (replayChecks c xs)
 replay-ordered c xs = (
   refl,
   inl (lit< tt),
-  subst (λ (qs : List Check). InOrder (check (length xs ≤ mostSteps) 12 0 ∷ qs)) (append-nil (checksFrom Replay c 1 empty xs))
+  subst (λ (qs : List Check). InTableOrder (checkThat (length xs ≤ mostSteps) 12 0 ∷ qs)) (append-nil (checksFrom Replay c 1 empty xs))
       (steps-ordered Replay c [] (λ q h. in-table q (omega (arith, h))) 1 empty xs _ (inl (lit< tt))),
 )
 
-pub weave-ordered : (c : Case) (xs : List Step) (room : ℕ) → InOrder (weaveChecks c xs room)
+pub weave-ordered : (c : Case) (xs : List Step) (room : ℕ) → InTableOrder (weaveChecks c xs room)
 weave-ordered c xs room =
-    let last = check (length (woven xs) ≤ room) 6 0 ∷ [] in
+    let last = checkThat (length (woven xs) ≤ room) 6 0 ∷ [] in
     (refl, inl (lit< tt), steps-ordered Weave c last (later-follows stepTurn last (lit≤ tt) (lit< tt) refl .1) 1 empty xs _ (inl (lit< tt)))
 
 steps-turn : (c : Case) (k s : ℕ) (xs : List Step) → TurnsBy stepTurn (checksFrom Replay c k s xs)
@@ -158,5 +159,5 @@ pub replay-turn : (c : Case) (xs : List Step) → TurnsBy stepTurn (replayChecks
 replay-turn c xs = (lit≤ tt, (lit≤ tt, steps-turn c 1 empty xs))
 
 -- replay's come after a text that is read
-pub replay-follows : (c : Case) (xs : List Step) → Follows 3 (replayChecks c xs)
+pub replay-follows : (c : Case) (xs : List Step) → ComesAfter 3 (replayChecks c xs)
 replay-follows c xs = later-follows 3 (replayChecks c xs) (lit≤ tt) (lit< tt) (replay-ordered c xs)

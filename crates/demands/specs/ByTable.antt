@@ -7,15 +7,15 @@ use Rattle.refusals.specs.Refusals.{numberOf, placeOf, Is, Check, Passed, Faile
 use Rattle.grid.specs.declared.Case.{Case}
 use Rattle.refusals.specs.declared.Refusal.{Refusal}
 use Rattle.grid.specs.Cases.{gridOf}
-use Rattle.rules.specs.Placing.{Fewest}
-use Rattle.report_plan.specs.Plan.{PlanText}
+use Rattle.rules.specs.Placing.{FewestSites}
+use Rattle.report_plan.specs.Plan.{IsPlanText}
 use Rattle.list_value.specs.Lists.{listOf}
 use Rattle.step_replay.specs.declared.TextReplayed.{TextReplayed}
 use Rattle.step_replay.specs.declared.TextReplayed.the-variants as told
-use Rattle.report_lines.specs.Printing.{RefusedText}
+use Rattle.report_lines.specs.Printing.{IsRefusedText}
 use Rattle.list_derive.specs.declared.DerivationAnswer.the-variants as derived
 use Rattle.list_derive.specs.declared.Derived.{Derived}
-use Rattle.demands.specs.Order.{InOrder, FirstFails}
+use Rattle.demands.specs.Order.{InTableOrder, FirstFails}
 
 -- ---- a reply that refuses
 
@@ -49,7 +49,7 @@ pub record Coded (result number place : ℕ) : Type 0 where
 -- of a reply: what the call checks, when the reply is a refusal with a number and a place, and what is lent, before and after
 pub record ByTable {M : Type 0} (checks : List Check) (Refused : ℕ → ℕ → Type 0) (before after : M) : Type 0 where
   -- the table's rows are tried in the document's order
-  pub order : InOrder checks
+  pub order : InTableOrder checks
   -- every input is refused by the first row that applies, or no row applies
   pub replies : Passed checks ⊎ ((number : ℕ) × (place : ℕ) × FirstFails checks number place)
   -- a refusal is given exactly when its row is the first that applies
@@ -64,11 +64,11 @@ NothingLent checks refused reply = ByTable {M = Unit {0}} checks (Refuses refuse
 
 -- of what a program prints: the report where no row applies, and only the refusal's line where one does
 pub record PrintedByTable (checks : List Check) (Report : Type 0) (t : List ℕ) : Type 0 where
-  pub order : InOrder checks
+  pub order : InTableOrder checks
   pub replies : Passed checks ⊎ ((q : Refusal) × Failed checks q)
   pub report : Passed checks → Report
-  pub refused : (q : Refusal) → Failed checks q → RefusedText q t
+  pub refused : (q : Refusal) → Failed checks q → IsRefusedText q t
 
 -- t is the text of the fewest within the budget
 abbrev pub FewestPrinted : Case → ℕ → List ℕ → Type 0
-FewestPrinted c budget t = (sites : ℕ) × Fewest (gridOf c) budget sites × PlanText (c .n) sites t
+FewestPrinted c budget t = (sites : ℕ) × FewestSites (gridOf c) budget sites × IsPlanText (c .n) sites t

@@ -20,9 +20,9 @@ use Rattle.step_replay.specs.declared.TextReplayed.{TextReplayed}
 use Rattle.report_lines.specs.Printing.{PrintedReply}
 use Rattle.refusals.specs.declared.Written.{Written}
 use Rattle.refusals.specs.declared.Written.the-variants as written
-use Rattle.report_day.specs.Day.{DayReport, Day}
+use Rattle.report_day.specs.Day.{DayReport, DayPrinted}
 use Rattle.plan_input.specs.Asking.{readPlan}
-use Rattle.report_plan.specs.Plan.{planChecks, Plan}
+use Rattle.report_plan.specs.Plan.{planChecks, PlanPrinted}
 use Rattle.observe_calls.specs.declared.Observed.{Observed}
 use Rattle.observe_calls.specs.declared.Observed.the-variants as observed
 use Rattle.observe_calls.specs.declared.Figured.{Figured}
@@ -71,10 +71,10 @@ pub record Demand1 (M : Type 1) : Type 2 where
   pub read-steps : (text : List ℕ) (before after : List Step) (r : StepsRead) → StepsReadReply text before after r → ByTable (stepsReadChecks text (length before)) (Refuses steps.Refused r) before after
   pub replay-text : (c : Case) (text : List ℕ) (r : TextReplayed) → TextReplayReply c text r → ByTable {M = Unit {0}} (textReplayChecks c text) (TextRefuses r) tt tt
   -- the reports, and what they print
-  pub day-report : (text lent left : List ℕ) (r : Written) → PrintedReply (Day text) lent left r → ByTable (printChecks (Day text) lent) (Refuses written.Refused r) lent left
-  pub day-printed : (text t : List ℕ) → Day text t → PrintedByTable (caseChecks text) (DayReport (readCase text .case) t) t
-  pub plan-report : (input lent left : List ℕ) (r : Written) → PrintedReply (Plan input) lent left r → ByTable (printChecks (Plan input) lent) (Refuses written.Refused r) lent left
-  pub plan-printed : (input t : List ℕ) → Plan input t
+  pub day-report : (text lent left : List ℕ) (r : Written) → PrintedReply (DayPrinted text) lent left r → ByTable (printChecks (DayPrinted text) lent) (Refuses written.Refused r) lent left
+  pub day-printed : (text t : List ℕ) → DayPrinted text t → PrintedByTable (caseChecks text) (DayReport (readCase text .case) t) t
+  pub plan-report : (input lent left : List ℕ) (r : Written) → PrintedReply (PlanPrinted input) lent left r → ByTable (printChecks (PlanPrinted input) lent) (Refuses written.Refused r) lent left
+  pub plan-printed : (input t : List ℕ) → PlanPrinted input t
       → PrintedByTable (inputChecks input ++ planChecks (readPlan input .read .case) (readPlan input .budget)) (FewestPrinted (readPlan input .read .case) (readPlan input .budget) t) t
   -- the state estimator's calls
   pub wz-observed : (text lent left : List ℕ) (r : ℕ) → Answered (OfText text ObservedFor) lent left r → ByTable (estimatorChecks text observedChecks lent) (Coded r) lent left

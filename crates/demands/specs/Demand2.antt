@@ -37,8 +37,8 @@ pub record AcceptedExactly (g : Grid) (xs : List Step) (reply : Replayed) : Type
 
 -- the reply is refusal 11, and no other, exactly when no placement within the budget covers
 pub record TooSmallExactly (g : Grid) (budget : ℕ) (reply : Fewest) : Type 0 where
-  pub due : (placing.SomePlan g budget → ⊥) → Refuses fewest.Refused reply 11 0
-  pub given : (q : Refusal) → reply ≡ fewest.Refused q → Is 11 0 q × (placing.SomePlan g budget → ⊥)
+  pub due : (placing.SomeAddition g budget → ⊥) → Refuses fewest.Refused reply 11 0
+  pub given : (q : Refusal) → reply ≡ fewest.Refused q → Is 11 0 q × (placing.SomeAddition g budget → ⊥)
 
 -- the case value has a row for each of 64 buses, as the type of every case value says
 pub record Sized (c : Case) : Type 0 where
@@ -52,7 +52,8 @@ pub record Demand2 : Type 0 where
   -- a finished list has as many steps as the observed set has buses
   pub finished-length : (g : Grid) (xs : List Step) (set : ℕ) → Accepted g xs → Finished g (reached xs) → ObservedSet g set → length xs ≡ size set
   -- the fewest-unit answer is the first smallest placement that covers
-  pub fewest : (c : Case) (budget sites : ℕ) → FewestReply c budget (fewest.Sites sites) → placing.Fewest (gridOf c) budget (setOf sites)
+  pub fewest : (c : Case) (budget sites : ℕ) → FewestReply c budget (fewest.Sites sites)
+      → placing.FewestSites (gridOf c) budget (setOf sites)
   -- for a valid case, a budget of at most 8 is refused as too small exactly when none within it does
   pub too-small : (c : Case) (budget : ℕ) (r : Fewest) → Valid c → budget ≤ mostBudget → FewestReply c budget r → TooSmallExactly (gridOf c) budget r
   -- case texts read and written are inverse: what is written is read back

@@ -7,7 +7,7 @@ use mathlib.Core.List.{List}
 use Prim.Native.Nat.{ℕ, _≤_}
 use lib.ListN.{length}
 use Rattle.busset.specs.Sets.{In, size, setOf}
-use Rattle.step.specs.Records.{written}
+use Rattle.step.specs.Records.{writtenInto}
 use Rattle.step.specs.declared.Step.{Step}
 use Rattle.rules.specs.Observation.{ObservedSet}
 use Rattle.rules.specs.Steps.{reached, Accepted, Finished}
@@ -37,7 +37,7 @@ pub record Weaves (c : Case) (desks : List (List Step)) (received before after :
   pub set : ℕ
   pub answers : r ≡ wove.Written count set
   -- it writes a list that is itself accepted, and leaves the rest of the records
-  pub records : after ≡ written (woven received) before
+  pub records : after ≡ writtenInto (woven received) before
   pub accepted : Accepted (gridOf c) (woven received)
   -- it answers the count written and the set reached
   pub counted : count ≡ length (woven received)

@@ -14,8 +14,8 @@ use Rattle.step_replay.specs.Replying.{TextReplayReply}
 use Rattle.step_replay.specs.declared.TextReplayed.{TextReplayed}
 use Rattle.report_lines.specs.Printing.{PrintedReply}
 use Rattle.refusals.specs.declared.Written.{Written}
-use Rattle.report_day.specs.Day.{Day}
-use Rattle.report_plan.specs.Plan.{Plan}
+use Rattle.report_day.specs.Day.{DayPrinted}
+use Rattle.report_plan.specs.Plan.{PlanPrinted}
 use Rattle.observe_calls.specs.declared.Observed.{Observed}
 use Rattle.observe_calls.specs.declared.Figured.{Figured}
 use Rattle.observe.specs.declared.test.Tested.{Tested}
@@ -58,8 +58,8 @@ pub record Determined : Type 0 where
   pub read-steps : (text : List ℕ) (before : List Step) → OneOf {R = StepsRead} {M = List Step} (λ r after. StepsReadReply text before after r)
   pub replay-text : (c : Case) (text : List ℕ) → One {R = TextReplayed} (TextReplayReply c text)
   -- the reports
-  pub day-report : (text lent : List ℕ) → OneOf {R = Written} {M = List ℕ} (λ r left. PrintedReply (Day text) lent left r)
-  pub plan-report : (input lent : List ℕ) → OneOf {R = Written} {M = List ℕ} (λ r left. PrintedReply (Plan input) lent left r)
+  pub day-report : (text lent : List ℕ) → OneOf {R = Written} {M = List ℕ} (λ r left. PrintedReply (DayPrinted text) lent left r)
+  pub plan-report : (input lent : List ℕ) → OneOf {R = Written} {M = List ℕ} (λ r left. PrintedReply (PlanPrinted input) lent left r)
   -- the state estimator's calls
   pub wz-observed : (text lent : List ℕ) → OneOf {R = ℕ} {M = List ℕ} (λ r left. Answered (OfText text ObservedFor) lent left r)
   pub wz-unconfirmed : (text lent : List ℕ) → OneOf {R = ℕ} {M = List ℕ} (λ r left. Answered (OfText text UnconfirmedFor) lent left r)

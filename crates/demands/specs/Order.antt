@@ -52,10 +52,10 @@ Precedes p q =
     (turn p < turn q) ⊎ ((turn p ≡ turn q) × ((p .place < q .place) ⊎ ((p .place ≡ q .place) × (p .number < q .number))))
 
 -- the table has each check's number, and each check comes before the next
-abbrev pub InOrder : List Check → Type 0
-InOrder [] = Unit {0}
-InOrder (p ∷ []) = InTable p
-InOrder (p ∷ q ∷ qs) = InTable p × Precedes p q × InOrder (q ∷ qs)
+abbrev pub InTableOrder : List Check → Type 0
+InTableOrder [] = Unit {0}
+InTableOrder (p ∷ []) = InTable p
+InTableOrder (p ∷ q ∷ qs) = InTable p × Precedes p q × InTableOrder (q ∷ qs)
 
 -- ---- the first that fails
 

@@ -8,8 +8,8 @@ use denote.Ref.{RefT, now}
 use Rattle.refusals.specs.declared.Written.{Written}
 use Rattle.refusals.specs.declared.Written.the-variants.{Bytes}
 use Rattle.report_lines.specs.Printing.{Printed, PrintedReply}
-use Rattle.report_day.specs.Day.{Day}
-use Rattle.report_plan.specs.Plan.{Plan}
+use Rattle.report_day.specs.Day.{DayPrinted}
+use Rattle.report_plan.specs.Plan.{PlanPrinted}
 use Rattle.report_day.proofs.program_report.Statement as day
 use Rattle.report_day.proofs.program_report.Reads as day-contract
 use Rattle.report_plan.proofs.program_report.Statement as plan
@@ -26,11 +26,11 @@ pub record Programs (M : Type 1) : Type 2 where
   -- which asks nothing, and tells that the day report's text is first in the bytes lent
   pub day-prints : (κs : Lfts 2) (text out : RefT (List ℕ)) → day-contract.Asked κs (text, (out, tt))
       × ((k : ℕ) (left : RefT (List ℕ)) → day-contract.Learnt κs (text, (out, tt)) k (text, (left, tt))
-      → Printed (Day (now text)) (now out) (now left) k)
+      → Printed (DayPrinted (now text)) (now out) (now left) k)
   -- and so for the planning program
   pub plan-prints : (κs : Lfts 2) (input out : RefT (List ℕ)) → plan-contract.Asked κs (input, (out, tt))
       × ((k : ℕ) (left : RefT (List ℕ)) → plan-contract.Learnt κs (input, (out, tt)) k (input, (left, tt))
-      → Printed (Plan (now input)) (now out) (now left) k)
+      → Printed (PlanPrinted (now input)) (now out) (now left) k)
   -- in so many bytes the report is never refused with 6
-  pub day-room : (text lent left : List ℕ) (r : Written) → length lent ≡ 1024 → PrintedReply (Day text) lent left r → Prints r
-  pub plan-room : (input lent left : List ℕ) (r : Written) → length lent ≡ 69 → PrintedReply (Plan input) lent left r → Prints r
+  pub day-room : (text lent left : List ℕ) (r : Written) → length lent ≡ 1024 → PrintedReply (DayPrinted text) lent left r → Prints r
+  pub plan-room : (input lent left : List ℕ) (r : Written) → length lent ≡ 69 → PrintedReply (PlanPrinted input) lent left r → Prints r

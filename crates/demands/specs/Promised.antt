@@ -19,8 +19,8 @@ use Rattle.step_replay.specs.Replying.{TextReplayReply}
 use Rattle.step_replay.specs.declared.TextReplayed.{TextReplayed}
 use Rattle.report_lines.specs.Printing.{PrintedReply}
 use Rattle.refusals.specs.declared.Written.{Written}
-use Rattle.report_day.specs.Day.{Day}
-use Rattle.report_plan.specs.Plan.{Plan}
+use Rattle.report_day.specs.Day.{DayPrinted}
+use Rattle.report_plan.specs.Plan.{PlanPrinted}
 use Rattle.observe_calls.specs.declared.Observed.{Observed}
 use Rattle.observe_calls.specs.declared.Figured.{Figured}
 use Rattle.observe_calls.specs.declared.Tested.{Tested}
@@ -125,11 +125,11 @@ pub record EveryPromise : Type 2 where
   pub day-report : (κs : Lfts 2) (text out : RefT (List ℕ)) →
       day-report.Asked κs (text, (out, tt))
       × ((r : Written) (left : RefT (List ℕ)) → day-report.Learnt κs (text, (out, tt)) r (text, (left, tt))
-      → PrintedReply (Day (now text)) (now out) (now left) r)
+      → PrintedReply (DayPrinted (now text)) (now out) (now left) r)
   pub plan-report : (κs : Lfts 2) (input out : RefT (List ℕ)) →
       plan-report.Asked κs (input, (out, tt))
       × ((r : Written) (left : RefT (List ℕ)) → plan-report.Learnt κs (input, (out, tt)) r (input, (left, tt))
-      → PrintedReply (Plan (now input)) (now out) (now left) r)
+      → PrintedReply (PlanPrinted (now input)) (now out) (now left) r)
   -- the state estimator's calls
   pub wz-observed : (κs : Lfts 2) (text set : RefT (List ℕ)) →
       wz-observed.Asked κs (text, (set, tt))

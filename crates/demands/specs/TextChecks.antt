@@ -15,9 +15,9 @@ use Rattle.step_line.specs.declared.StepLine.{StepLine}
 use Rattle.step_line.specs.declared.StepLine.the-variants as line
 use Rattle.grid.specs.declared.Case.{Case}
 use Rattle.grid.specs.Cases.{mostSteps, mostBytes, mostStepBytes}
-use Rattle.refusals.specs.Refusals.{Check, check}
+use Rattle.refusals.specs.Refusals.{Check, checkThat}
 use Rattle.case_judge.specs.Judging.{inPlace, inRange, inOrder}
-use Rattle.case_read.specs.Reading.{Reader, start, next, readCase}
+use Rattle.case_read.specs.Reading.{Reader, start, nextReader, readCase}
 use Rattle.list_follow.specs.Replies.{replayChecks}
 use Rattle.step_text.specs.Steps.{stepInRange, stepsOf}
 use Rattle.plan_input.specs.Asking.{budgetOf}
@@ -41,12 +41,12 @@ afterRecord Wrong end on = on
 
 -- line k, where the reader stands so, and the pieces after its line feed: it has one, and its record may stand here, or 2; 3; 4; then the lines after it
 abbrev pub lineChecks : Reader → ℕ → List ℕ → List (List ℕ) → List Check
-lineChecks s k l [] = check ⊥ 2 k ∷ []
+lineChecks s k l [] = checkThat ⊥ 2 k ∷ []
 lineChecks s k l (m ∷ ms) =
-    check (inPlace (s .place) (recordOf l) ≡ true) 2 k
-    ∷ check (inRange (s .place) (recordOf l) ≡ true) 3 k
-    ∷ check (inOrder (s .place) (recordOf l) ≡ true) 4 k
-    ∷ afterRecord (recordOf l) (check (NothingFollows m ms) 2 (k + 1) ∷ []) (lineChecks (next s (recordOf l)) (k + 1) m ms)
+    checkThat (inPlace (s .place) (recordOf l) ≡ true) 2 k
+    ∷ checkThat (inRange (s .place) (recordOf l) ≡ true) 3 k
+    ∷ checkThat (inOrder (s .place) (recordOf l) ≡ true) 4 k
+    ∷ afterRecord (recordOf l) (checkThat (NothingFollows m ms) 2 (k + 1) ∷ []) (lineChecks (nextReader s (recordOf l)) (k + 1) m ms)
 
 -- a text whose first line is line k
 abbrev pub linesFrom : ℕ → List ℕ → List Check
@@ -54,7 +54,7 @@ linesFrom k text = lineChecks start k (split lineFeed text .first) (split lineFe
 
 -- 1, then the first bad line
 abbrev pub caseChecks : List ℕ → List Check
-caseChecks text = check (length text ≤ mostBytes) 1 0 ∷ linesFrom 1 text
+caseChecks text = checkThat (length text ≤ mostBytes) 1 0 ∷ linesFrom 1 text
 
 -- ---- a step text
 
@@ -84,25 +84,26 @@ afterStep line.Wrong end on = on
 
 -- line k and the pieces after its line feed: 2, 3, 12, then the lines after it
 abbrev pub stepLineChecks : ℕ → List ℕ → List (List ℕ) → List Check
-stepLineChecks k l [] = check ⊥ 2 k ∷ []
+stepLineChecks k l [] = checkThat ⊥ 2 k ∷ []
 stepLineChecks k l (m ∷ ms) =
-    check (isFormed (stepLineOf l) ≡ true) 2 k
-    ∷ check (isRanged (stepLineOf l) ≡ true) 3 k
-    ∷ check (HasTurn (stepLineOf l) k) 12 k
-    ∷ afterStep (stepLineOf l) (check (NothingFollows m ms) 2 (k + 1) ∷ []) (stepLineChecks (k + 1) m ms)
+    checkThat (isFormed (stepLineOf l) ≡ true) 2 k
+    ∷ checkThat (isRanged (stepLineOf l) ≡ true) 3 k
+    ∷ checkThat (HasTurn (stepLineOf l) k) 12 k
+    ∷ afterStep (stepLineOf l) (checkThat (NothingFollows m ms) 2 (k + 1) ∷ []) (stepLineChecks (k + 1) m ms)
 
 -- 1, then the first bad line
 abbrev pub stepTextChecks : List ℕ → List Check
-stepTextChecks text = check (length text ≤ mostStepBytes) 1 0 ∷ stepLineChecks 1 (split lineFeed text .first) (split lineFeed text .rest)
+stepTextChecks text =
+    checkThat (length text ≤ mostStepBytes) 1 0 ∷ stepLineChecks 1 (split lineFeed text .first) (split lineFeed text .rest)
 
 -- a step text read beside a case text: 50 added to each number
 abbrev pub withFifty : List Check → List Check
 withFifty [] = []
-withFifty (q ∷ qs) = check (q .wants) (q .number + 50) (q .place) ∷ withFifty qs
+withFifty (q ∷ qs) = checkThat (q .wants) (q .number + 50) (q .place) ∷ withFifty qs
 
 -- a step text read into so many records: 6 last
 abbrev pub stepsReadChecks : List ℕ → ℕ → List Check
-stepsReadChecks text room = stepTextChecks text ++ check (length (stepsOf text) ≤ room) 6 0 ∷ []
+stepsReadChecks text room = stepTextChecks text ++ checkThat (length (stepsOf text) ≤ room) 6 0 ∷ []
 
 -- a step text replayed: the whole text, and then its steps
 abbrev pub textReplayChecks : Case → List ℕ → List Check
@@ -112,7 +113,7 @@ textReplayChecks c text = withFifty (stepTextChecks text) ++ replayChecks c (ste
 
 -- the set has room, or 6
 abbrev pub roomForSet : List ℕ → List Check
-roomForSet lent = check (8 ≤ length lent) 6 0 ∷ []
+roomForSet lent = checkThat (8 ≤ length lent) 6 0 ∷ []
 
 -- the case text, then what the call on its case checks, then 6
 abbrev pub estimatorChecks : List ℕ → (Case → List Check) → List ℕ → List Check
@@ -127,15 +128,15 @@ IsNumber numeral.Wrong = ⊥
 
 -- the plan line, or 2 at line 1, and then the case text's lines, which count from 2
 abbrev pub planLineChecks : List ℕ → List (List ℕ) → List Check
-planLineChecks l [] = check ⊥ 2 1 ∷ []
-planLineChecks l (m ∷ ms) = check (IsNumber (budgetOf l)) 2 1 ∷ lineChecks start 2 m ms
+planLineChecks l [] = checkThat ⊥ 2 1 ∷ []
+planLineChecks l (m ∷ ms) = checkThat (IsNumber (budgetOf l)) 2 1 ∷ lineChecks start 2 m ms
 
 -- 1 for the whole input, then the first bad line
 abbrev pub inputChecks : List ℕ → List Check
-inputChecks input = check (length input ≤ mostBytes) 1 0 ∷ planLineChecks (split lineFeed input .first) (split lineFeed input .rest)
+inputChecks input = checkThat (length input ≤ mostBytes) 1 0 ∷ planLineChecks (split lineFeed input .first) (split lineFeed input .rest)
 
 -- ---- what is printed
 
 -- every text that is asked for has room, or 6
 abbrev pub printChecks : (List ℕ → Type 0) → List ℕ → List Check
-printChecks P lent = check ((t : List ℕ) → P t → length t ≤ length lent) 6 0 ∷ []
+printChecks P lent = checkThat ((t : List ℕ) → P t → length t ≤ length lent) 6 0 ∷ []

@@ -6,12 +6,12 @@ use native.Mathlib.Omega.{arith}
 use lib.ListN.{length, drop, set}
 use Rattle.busset.specs.Bytes.{byteOf, setBytes}
 use Rattle.busset.proofs.Packing.{byte-at}
-use Rattle.step.proofs.Writing.{Written, written-more}
+use Rattle.step.proofs.Writing.{WrittenSoFar, written-more}
 
-pub filled-more : (s : ℕ) {lent room : List ℕ} {i b : ℕ} → Written (setBytes s) lent room i → i < 8 → 8 ≤ length lent → b ≡ byteOf s i
-    → Written (setBytes s) lent (set room i b) (i + 1)
+pub filled-more : (s : ℕ) {lent room : List ℕ} {i b : ℕ} → WrittenSoFar (setBytes s) lent room i → i < 8 → 8 ≤ length lent → b ≡ byteOf s i
+    → WrittenSoFar (setBytes s) lent (set room i b) (i + 1)
 filled-more s {lent} {room} {i} {b} w l m e =
-    subst (λ (x : ℕ). Written (setBytes s) lent (set room i x) (i + 1)) (byte-at s i l ∙ sym e) (written-more 0 w l (omega arith))
+    subst (λ (x : ℕ). WrittenSoFar (setBytes s) lent (set room i x) (i + 1)) (byte-at s i l ∙ sym e) (written-more 0 w l (omega arith))
 
-pub filled-all : (s : ℕ) {lent room : List ℕ} {i : ℕ} → Written (setBytes s) lent room i → i ≡ 8 → room ≡ setBytes s ++ drop 8 lent
-filled-all s {lent} {room} w e = subst (λ (k : ℕ). Written (setBytes s) lent room k) e w .is
+pub filled-all : (s : ℕ) {lent room : List ℕ} {i : ℕ} → WrittenSoFar (setBytes s) lent room i → i ≡ 8 → room ≡ setBytes s ++ drop 8 lent
+filled-all s {lent} {room} w e = subst (λ (k : ℕ). WrittenSoFar (setBytes s) lent room k) e w .is

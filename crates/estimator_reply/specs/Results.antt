@@ -53,7 +53,7 @@ abbrev pub farthest : ℕ
 farthest = 1 + mostStepBytes
 
 -- a refusal's place is no farther
-abbrev pub Placed : Answer → Type 0
-Placed (Set s) = Unit {0}
-Placed (Refused q) = placeOf q ≤ farthest
-Placed (Unread q) = placeOf q ≤ farthest
+abbrev pub PlaceInRange : Answer → Type 0
+PlaceInRange (Set s) = Unit {0}
+PlaceInRange (Refused q) = placeOf q ≤ farthest
+PlaceInRange (Unread q) = placeOf q ≤ farthest

@@ -5,7 +5,7 @@ ghost use Prim.Native.Nat.{_≤_};
 ghost use lib.ListN.{length, drop};
 ghost use Rattle.busset.specs.Bytes.{setBytes};
 ghost use Rattle.refusals.specs.Refusals.{placeOf};
-ghost use Rattle.estimator_reply.specs.Results.{farthest, Placed, codeOf, resultOf, setIn, Replied};
+ghost use Rattle.estimator_reply.specs.Results.{farthest, PlaceInRange, codeOf, resultOf, setIn, Replied};
 use busset::BusSet;
 use refusals::Refusal;
 
@@ -49,7 +49,7 @@ fn set_of(answer: Answer) -> BusSet
 
 // The number of an answer where so many bytes are lent.
 fn result(answer: Answer, room: usize) -> u32
-    requires { ⌜ Placed answer ⌝ }
+    requires { ⌜ PlaceInRange answer ⌝ }
     ensures { λ r. ⌜ r ≡ resultOf answer room ⌝ }
 {
     match answer {
@@ -65,7 +65,7 @@ fn result(answer: Answer, room: usize) -> u32
 }
 
 pub fn reply(answer: Answer, set: &mut [u8]) -> u32
-    requires { ⌜ Placed answer ⌝ }
+    requires { ⌜ PlaceInRange answer ⌝ }
     ensures { λ r. ⌜ Replied answer (now (set .entry)) (now (set .exit)) r ⌝ }
 {
     let r = result(answer, set.len());

@@ -31,7 +31,7 @@ use Rattle.step.proofs.Step as T
 use Rattle.grid.specs.declared.Case.{Case}
 use Rattle.grid.proofs.Case as D
 use Rattle.grid.proofs.Case.Laws as D′
-use Rattle.list_follow.specs.Following.{After, Follows}
+use Rattle.list_follow.specs.Following.{StandsAfter, Follows}
 use Rattle.list_follow.specs.declared.Task.{Task}
 use Rattle.list_follow.specs.declared.Following.{Following}
 use Rattle.list_follow.proofs.Following as S
@@ -62,11 +62,11 @@ module _ {M : Type 1} {𝓤 : URA M} {H : Heap 𝓤} {A : Atoms 𝓤} {K : Type 
   pub calls-begin : K → FmC 𝓤 H (W .laws) C → {rest : Body} (mem : Memory → SProp 𝓤) (run : Routine → Fun 𝓤) → Triple 𝓤 (C #list_follow·begin) (Begin 𝓤 H A mem run)
       → (cs : Case) → Is D.the-row cs (LL.vals D.the-type D′.the-laws cs) → (k : Task) (n : ℕ) → n < 2 ^ 64
       → Opds K W (raw (Begin 𝓤 H A mem run .pre (begin-at 𝓤 H A mem run cs k n)) ∷ Γ) E xs (Begin 𝓤 H A mem run .args (begin-at 𝓤 H A mem run cs k n))
-      → ((u : Val) (st : Following) → Is S.the-row st (u ∷ []) → After cs k n [] st → Seq K W Γ (lands C Λ E d u rest p))
+      → ((u : Val) (st : Following) → Is S.the-row st (u ∷ []) → StandsAfter cs k n [] st → Seq K W Γ (lands C Λ E d u rest p))
       → Seq K W Γ (runs C Λ E (seq (call #list_follow·begin xs d) rest) p)
   calls-begin t fm mem run known cs gcs k n fits os then =
       calls-plain t fm begin.ended (begin.clauses 𝓤 H A mem run) known (begin-at 𝓤 H A mem run cs k n .0) tt (id⊢ 𝓤 _) (id⊢ 𝓤 _)
-      (case-made 𝓤 H A, (task-made 𝓤 H A, (uint-makes 𝓤 H A W w64, tt))) (gcs, (task-is k, ((refl, fits), tt))) (After cs k n []) (λ r ws. id⊢ 𝓤 _) os then
+      (case-made 𝓤 H A, (task-made 𝓤 H A, (uint-makes 𝓤 H A W w64, tt))) (gcs, (task-is k, ((refl, fits), tt))) (StandsAfter cs k n []) (λ r ws. id⊢ 𝓤 _) os then
 
   -- the slice is passed on with its token, which comes back
   pub calls-follow : K → FmC 𝓤 H (W .laws) C → {rest : Body} (mem : Memory → SProp 𝓤) (run : Routine → Fun 𝓤) → Triple 𝓤 (C #list_calls·follow) (Follow 𝓤 H A mem run)

@@ -1,6 +1,6 @@
 // Replay and weaving over lent records.
 ghost use Rattle.list_follow.specs.Following.{Follows};
-ghost use Rattle.list_follow.specs.Replies.{ReplayReply, WeaveReply, Put};
+ghost use Rattle.list_follow.specs.Replies.{ReplayReply, WeaveReply, PutSteps};
 use grid::Case;
 use list_follow::Following;
 use list_follow::Replayed;
@@ -29,7 +29,7 @@ pub fn follow(case: Case, from: Following, steps: &[Step]) -> Following
 
 // Writes the steps that weaving answers.
 pub fn put(st: Following, out: &mut [Step]) -> Wove
-    ensures { λ r. ⌜ Put st (now (out .entry)) (now (out .exit)) r ⌝ }
+    ensures { λ r. ⌜ PutSteps st (now (out .entry)) (now (out .exit)) r ⌝ }
 {
     let answer = settled(st, out.len());
     let m = count_of(answer);

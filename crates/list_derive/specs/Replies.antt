@@ -3,7 +3,7 @@ use mathlib.Core.Path.{_≡_}
 use mathlib.Core.List.{List, [], _∷_}
 use Rattle.grid.specs.declared.Case.{Case}
 use Rattle.grid.specs.Cases.{gridOf, Valid}
-use Rattle.refusals.specs.Refusals.{Check, check, Passed, Failed}
+use Rattle.refusals.specs.Refusals.{Check, checkThat, Passed, Failed}
 use Rattle.list_value.specs.Lists.{listOf}
 use Rattle.list_derive.specs.Deriving.{Derives}
 use Rattle.list_value.specs.declared.StepList.{StepList}
@@ -13,7 +13,7 @@ use Rattle.list_derive.specs.declared.Derived.{Derived}
 
 -- the case is valid, or 5
 abbrev pub derivationChecks : Case → List Check
-derivationChecks c = check (Valid c) 5 0 ∷ []
+derivationChecks c = checkThat (Valid c) 5 0 ∷ []
 
 -- the derivation, or the refusal with an empty list beside it
 abbrev pub DerivationAt : Case → StepList → DerivationAnswer → Type 0

@@ -14,7 +14,7 @@ use Rattle.busset.specs.Sets.{Sub, setOf}
 use Rattle.basics.proofs.Tests.{decides-le, decides-by, decides-no, refutes}
 use Rattle.busset.proofs.Members.{sub-of, sub-antisym}
 use Rattle.busset.proofs.Sizes.{size-most}
-use Rattle.step.specs.Records.{noStep, written, putFirst}
+use Rattle.step.specs.Records.{noStep, writtenInto, putFirst}
 use Rattle.step.specs.declared.Step.{Step}
 use Rattle.step.proofs.Records.{put-first}
 use Rattle.rules.specs.Grids.{Grid}
@@ -26,15 +26,15 @@ use Rattle.grid.specs.declared.Case.{Case}
 use Rattle.grid.specs.Cases.{gridOf}
 use Rattle.refusals.specs.declared.Refusal.{Refusal}
 use Rattle.refusals.specs.declared.Refusal.the-variants.{NoRoom}
-use Rattle.refusals.specs.Refusals.{Check, check, Passed}
+use Rattle.refusals.specs.Refusals.{Check, checkThat, Passed}
 use Rattle.refusals.proofs.Orders.{itself, passed-then, failed-sooner, failed-later}
 use Rattle.grid.specs.Near.{WithNeighbours}
 use Rattle.observe.specs.Passes.{Swept}
 use Rattle.list_value.specs.Lists.{nthOf, listOf}
 use Rattle.list_value.specs.declared.StepList.{StepList}
 use Rattle.list_value.proofs.Listing.{nth-in}
-use Rattle.list_follow.specs.Following.{listChecks, StandingBy, Carries, After}
-use Rattle.list_follow.specs.Replies.{replayChecks, WeaveReply, Ended, woveAt, countOf, Put}
+use Rattle.list_follow.specs.Following.{listChecks, StandingBy, Carries, StandsAfter}
+use Rattle.list_follow.specs.Replies.{replayChecks, WeaveReply, AnswersReplay, woveAt, countWritten, PutSteps}
 use Rattle.list_follow.specs.declared.Task.the-variants.{Weave}
 use Rattle.list_follow.specs.declared.Standing.{Standing}
 use Rattle.list_follow.specs.declared.Standing.the-variants.{Good, Bad}
@@ -65,12 +65,12 @@ finished-test {g} {s} {o} {r} st sub sw d =
 -- ---- replay
 
 pub ended-good : {c : Case} {st : Following} {f : Bool} → st .standing ≡ Good → Decides (Finished (gridOf c) (setOf (st .set))) f
-    → Ended c st (replayed.Reached (st .set) f)
+    → AnswersReplay c st (replayed.Reached (st .set) f)
 ended-good {c} {st} {f} e d xs s =
     let set = s .carries e .set in
     (subst (StandingBy (replayChecks c xs)) e (s .standing), set, subst (λ (t : ℕ). Decides (Finished (gridOf c) t) f) set d)
 
-pub ended-bad : {c : Case} {st : Following} {q : Refusal} → st .standing ≡ Bad q → Ended c st (replayed.Refused q)
+pub ended-bad : {c : Case} {st : Following} {q : Refusal} → st .standing ≡ Bad q → AnswersReplay c st (replayed.Refused q)
 ended-bad {c} e xs s = subst (StandingBy (replayChecks c xs)) e (s .standing)
 
 -- ---- weaving
@@ -91,17 +91,18 @@ pub settled-bad : (st : Following) (room : ℕ) {q : Refusal} → st .standing �
 settled-bad st room e = ap (woveAt st room) (sym e)
 
 -- no more is written than there is room for
-pub count-fits : (st : Following) (room : ℕ) (w : Standing) → countOf (woveAt st room w) ≤ room
+pub count-fits : (st : Following) (room : ℕ) (w : Standing) → countWritten (woveAt st room w) ≤ room
 count-fits st room Good = go (leb (st .list .n) room) (decides-le (st .list .n) room)
   where
-    go : (b : Bool) → Decides (st .list .n ≤ room) b → countOf (cond b (wove.Written (st .list .n) (st .set)) (wove.Refused NoRoom)) ≤ room
+    go : (b : Bool) → Decides (st .list .n ≤ room) b
+        → countWritten (cond b (wove.Written (st .list .n) (st .set)) (wove.Refused NoRoom)) ≤ room
     go true d = d .yes refl
     go false d = omega arith
 count-fits st room (Bad q) = omega arith
 
 -- a list by value, put into records
 put-list : (ys before : List Step) → length ys ≤ 64 → length ys ≤ length before
-    → putFirst (length ys) (nthOf (listOf ys)) before ≡ written ys before
+    → putFirst (length ys) (nthOf (listOf ys)) before ≡ writtenInto ys before
 put-list ys before few room =
     let blanks = replicate (64 - length ys) noStep in
     put-first (listOf ys .steps) before (nthOf (listOf ys)) (length ys) (λ i l. sym (nth-in (listOf ys) i (omega arith)))
@@ -113,11 +114,11 @@ module _ (c : Case) (st : Following) (xs before after : List Step) where
   checks = listChecks Weave c (length xs) xs
 
   abbrev room : List Check
-  room = check (length (woven xs) ≤ length before) 6 0 ∷ []
+  room = checkThat (length (woven xs) ≤ length before) 6 0 ∷ []
 
   -- the answer r is right where the records hold as many steps of the list as it says
   abbrev Right : Wove → Type 0
-  Right r = after ≡ putFirst (countOf r) (nthOf (st .list)) before → WeaveReply c xs before after r
+  Right r = after ≡ putFirst (countWritten r) (nthOf (st .list)) before → WeaveReply c xs before after r
 
   count : Carries xs st → st .list .n ≡ length (woven xs)
   count h = ap (λ (l : StepList). l .n) (h .list)
@@ -145,7 +146,7 @@ module _ (c : Case) (st : Following) (xs before after : List Step) where
       go false d = full ok (h refl) (refutes d refl)
   right (Bad q) f h = λ put. (failed-sooner checks room q f, put)
 
-pub weave-law : {c : Case} {st : Following} (xs before after : List Step) (r : Wove) → After c Weave (length xs) xs st
-    → Put st before after r → WeaveReply c xs before after r
+pub weave-law : {c : Case} {st : Following} (xs before after : List Step) (r : Wove) → StandsAfter c Weave (length xs) xs st
+    → PutSteps st before after r → WeaveReply c xs before after r
 weave-law {c} {st} xs before after r s p =
     subst⁻¹ (Right c st xs before after) (p .settled) (right c st xs before after (st .standing) (s .standing) (s .carries)) (p .records)

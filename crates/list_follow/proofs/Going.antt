@@ -23,7 +23,7 @@ use Rattle.observe.specs.Testing.{stepChecksAt}
 use Rattle.list_value.specs.Lists.{listOf, pushed}
 use Rattle.list_value.specs.declared.StepList.{StepList}
 use Rattle.list_value.proofs.Listing.{pushed-list}
-use Rattle.list_follow.specs.Following.{checksFrom, listChecks, StandingBy, Carries, After, Follows, afterRefusal}
+use Rattle.list_follow.specs.Following.{checksFrom, listChecks, StandingBy, Carries, StandsAfter, Follows, afterRefusal}
 use Rattle.list_follow.specs.declared.Task.{Task}
 use Rattle.list_follow.specs.declared.Task.the-variants.{Replay, Weave}
 use Rattle.list_follow.specs.declared.Standing.{Standing}
@@ -47,14 +47,14 @@ other-refuses Weave q n = ap (λ (b : Bool). cond b Good (Bad q)) (sym (ne-eqb (
 -- ---- step after step
 
 pub follows-none : (c : Case) (st : Following) → Follows c st [] st
-follows-none c st = record { leads = λ task count ys l s. subst⁻¹ (λ (zs : List Step). After c task count zs st) (append-nil ys) s }
+follows-none c st = record { leads = λ task count ys l s. subst⁻¹ (λ (zs : List Step). StandsAfter c task count zs st) (append-nil ys) s }
 
 pub follows-next : {c : Case} {st r last : Following} {x : Step} {xs : List Step} → Follows c st (x ∷ []) r → Follows c r xs last
     → Follows c st (x ∷ xs) last
 follows-next {c} {st} {r} {last} {x} {xs} f g = record {
   leads = λ task count ys l s.
       let e = append-assoc ys (x ∷ []) xs in
-      subst (λ (zs : List Step). After c task count zs last) e
+      subst (λ (zs : List Step). StandsAfter c task count zs last) e
       (g .leads task count (ys ++ (x ∷ [])) (subst⁻¹ (λ (zs : List Step). length zs ≤ count) e l)
       (f .leads task count ys (omega (arith, l, length-append ys (x ∷ xs), length-append ys (x ∷ []))) s));
 }
@@ -86,7 +86,7 @@ record Here (c : Case) (st : Following) (task : Task) (count : ℕ) (ys : List S
   pub more : st .read < mostSteps
 
 one-further : {c : Case} {st r : Following} {x : Step} → st .standing ≡ Good
-    → ((task : Task) (count : ℕ) (ys : List Step) → Here c st task count ys → After c task count (ys ++ (x ∷ [])) r)
+    → ((task : Task) (count : ℕ) (ys : List Step) → Here c st task count ys → StandsAfter c task count (ys ++ (x ∷ [])) r)
     → Follows c st (x ∷ []) r
 one-further {c} {st} {r} {x} e f = record {
   leads = λ task count ys l s.
@@ -107,7 +107,7 @@ module _ (c : Case) (st : Following) (x : Step) (k : ℕ) (good : st .standing �
   -- where the list is after x, from what is checked of x
   goes : (task : Task) (count : ℕ) (ys : List Step) (r : Following) → Here c st task count ys → r .task ≡ st .task
       → StandingBy (checksFrom task c k (setOf (st .set)) (x ∷ [])) (r .standing) → (r .standing ≡ Good → Carries (ys ++ (x ∷ [])) r)
-      → After c task count (ys ++ (x ∷ [])) r
+      → StandsAfter c task count (ys ++ (x ∷ [])) r
   goes task count ys r h e s carries =
       let place : k ≡ suc (length ys) = nth (h .more) ∙ ap suc (h .carries .read) in
       record {

@@ -12,7 +12,7 @@ use Rattle.rules.specs.Weaving.{woven}
 use Rattle.grid.specs.declared.Case.{Case}
 use Rattle.grid.specs.Cases.{mostSteps, gridOf, Valid}
 use Rattle.refusals.specs.declared.Refusal.{Refusal}
-use Rattle.refusals.specs.Refusals.{numberOf, Check, check, Passed, Failed}
+use Rattle.refusals.specs.Refusals.{numberOf, Check, checkThat, Passed, Failed}
 use Rattle.observe.specs.Testing.{stepChecksAt}
 use Rattle.list_value.specs.Lists.{listOf}
 use Rattle.list_follow.specs.declared.Task.{Task}
@@ -26,7 +26,7 @@ use Rattle.list_follow.specs.declared.Following.{Following}
 -- of step k, where s is observed: replay asks the single-step test; weaving passes over an observed bus, with 7 alone
 abbrev pub checksAt : Task → Case → ℕ → ℕ → Step → List Check
 checksAt Replay c k s x = stepChecksAt c k s x
-checksAt Weave c k s x = check (Names (c .n) x) 7 k ∷ check (Out s (x .bus) → Holds (gridOf c) s (x .bus) (x .reason)) 9 k ∷ []
+checksAt Weave c k s x = checkThat (Names (c .n) x) 7 k ∷ checkThat (Out s (x .bus) → Holds (gridOf c) s (x .bus) (x .reason)) 9 k ∷ []
 
 -- of the steps from step k on, each where those before it lead
 abbrev pub checksFrom : Task → Case → ℕ → ℕ → List Step → List Check
@@ -35,7 +35,7 @@ checksFrom task c k s (x ∷ xs) = checksAt task c k s x ++ checksFrom task c (s
 
 -- of a list of `count` steps before its first: 5, then 12
 abbrev pub beginChecks : Case → ℕ → List Check
-beginChecks c count = check (Valid c) 5 0 ∷ check (count ≤ mostSteps) 12 0 ∷ []
+beginChecks c count = checkThat (Valid c) 5 0 ∷ checkThat (count ≤ mostSteps) 12 0 ∷ []
 
 -- of a list of `count` steps, as far as its steps xs
 abbrev pub listChecks : Task → Case → ℕ → List Step → List Check
@@ -55,15 +55,15 @@ pub record Carries (xs : List Step) (st : Following) : Type 0 where
   pub list : st .list ≡ listOf (woven xs)
 
 -- st is where a list of `count` steps is after its steps xs
-pub record After (c : Case) (task : Task) (count : ℕ) (xs : List Step) (st : Following) : Type 0 where
+pub record StandsAfter (c : Case) (task : Task) (count : ℕ) (xs : List Step) (st : Following) : Type 0 where
   pub is-task : st .task ≡ task
   pub standing : StandingBy (listChecks task c count xs) (st .standing)
   pub carries : st .standing ≡ Good → Carries xs st
 
 -- the steps xs lead from st to r: if st is after the steps ys of a list, r is after xs too
 pub record Follows (c : Case) (st : Following) (xs : List Step) (r : Following) : Type 0 where
-  pub leads : (task : Task) (count : ℕ) (ys : List Step) → length (ys ++ xs) ≤ count → After c task count ys st
-      → After c task count (ys ++ xs) r
+  pub leads : (task : Task) (count : ℕ) (ys : List Step) → length (ys ++ xs) ≤ count → StandsAfter c task count ys st
+      → StandsAfter c task count (ys ++ xs) r
 
 -- where a step that the test refuses leaves a list: weaving passes over an observed bus
 abbrev pub afterRefusal : Task → Refusal → Standing

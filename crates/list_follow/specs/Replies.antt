@@ -7,16 +7,16 @@ use lib.Dec.{leb}
 use lib.ListN.{length}
 use Rattle.basics.specs.Deciding.{Decides}
 use Rattle.busset.specs.Sets.{setOf}
-use Rattle.step.specs.Records.{written, putFirst}
+use Rattle.step.specs.Records.{writtenInto, putFirst}
 use Rattle.step.specs.declared.Step.{Step}
 use Rattle.rules.specs.Steps.{reached, Finished}
 use Rattle.rules.specs.Weaving.{woven}
 use Rattle.grid.specs.declared.Case.{Case}
 use Rattle.grid.specs.Cases.{gridOf}
 use Rattle.refusals.specs.declared.Refusal.the-variants.{NoRoom}
-use Rattle.refusals.specs.Refusals.{Check, check, Passed, Failed}
+use Rattle.refusals.specs.Refusals.{Check, checkThat, Passed, Failed}
 use Rattle.list_value.specs.Lists.{nthOf}
-use Rattle.list_follow.specs.Following.{listChecks, After}
+use Rattle.list_follow.specs.Following.{listChecks, StandsAfter}
 use Rattle.list_follow.specs.declared.Task.the-variants.{Replay, Weave}
 use Rattle.list_follow.specs.declared.Standing.{Standing}
 use Rattle.list_follow.specs.declared.Standing.the-variants.{Good, Bad}
@@ -42,20 +42,20 @@ ReplayReply c xs (replayed.Refused r) = Failed (replayChecks c xs) r
 
 -- 5, 12, then 7, 9 at the first bad step, then 6
 abbrev pub weaveChecks : Case → List Step → ℕ → List Check
-weaveChecks c xs room = listChecks Weave c (length xs) xs ++ (check (length (woven xs) ≤ room) 6 0 ∷ [])
+weaveChecks c xs room = listChecks Weave c (length xs) xs ++ (checkThat (length (woven xs) ≤ room) 6 0 ∷ [])
 
 -- the count written and the set that what is written reaches; a refusal leaves every record as it was
 abbrev pub WeaveReply : Case → List Step → List Step → List Step → Wove → Type 0
 WeaveReply c xs before after (wove.Written count s) =
     Passed (weaveChecks c xs (length before)) × (count ≡ length (woven xs)) × (setOf s ≡ reached (woven xs))
-    × (after ≡ written (woven xs) before)
+    × (after ≡ writtenInto (woven xs) before)
 WeaveReply c xs before after (wove.Refused r) = Failed (weaveChecks c xs (length before)) r × (after ≡ before)
 
 -- ---- on the way
 
 -- r answers replay for any list that ends at st
-abbrev pub Ended : Case → Following → Replayed → Type 0
-Ended c st r = (xs : List Step) → After c Replay (length xs) xs st → ReplayReply c xs r
+abbrev pub AnswersReplay : Case → Following → Replayed → Type 0
+AnswersReplay c st r = (xs : List Step) → StandsAfter c Replay (length xs) xs st → ReplayReply c xs r
 
 -- weaving's answer where a list ended so and there are `room` records: its steps are written where they fit
 abbrev pub woveAt : Following → ℕ → Standing → Wove
@@ -63,11 +63,11 @@ woveAt st room Good = cond (leb (st .list .n) room) (wove.Written (st .list .n) 
 woveAt st room (Bad q) = wove.Refused q
 
 -- how many records are written
-abbrev pub countOf : Wove → ℕ
-countOf (wove.Written count s) = count
-countOf (wove.Refused r) = 0
+abbrev pub countWritten : Wove → ℕ
+countWritten (wove.Written count s) = count
+countWritten (wove.Refused r) = 0
 
 -- what is put into the records: as many steps as the answer says
-pub record Put (st : Following) (before after : List Step) (r : Wove) : Type 0 where
+pub record PutSteps (st : Following) (before after : List Step) (r : Wove) : Type 0 where
   pub settled : r ≡ woveAt st (length before) (st .standing)
-  pub records : after ≡ putFirst (countOf r) (nthOf (st .list)) before
+  pub records : after ≡ putFirst (countWritten r) (nthOf (st .list)) before

@@ -6,8 +6,8 @@ ghost use Rattle.basics.specs.Deciding.{Decides};
 ghost use Rattle.busset.specs.Sets.{setOf};
 ghost use Rattle.rules.specs.Steps.{Finished};
 ghost use Rattle.grid.specs.Cases.{gridOf};
-ghost use Rattle.list_follow.specs.Following.{beginChecks, StandingBy, After, Follows, afterRefusal};
-ghost use Rattle.list_follow.specs.Replies.{Ended, woveAt, countOf};
+ghost use Rattle.list_follow.specs.Following.{beginChecks, StandingBy, StandsAfter, Follows, afterRefusal};
+ghost use Rattle.list_follow.specs.Replies.{AnswersReplay, woveAt, countWritten};
 use busset::BusSet;
 use grid::Case;
 use list_value::StepList;
@@ -66,7 +66,7 @@ fn opening(case: Case, count: usize) -> Standing
 
 // A list of `count` steps, begun.
 pub fn begin(case: Case, task: Task, count: usize) -> Following
-    ensures { λ r. ⌜ After case task count [] r ⌝ }
+    ensures { λ r. ⌜ StandsAfter case task count [] r ⌝ }
 {
     let standing = opening(case, count);
     let list = no_steps();
@@ -154,7 +154,7 @@ pub fn is_finished(case: Case, s: BusSet) -> bool
 
 // Replay's answer for the list that ends so.
 pub fn ended(case: Case, st: Following) -> Replayed
-    ensures { λ r. ⌜ Ended case st r ⌝ }
+    ensures { λ r. ⌜ AnswersReplay case st r ⌝ }
 {
     let standing = st.standing;
     match standing {
@@ -184,7 +184,7 @@ pub fn settled(st: Following, room: usize) -> Wove
 
 // How many records are written.
 pub fn count_of(w: Wove) -> usize
-    ensures { λ r. ⌜ r ≡ countOf w ⌝ }
+    ensures { λ r. ⌜ r ≡ countWritten w ⌝ }
 {
     match w {
         Wove::Written(count, _) => count,

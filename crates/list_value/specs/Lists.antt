@@ -9,8 +9,8 @@ use Rattle.step.specs.declared.Step.{Step}
 use Rattle.list_value.specs.declared.StepList.{StepList}
 
 -- the steps of a list by value
-abbrev pub listed : StepList → List Step
-listed l = take (l .n) (l .steps)
+abbrev pub listedSteps : StepList → List Step
+listedSteps l = take (l .n) (l .steps)
 
 -- what stands at i, of 64 places counted from 0
 abbrev pub nthOf : StepList → ℕ → Step

@@ -8,7 +8,7 @@ use Rattle.rules.specs.Observation.{ObservedSet}
 use Rattle.rules.specs.Figures.{figure}
 use Rattle.grid.specs.declared.Case.{Case}
 use Rattle.grid.specs.Cases.{gridOf, Valid}
-use Rattle.refusals.specs.Refusals.{Check, check, Passed, Failed}
+use Rattle.refusals.specs.Refusals.{Check, checkThat, Passed, Failed}
 use Rattle.observe.specs.Testing.{stepChecksAt, TestedBy}
 use Rattle.observe.specs.declared.test.Tested.{Tested}
 use Rattle.observe_calls.specs.declared.Observed.{Observed}
@@ -24,7 +24,7 @@ stated c s = upTo (c .n) (setOf s)
 
 -- the case is valid, or 5
 abbrev pub observedChecks : Case → List Check
-observedChecks c = check (Valid c) 5 0 ∷ []
+observedChecks c = checkThat (Valid c) 5 0 ∷ []
 
 -- the least set that satisfies both rules
 abbrev pub ObservedReply : Case → Observed → Type 0
@@ -35,7 +35,8 @@ ObservedReply c (observed.Refused r) = Failed (observedChecks c) r
 
 -- 5; i and j are 1 to n, or 7; they are joined, or 13
 abbrev pub figureChecks : Case → ℕ → ℕ → List Check
-figureChecks c i j = check (Valid c) 5 0 ∷ check (Bus (c .n) i × Bus (c .n) j) 7 0 ∷ check (In (gridOf c .neighbours i) j) 13 0 ∷ []
+figureChecks c i j =
+    checkThat (Valid c) 5 0 ∷ checkThat (Bus (c .n) i × Bus (c .n) j) 7 0 ∷ checkThat (In (gridOf c .neighbours i) j) 13 0 ∷ []
 
 -- the figure in the stated set
 abbrev pub FigureReply : Case → ℕ → ℕ → ℕ → Figured → Type 0
@@ -46,7 +47,7 @@ FigureReply c s i j (figured.Refused r) = Failed (figureChecks c i j) r
 
 -- 5, then 7, 8, 9 in the stated set
 abbrev pub stepChecks : Case → ℕ → Step → List Check
-stepChecks c s x = check (Valid c) 5 0 ∷ stepChecksAt c 1 (stated c s) x
+stepChecks c s x = checkThat (Valid c) 5 0 ∷ stepChecksAt c 1 (stated c s) x
 
 -- the step is allowed, or refused
 abbrev pub StepReply : Case → ℕ → Step → Tested → Type 0

@@ -11,13 +11,13 @@ use Rattle.busset.proofs.Sizes.{size-some}
 use Rattle.rules.specs.Grids.{Grid}
 use Rattle.rules.specs.Observation.{Closed}
 use Rattle.rules.specs.Placing.{withUnits, Full}
-use Rattle.place_light.specs.Ways.{NoCover, Spared, Idle}
+use Rattle.place_light.specs.Ways.{Uncoverable, Spared, Idle}
 use Rattle.place_light.proofs.Covers.{cover-less, cover-not-idle}
 use Rattle.place_light.proofs.Sparing.{without-less, without-out}
 
 -- x is tried, and left out where it does not help
 module _ {sites x rest : ℕ} (w : Without sites x rest) where
-  pub spared-tried : {g : Grid} {k : ℕ} → 0 < k → NoCover (withUnits g (add (g .units) x)) rest (k - 1) → Spared g sites k rest
+  pub spared-tried : {g : Grid} {k : ℕ} → 0 < k → Uncoverable (withUnits g (add (g .units) x)) rest (k - 1) → Spared g sites k rest
   spared-tried p with-it without v c =
       ⊎-elim
       (λ (h : In v x). with-it (less v x) (cover-less x c h (without-less w v (c .of)) p))
@@ -38,11 +38,11 @@ idle-tried {nbr} {c} {left} {tries} {x} {left′} {tries′} idle w o y h =
 
 -- none is left to try: no cover
 pub idle-no-cover : {g : Grid} {c left tries : ℕ} (k : ℕ) → Closed g c → (Full (g .n) c → ⊥) → IdleBut (g .neighbours) c left tries → tries ≡ empty
-    → NoCover g left k
+    → Uncoverable g left k
 idle-no-cover {left = left} k cl lacks idle e v w =
     cover-not-idle w cl lacks (λ x h. idle x (let sub = w .of x in omega arith) (ap (λ (s : ℕ). bit s x) e ∙ bit-zero x))
 
 -- nothing to place: no cover, where a bus is lacking
-pub lacks-no-cover : {g : Grid} {s sites k : ℕ} → Closed g s → (Full (g .n) s → ⊥) → k ≡ 0 → NoCover g sites k
+pub lacks-no-cover : {g : Grid} {s sites k : ℕ} → Closed g s → (Full (g .n) s → ⊥) → k ≡ 0 → Uncoverable g sites k
 lacks-no-cover cl lacks e v w =
     cover-not-idle w cl lacks (λ x h. let some = size-some v x h in absurd (let few = w .few in omega arith))

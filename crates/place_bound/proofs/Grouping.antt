@@ -14,7 +14,7 @@ use Rattle.grid.specs.Cases.{Lines}
 use Rattle.grid.specs.Near.{WithNeighbours}
 use Rattle.observe.specs.Passes.{Spread}
 use Rattle.place_light.specs.Lights.{LitAll}
-use Rattle.place_light.specs.Ways.{NoCover, Group}
+use Rattle.place_light.specs.Ways.{Uncoverable, Group}
 use Rattle.place_light.proofs.Lighting.{lit-all-closed}
 use Rattle.place_light.proofs.Covers.{Grouped, grouped-more, grouped-stuck}
 use Rattle.place_bound.specs.Shrinking.{Shrunk}
@@ -63,7 +63,7 @@ group-by {n} {nbr} {a} {sites} {c} {dark} {near} {r} lines al m st h bus = recor
 module _ {g : Grid} {sites q t m c next : ℕ} (gr : Grouped g sites q t m) (lacks : Full (g .n) t → ⊥)
     (sh : Shrunk (g .n) (g .neighbours) (g .zeros) t c) (d : Group (g .neighbours) sites c next) where
   -- an empty group: no cover
-  pub no-group : (k : ℕ) → next ≡ empty → NoCover g sites k
+  pub no-group : (k : ℕ) → next ≡ empty → Uncoverable g sites k
   no-group k e =
       grouped-stuck {r = q} gr (shrunk-closed (gr .closed) sh) (sh .grows) (sh .lacks lacks) d
       (record { at = λ b. omega (arith, ap (λ (s : ℕ). bit s b) e, bit-zero b) }) k e

@@ -9,7 +9,7 @@ use Rattle.rules.specs.Placing as placing
 use Rattle.rules.specs.Choosing as choosing
 use Rattle.grid.specs.declared.Case.{Case}
 use Rattle.grid.specs.Cases.{mostBudget, mostGreedyBudget, gridOf, Valid}
-use Rattle.refusals.specs.Refusals.{Check, check, Passed, Failed}
+use Rattle.refusals.specs.Refusals.{Check, checkThat, Passed, Failed}
 use Rattle.place_calls.specs.declared.Verdict.{Verdict}
 use Rattle.place_calls.specs.declared.Verdict.the-variants as verdict
 use Rattle.place_calls.specs.declared.Greedy.{Greedy}
@@ -21,7 +21,7 @@ use Rattle.place_calls.specs.declared.Fewest.the-variants as fewest
 
 -- the case is valid, or 5
 abbrev pub verdictChecks : Case → List Check
-verdictChecks c = check (Valid c) 5 0 ∷ []
+verdictChecks c = checkThat (Valid c) 5 0 ∷ []
 
 -- the set of units that no other unit confirms
 abbrev pub VerdictReply : Case → Verdict → Type 0
@@ -32,16 +32,17 @@ VerdictReply c (verdict.Refused r) = Failed (verdictChecks c) r
 
 -- what greedy adds within the budget has room
 abbrev pub HasRoom : Case → ℕ → List ℕ → Type 0
-HasRoom c budget room = (xs : List ℕ) → choosing.Greedy (gridOf c) budget xs → length xs ≤ length room
+HasRoom c budget room = (xs : List ℕ) → choosing.GreedyList (gridOf c) budget xs → length xs ≤ length room
 
 -- 5; the budget is at most 64, or 10; the answer has room, or 6
 abbrev pub greedyChecks : Case → ℕ → List ℕ → List Check
-greedyChecks c budget room = check (Valid c) 5 0 ∷ check (budget ≤ mostGreedyBudget) 10 0 ∷ check (HasRoom c budget room) 6 0 ∷ []
+greedyChecks c budget room =
+    checkThat (Valid c) 5 0 ∷ checkThat (budget ≤ mostGreedyBudget) 10 0 ∷ checkThat (HasRoom c budget room) 6 0 ∷ []
 
 -- k sites are added: they stand first in the room, in the order added, and the rest of it stays
 pub record GreedyWritten (c : Case) (budget : ℕ) (entry exit : List ℕ) (k : ℕ) : Type 0 where
   pub list : List ℕ
-  pub greedy : choosing.Greedy (gridOf c) budget list
+  pub greedy : choosing.GreedyList (gridOf c) budget list
   pub count : k ≡ length list
   pub written : exit ≡ list ++ drop k entry
 
@@ -54,9 +55,10 @@ GreedyReply c budget entry exit (greedy.Refused r) = Failed (greedyChecks c budg
 
 -- 5; the budget is at most 8, or 10; some addition within it covers, or 11
 abbrev pub fewestChecks : Case → ℕ → List Check
-fewestChecks c budget = check (Valid c) 5 0 ∷ check (budget ≤ mostBudget) 10 0 ∷ check (placing.SomePlan (gridOf c) budget) 11 0 ∷ []
+fewestChecks c budget =
+    checkThat (Valid c) 5 0 ∷ checkThat (budget ≤ mostBudget) 10 0 ∷ checkThat (placing.SomeAddition (gridOf c) budget) 11 0 ∷ []
 
 -- the set of the sites of the first of the smallest additions that cover
 abbrev pub FewestReply : Case → ℕ → Fewest → Type 0
-FewestReply c budget (fewest.Sites m) = Passed (fewestChecks c budget) × placing.Fewest (gridOf c) budget (setOf m)
+FewestReply c budget (fewest.Sites m) = Passed (fewestChecks c budget) × placing.FewestSites (gridOf c) budget (setOf m)
 FewestReply c budget (fewest.Refused r) = Failed (fewestChecks c budget) r

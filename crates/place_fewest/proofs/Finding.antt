@@ -9,7 +9,7 @@ use Rattle.rules.specs.Placing.{withUnits}
 use Rattle.place_light.specs.Lights.{Lit}
 use Rattle.place_light.specs.Ways.{FirstWay}
 use Rattle.place_light.proofs.Lighting.{lit-least}
-use Rattle.place_light.proofs.Searching.{Passed, first-take, passed-lowest}
+use Rattle.place_light.proofs.Searching.{KeepsWays, first-take, passed-lowest}
 use Rattle.place_fewest.specs.declared.Found.{Found}
 use Rattle.place_fewest.specs.declared.Found.the-variants.{Sites, Nothing}
 use Rattle.place_fewest.specs.Answers.{FoundIs}
@@ -23,5 +23,5 @@ module _ (g : Grid) {n sites x rest k s t : ℕ} (some : 0 < k) (low : Lowest n 
   pub found-take : (m : ℕ) {more : ℕ} → r ≡ Sites m → With (setOf m) x more → FirstWay g sites k more
   found-take m q more = subst⁻¹ (FirstWay g sites k) (with-add more) (first-take low w some (found (Sites m) q))
 
-  pub found-pass : r ≡ Nothing → Passed g sites k rest
+  pub found-pass : r ≡ Nothing → KeepsWays g sites k rest
   found-pass q = passed-lowest low w some (found Nothing q)

@@ -2,7 +2,7 @@
 use Prim.Native.Nat.{ℕ}
 use Rattle.busset.specs.Sets.{setOf}
 use Rattle.rules.specs.Grids.{Grid}
-use Rattle.rules.specs.Placing.{Fewest, SomePlan}
+use Rattle.rules.specs.Placing.{FewestSites, SomeAddition}
 use Rattle.place_light.specs.Ways.{NoWay, FirstWay}
 use Rattle.place_fewest.specs.declared.Found.{Found}
 use Rattle.place_fewest.specs.declared.Found.the-variants.{Sites, Nothing}
@@ -14,5 +14,5 @@ FoundIs g sites k Nothing = NoWay g sites k
 
 -- the fewest within the budget, or that no addition within it covers
 abbrev pub FewestIs : Grid → ℕ → Found → Type 0
-FewestIs g budget (Sites m) = Fewest g budget (setOf m)
-FewestIs g budget Nothing = SomePlan g budget → ⊥
+FewestIs g budget (Sites m) = FewestSites g budget (setOf m)
+FewestIs g budget Nothing = SomeAddition g budget → ⊥

@@ -12,21 +12,21 @@ use Rattle.busset.proofs.Members.{without-of, without-sub}
 use Rattle.rules.specs.Grids.{Grid}
 use Rattle.rules.specs.Observation.{ObservedSet}
 use Rattle.rules.specs.Placing.{withUnits, Free}
-use Rattle.rules.specs.Choosing.{Greedy}
+use Rattle.rules.specs.Choosing.{GreedyList}
 use Rattle.rules.specs.Choosing as choosing
 use Rattle.rules.proofs.Leasts.{least-unique}
 use Rattle.rules.proofs.Choices.{greedy-unique}
-use Rattle.place_greedy.specs.Choices.{ChosenIs, Listed}
+use Rattle.place_greedy.specs.Choices.{ChosenIs, AddedSites}
 
 -- ---- the best so far
 
 -- the best of the sites passed: x, or 0 where none of them adds a bus
 pub record Chosen (g : Grid) (s most x : ℕ) : Type 0 where
   pub after : ℕ
-  pub with : choosing.With g x after
+  pub with : choosing.WithSite g x after
   pub is : most ≡ size after
   pub adds : size s < most
-  pub lowest : (y t : ℕ) → choosing.With g y t → y < x → size t < most
+  pub lowest : (y t : ℕ) → choosing.WithSite g y t → y < x → size t < most
 
 abbrev pub SoFar : Grid → ℕ → ℕ → ℕ → Type 0
 SoFar g s most zero = most ≡ size s
@@ -35,7 +35,7 @@ SoFar g s most (suc i) = Chosen g s most (suc i)
 pub record Compared (g : Grid) (s left most site : ℕ) : Type 0 where
   pub free : (y : ℕ) → In left y → Free g y
   pub base : size s ≤ most
-  pub passed : (y t : ℕ) → Out left y → choosing.With g y t → size t ≤ most
+  pub passed : (y t : ℕ) → Out left y → choosing.WithSite g y t → size t ≤ most
   pub best : SoFar g s most site
 
 pub compared-none : {g : Grid} {s left most : ℕ} → Minus (g .sites) (g .units) left → most ≡ size s → Compared g s left most 0
@@ -49,15 +49,16 @@ compared-none m e = record {
 -- one site more: x, with which t is observed
 module _ {g : Grid} {n s left most site x rest t m : ℕ} (c : Compared g s left most site) (low : Lowest n left x) (w : Without left x rest)
     (l : ObservedSet (withUnits g (add (g .units) x)) t) (e : m ≡ size t) where
-  same : (v : ℕ) → choosing.With g x v → size v ≡ m
+  same : (v : ℕ) → choosing.WithSite g x v → size v ≡ m
   same v h = ap size (least-unique (withUnits g (add (g .units) x)) v t (h .observed) l) ∙ sym e
 
   freed : (y : ℕ) → In rest y → Free g y
   freed y h = c .free y (omega (arith, without-sub w y))
 
-  all : (b : ℕ) → most ≤ b → m ≤ b → (y v : ℕ) → Out rest y → choosing.With g y v → size v ≤ b
+  all : (b : ℕ) → most ≤ b → m ≤ b → (y v : ℕ) → Out rest y → choosing.WithSite g y v → size v ≤ b
   all b p q y v o =
-      without-of {P = λ z. choosing.With g z v → size v ≤ b} w (λ h. omega (arith, same v h)) (λ z o h. omega (arith, c .passed z v o h))
+      without-of {P = λ z. choosing.WithSite g z v → size v ≤ b} w (λ h. omega (arith, same v h))
+      (λ z o h. omega (arith, c .passed z v o h))
       y o
 
   pub compared-no : m ≤ most → Compared g s rest most site
@@ -75,7 +76,7 @@ module _ {g : Grid} {n s left most site x rest t m : ℕ} (c : Compared g s left
       go zero p q = absurd (omega arith)
       go (suc i) p q = record {
         after = t;
-        with = subst⁻¹ (λ (y : ℕ). choosing.With g y t) q (record { free = c .free x (low .has); observed = l });
+        with = subst⁻¹ (λ (y : ℕ). choosing.WithSite g y t) q (record { free = c .free x (low .has); observed = l });
         is = e;
         adds = omega (arith, c .base);
         lowest = λ y v h b. omega (arith, c .passed y v (low .below y (omega arith)) h);
@@ -117,14 +118,14 @@ pub record Adding (g : Grid) (budget count u s : ℕ) (sites : List ℕ) : Type 
   pub room : length sites ≡ 64
   pub most : count ≤ budget
   pub least : ObservedSet (withUnits g u) s
-  pub rest : (ys : List ℕ) → Greedy (withUnits g u) (budget - count) ys → Greedy g budget (take count sites ++ ys)
+  pub rest : (ys : List ℕ) → GreedyList (withUnits g u) (budget - count) ys → GreedyList g budget (take count sites ++ ys)
 
 pub adding-none : {g : Grid} {s : ℕ} (budget : ℕ) {sites : List ℕ} → length sites ≡ 64 → ObservedSet g s → Adding g budget 0 (g .units) s sites
 adding-none {g} budget r l = record {
   room = r;
   most = omega arith;
   least = l;
-  rest = λ ys h. subst (λ (k : ℕ). Greedy g k ys) (whole budget) h;
+  rest = λ ys h. subst (λ (k : ℕ). GreedyList g k ys) (whole budget) h;
 }
   where
     whole : (budget : ℕ) → budget - 0 ≡ budget
@@ -139,9 +140,9 @@ adding-more {g} {budget} {count} {u} {s} {v} {t} {sites} (suc i) a l r ne b e lt
   most = omega arith;
   least = subst⁻¹ (λ (w : ℕ). ObservedSet (withUnits g w) t) e lt;
   rest =
-      λ ys h. subst (Greedy g budget) (moved ys)
-      (a .rest (suc i ∷ ys) (subst⁻¹ (λ (k : ℕ). Greedy (withUnits g u) k (suc i ∷ ys)) left
-      (b, subst (λ (w : ℕ). Greedy (withUnits g w) (budget - (count + 1)) ys) e h)));
+      λ ys h. subst (GreedyList g budget) (moved ys)
+      (a .rest (suc i ∷ ys) (subst⁻¹ (λ (k : ℕ). GreedyList (withUnits g u) k (suc i ∷ ys)) left
+      (b, subst (λ (w : ℕ). GreedyList (withUnits g w) (budget - (count + 1)) ys) e h)));
 }
   where
     left : budget - count ≡ suc (budget - (count + 1))
@@ -155,11 +156,11 @@ adding-more {g} {budget} {count} {u} {s} {v} {t} {sites} (suc i) a l r ne b e lt
 
 -- it stops where no site adds a bus
 pub adding-stop : {g : Grid} {budget count u s : ℕ} {sites : List ℕ} (x : ℕ) → Adding g budget count u s sites → count < budget → x ≡ 0
-    → ChosenIs (withUnits g u) x → Listed g budget count sites
+    → ChosenIs (withUnits g u) x → AddedSites g budget count sites
 adding-stop {g} {budget} {count} {u} {s} {sites} zero a l e none = record {
   room = a .room;
   most = a .most;
-  greedy = subst (Greedy g budget) (append-nil (take count sites)) (a .rest [] (subst⁻¹ (λ (k : ℕ). Greedy (withUnits g u) k []) left none));
+  greedy = subst (GreedyList g budget) (append-nil (take count sites)) (a .rest [] (subst⁻¹ (λ (k : ℕ). GreedyList (withUnits g u) k []) left none));
 }
   where
     left : budget - count ≡ suc (budget - (count + 1))
@@ -168,11 +169,13 @@ adding-stop (suc i) a l e none = absurd (omega arith)
 
 -- or the budget is spent
 pub adding-all : {g : Grid} {budget count u s : ℕ} {sites : List ℕ} → Adding g budget count u s sites → budget ≤ count
-    → Listed g budget count sites
+    → AddedSites g budget count sites
 adding-all {g} {budget} {count} {u} {s} {sites} a l = record {
   room = a .room;
   most = a .most;
-  greedy = subst (Greedy g budget) (append-nil (take count sites)) (a .rest [] (subst⁻¹ (λ (k : ℕ). Greedy (withUnits g u) k []) spent tt));
+  greedy =
+      subst (GreedyList g budget) (append-nil (take count sites))
+      (a .rest [] (subst⁻¹ (λ (k : ℕ). GreedyList (withUnits g u) k []) spent tt));
 }
   where
     spent : budget - count ≡ 0
@@ -180,16 +183,16 @@ adding-all {g} {budget} {count} {u} {s} {sites} a l = record {
 
 -- ---- how long the list is
 
-module _ {g : Grid} {budget count : ℕ} {sites : List ℕ} (l : Listed g budget count sites) (few : budget ≤ 64) where
+module _ {g : Grid} {budget count : ℕ} {sites : List ℕ} (l : AddedSites g budget count sites) (few : budget ≤ 64) where
   pub listed-count : length (take count sites) ≡ count
   listed-count = length-take-le count sites (omega (arith, l .most, l .room))
 
   -- every list that greedy adds is this one
-  listed-is : (xs : List ℕ) → Greedy g budget xs → length xs ≡ count
+  listed-is : (xs : List ℕ) → GreedyList g budget xs → length xs ≡ count
   listed-is xs h = ap length (greedy-unique g budget xs (take count sites) h (l .greedy)) ∙ listed-count
 
-  pub listed-room : (m : ℕ) → count ≤ m → (xs : List ℕ) → Greedy g budget xs → length xs ≤ m
+  pub listed-room : (m : ℕ) → count ≤ m → (xs : List ℕ) → GreedyList g budget xs → length xs ≤ m
   listed-room m r xs h = omega (arith, listed-is xs h)
 
-  pub listed-no-room : (m : ℕ) → m < count → ((xs : List ℕ) → Greedy g budget xs → length xs ≤ m) → ⊥
+  pub listed-no-room : (m : ℕ) → m < count → ((xs : List ℕ) → GreedyList g budget xs → length xs ≤ m) → ⊥
   listed-no-room m r fits = omega (arith, fits (take count sites) (l .greedy), listed-count)

@@ -7,7 +7,7 @@ use Rattle.busset.specs.Sets.{Minus}
 use Rattle.rules.specs.Grids.{Grid}
 use Rattle.rules.specs.Observation.{ObservedSet}
 use Rattle.place_light.specs.Ways.{Whatever}
-use Rattle.rules.specs.Choosing.{Best, NoneAdds, Greedy}
+use Rattle.rules.specs.Choosing.{Best, NoneAdds, GreedyList}
 
 -- the best site, or 0 where none adds a bus
 abbrev pub ChosenIs : Grid → ℕ → Type 0
@@ -19,7 +19,7 @@ abbrev pub Chooses : (ℕ → ℕ) → ℕ → ℕ → ℕ → ℕ → Type 0
 Chooses nbr zeros s free r = (n : ℕ) → Whatever n nbr zeros (λ g. Minus (g .sites) (g .units) free → ObservedSet g s → ChosenIs g r)
 
 -- the first `count` of the 64 sites are what greedy adds
-pub record Listed (g : Grid) (budget count : ℕ) (sites : List ℕ) : Type 0 where
+pub record AddedSites (g : Grid) (budget count : ℕ) (sites : List ℕ) : Type 0 where
   pub room : length sites ≡ 64
   pub most : count ≤ budget
-  pub greedy : Greedy g budget (take count sites)
+  pub greedy : GreedyList g budget (take count sites)

@@ -5,11 +5,11 @@ ghost use mathlib.Core.List.{_++_};
 ghost use lib.ListN.{length, take, drop};
 ghost use Rattle.busset.specs.Sets.{setOf};
 ghost use Rattle.grid.specs.Cases.{neighbours, gridWith};
-ghost use Rattle.place_greedy.specs.Choices.{Chooses, Listed};
+ghost use Rattle.place_greedy.specs.Choices.{Chooses, AddedSites};
 use busset::BusSet;
 
 // Sites in the order added: the first `count` of `sites`.
-pub struct Order {
+pub struct SiteList {
     pub count: usize,
     pub sites: [usize; 64],
 }
@@ -35,9 +35,16 @@ pub fn best(nbr: &[BusSet; 64], zero: BusSet, s: BusSet, free: BusSet) -> usize
 }
 
 // The sites that greedy adds within the budget.
-pub fn greedy(nbr: &[BusSet; 64], zero: BusSet, site: BusSet, units: BusSet, budget: usize) -> Order
+pub fn greedy(
+    nbr: &[BusSet; 64],
+    zero: BusSet,
+    site: BusSet,
+    units: BusSet,
+    budget: usize,
+) -> SiteList
     requires { ⌜ budget ≤ 64 ⌝ }
-    ensures { λ r. ⌜ ((n : ℕ) → Listed (gridWith n (now (nbr .entry)) zero site units) budget (r .count) (r .sites)) ⌝ }
+    ensures { λ r. ⌜ ((n : ℕ)
+        → AddedSites (gridWith n (now (nbr .entry)) zero site units) budget (r .count) (r .sites)) ⌝ }
 {
     let mut placed = units;
     let mut s = observe::set::observed(nbr, zero, units);
@@ -46,18 +53,18 @@ pub fn greedy(nbr: &[BusSet; 64], zero: BusSet, site: BusSet, units: BusSet, bud
     while count < budget {
         let x = best(nbr, zero, s, busset::minus(site, placed));
         if x == 0 {
-            return Order { count, sites };
+            return SiteList { count, sites };
         }
         sites[count] = x;
         placed = busset::with(placed, x);
         s = place_light::lit(nbr, zero, s, x);
         count += 1;
     }
-    Order { count, sites }
+    SiteList { count, sites }
 }
 
 // Writes the sites, in order, into the room lent; what lies past them stays.
-pub fn write(order: Order, out: &mut [usize])
+pub fn write(order: SiteList, out: &mut [usize])
     requires { ⌜ (length (order .sites) ≡ 64) × (order .count ≤ 64) × (order .count ≤ length (now out)) ⌝ }
     ensures { λ _. ⌜ now (out .exit) ≡ take (order .count) (order .sites) ++ drop (order .count) (now (out .entry)) ⌝ }
 {

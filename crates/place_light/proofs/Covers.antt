@@ -13,7 +13,7 @@ use Rattle.rules.specs.Grids.{Grid}
 use Rattle.rules.specs.Observation.{Closed}
 use Rattle.rules.specs.Placing.{withUnits, Full, placed}
 use Rattle.rules.proofs.Covering.{closed-fewer, placed-of, placed-max, size-add-most, size-placed}
-use Rattle.place_light.specs.Ways.{Way, NoWay, Idle, Group, Cover, NoCover, Spared}
+use Rattle.place_light.specs.Ways.{Way, NoWay, Idle, Group, Cover, Uncoverable, Spared}
 
 -- ---- idle units
 
@@ -46,7 +46,7 @@ way-cover {g} {sites} {k} {xs} w = record {
         ⊎-elim (λ (p : In (g .units) b). closed-idle cl p) (λ (p : Out (g .units) b). idle b (omega (arith, placed-max xs (g .units) b)))
         (in-or (g .units) b)
 
-pub no-cover-way : {g : Grid} {sites k : ℕ} → NoCover g sites k → NoWay g sites k
+pub no-cover-way : {g : Grid} {sites k : ℕ} → Uncoverable g sites k → NoWay g sites k
 no-cover-way n xs w = n (placed empty xs) (way-cover w)
 
 -- ---- groups
@@ -94,7 +94,7 @@ module _ {g : Grid} {sites q lit m c group r : ℕ} (gr : Grouped g sites q lit 
   }
 
   -- no group: no cover
-  pub grouped-stuck : (k : ℕ) → group ≡ empty → NoCover g sites k
+  pub grouped-stuck : (k : ℕ) → group ≡ empty → Uncoverable g sites k
   grouped-stuck k e v w = omega (arith, one-more k v w, size-le (meet r v) (meet q v) same)
     where
       same : Sub (meet r v) (meet q v)
@@ -111,7 +111,7 @@ pub grouped-spared : {g : Grid} {sites q lit k : ℕ} → Grouped g sites q lit 
 grouped-spared gr n v w = n v (record { of = cover-in gr w; few = w .few; full = w .full })
 
 -- and there is none, where a bus is still lacking
-pub grouped-lacks : {g : Grid} {sites q lit k : ℕ} → Grouped g sites q lit k → (Full (g .n) lit → ⊥) → NoCover g sites k
+pub grouped-lacks : {g : Grid} {sites q lit k : ℕ} → Grouped g sites q lit k → (Full (g .n) lit → ⊥) → Uncoverable g sites k
 grouped-lacks gr lacks v w = cover-not-idle w (gr .closed) lacks (λ x h. gr .idle x (let sub = cover-in gr w x in omega arith))
 
 -- ---- one site, in a cover or not

@@ -11,7 +11,7 @@ use Rattle.basics.proofs.Tests.{same-or, below-or}
 use Rattle.busset.proofs.Digits.{bit-zero}
 use Rattle.busset.proofs.Members.{without-sub}
 use Rattle.rules.specs.Grids.{Grid}
-use Rattle.rules.specs.Placing.{withUnits, Covers, Rising, Plan, Before, Earlier, Fewest, SomePlan}
+use Rattle.rules.specs.Placing.{withUnits, Covers, Rising, Addition, Before, Earlier, FewestSites, SomeAddition}
 use Rattle.rules.proofs.Covering.{rising-to, rising-above, placed-last}
 use Rattle.place_light.specs.Ways.{Way, NoWay, FirstWay}
 
@@ -33,20 +33,20 @@ no-way-left e p (x ∷ xs) w = omega (arith, w .rising .1, ap (λ (s : ℕ). bit
 -- ---- fewer sites
 
 -- rest has every way of the sites, and is some of them
-pub record Passed (g : Grid) (sites k rest : ℕ) : Type 0 where
+pub record KeepsWays (g : Grid) (sites k rest : ℕ) : Type 0 where
   pub of : Sub rest sites
   pub ways : (xs : List ℕ) → Way g sites k xs → Way g rest k xs
 
-pub passed-none : (g : Grid) (sites k : ℕ) → Passed g sites k sites
+pub passed-none : (g : Grid) (sites k : ℕ) → KeepsWays g sites k sites
 passed-none g sites k = record { of = λ b. le-refl (bit sites b); ways = λ xs w. w }
 
-pub passed-more : {g : Grid} {sites k rest less : ℕ} → Passed g sites k rest → Passed g rest k less → Passed g sites k less
+pub passed-more : {g : Grid} {sites k rest less : ℕ} → KeepsWays g sites k rest → KeepsWays g rest k less → KeepsWays g sites k less
 passed-more p q = record { of = λ b. omega (arith, p .of b, q .of b); ways = λ xs w. q .ways xs (p .ways xs w) }
 
-pub passed-no : {g : Grid} {sites k rest : ℕ} → Passed g sites k rest → NoWay g rest k → NoWay g sites k
+pub passed-no : {g : Grid} {sites k rest : ℕ} → KeepsWays g sites k rest → NoWay g rest k → NoWay g sites k
 passed-no p n xs w = n xs (p .ways xs w)
 
-pub passed-first : {g : Grid} {sites k rest m : ℕ} → Passed g sites k rest → FirstWay g rest k m → FirstWay g sites k m
+pub passed-first : {g : Grid} {sites k rest m : ℕ} → KeepsWays g sites k rest → FirstWay g rest k m → FirstWay g sites k m
 passed-first p f = record {
   list = f .list;
   set = f .set;
@@ -110,7 +110,7 @@ module _ {n sites x rest : ℕ} (low : Lowest n sites x) (w : Without sites x re
             (same-or y x)
 
     -- where no way begins with x, the ways are those of the sites above it
-    pub passed-lowest : 0 < k → NoWay (withUnits g (add (g .units) x)) rest (k - 1) → Passed g sites k rest
+    pub passed-lowest : 0 < k → NoWay (withUnits g (add (g .units) x)) rest (k - 1) → KeepsWays g sites k rest
     passed-lowest p n = record { of = without-sub w; ways = past p n }
       where
         past : 0 < k → NoWay (withUnits g (add (g .units) x)) rest (k - 1) → (ys : List ℕ) → Way g sites k ys → Way g rest k ys
@@ -146,37 +146,37 @@ no-fewer-more {g} {free} {k} h n = record {
 }
 
 module _ {g : Grid} {free : ℕ} (m : Minus (g .sites) (g .units) free) where
-  -- a plan is a way of as many sites as it has
-  plan-way : {budget : ℕ} {xs : List ℕ} → Plan g budget xs → Way g free (length xs) xs
-  plan-way {xs = xs} p = record {
+  -- an addition is a way of as many sites as it has
+  addition-way : {budget : ℕ} {xs : List ℕ} → Addition g budget xs → Way g free (length xs) xs
+  addition-way {xs = xs} p = record {
     rising = rising-to 0 0 xs (omega arith) (λ x l f. omega (arith, m .at x, f .site, f .bare)) (p .rising);
     many = refl;
     covers = p .covers;
   }
 
-  way-plan : {budget k : ℕ} {xs : List ℕ} → k ≤ budget → Way g free k xs → Plan g budget xs
-  way-plan {xs = xs} l w = record {
+  way-addition : {budget k : ℕ} {xs : List ℕ} → k ≤ budget → Way g free k xs → Addition g budget xs
+  way-addition {xs = xs} l w = record {
     within = omega (arith, w .many);
     rising = rising-to 0 0 xs (omega arith) (λ x l h. record { site = omega (arith, m .at x); bare = omega (arith, m .at x) }) (w .rising);
     covers = w .covers;
   }
 
   -- the first way of the smallest size is the fewest
-  pub first-fewest : {budget k s : ℕ} → k ≤ budget → NoFewer g free k → FirstWay g free k s → Fewest g budget s
-  first-fewest {budget} {k} l none f = record { list = f .list; set = f .set; plan = way-plan l (f .way); first = first }
+  pub first-fewest : {budget k s : ℕ} → k ≤ budget → NoFewer g free k → FirstWay g free k s → FewestSites g budget s
+  first-fewest {budget} {k} l none f = record { list = f .list; set = f .set; addition = way-addition l (f .way); first = first }
     where
-      first : (ys : List ℕ) → Plan g budget ys → Earlier (f .list) ys
+      first : (ys : List ℕ) → Addition g budget ys → Earlier (f .list) ys
       first ys p =
           ⊎-elim
-          (λ (q : length ys < k). absurd (none .low (length ys) q ys (plan-way p)))
+          (λ (q : length ys < k). absurd (none .low (length ys) q ys (addition-way p)))
           (λ (q : k ≤ length ys). ⊎-elim
           (λ (s : k < length ys). inl (omega (arith, f .way .many)))
           (λ (s : length ys ≤ k).
           let e : length ys ≡ k = omega arith in
-          inr (f .way .many ∙ sym e, f .first ys (subst (λ (j : ℕ). Way g free j ys) e (plan-way p))))
+          inr (f .way .many ∙ sym e, f .first ys (subst (λ (j : ℕ). Way g free j ys) e (addition-way p))))
           (below-or k (length ys)))
           (below-or (length ys) k)
 
-  -- where no size within the budget has a way, there is no plan
-  pub no-plan : {budget k : ℕ} → budget < k → NoFewer g free k → SomePlan g budget → ⊥
-  no-plan l none p = none .low (length (p .list)) (omega (arith, p .plan .within)) (p .list) (plan-way (p .plan))
+  -- where no size within the budget has a way, there is no addition
+  pub no-addition : {budget k : ℕ} → budget < k → NoFewer g free k → SomeAddition g budget → ⊥
+  no-addition l none p = none .low (length (p .list)) (omega (arith, p .addition .within)) (p .list) (addition-way (p .addition))

@@ -9,7 +9,7 @@ use Rattle.basics.proofs.Tests.{same-or}
 use Rattle.busset.proofs.Digits.{bit-zero}
 use Rattle.busset.proofs.Members.{less-here, less-there}
 use Rattle.rules.specs.Observation.{ObservedSet}
-use Rattle.place_light.specs.Ways.{NoCover, Whatever}
+use Rattle.place_light.specs.Ways.{Uncoverable, Whatever}
 use Rattle.place_light.specs.Spares.{Spares}
 
 pub spares-same : (n : ℕ) (nbr : ℕ → ℕ) (zeros s sites k : ℕ) → Spares n nbr zeros s sites k sites
@@ -19,7 +19,7 @@ pub spares-more : {n : ℕ} {nbr : ℕ → ℕ} {zeros s sites k r q : ℕ} → 
 spares-more p q = record { of = λ b. omega (arith, p .of b, q .of b); spared = λ site units l n. p .spared site units l (q .spared site units l n) }
 
 -- where there is no cover none of them is needed
-pub spares-none : (n : ℕ) (nbr : ℕ → ℕ) (zeros s sites k : ℕ) {r : ℕ} → r ≡ empty → Whatever n nbr zeros (λ g. ObservedSet g s → NoCover g sites k) → Spares n nbr zeros s sites k r
+pub spares-none : (n : ℕ) (nbr : ℕ → ℕ) (zeros s sites k : ℕ) {r : ℕ} → r ≡ empty → Whatever n nbr zeros (λ g. ObservedSet g s → Uncoverable g sites k) → Spares n nbr zeros s sites k r
 spares-none n nbr zeros s sites k e none = record { of = λ b. omega (arith, ap (λ (x : ℕ). bit x b) e, bit-zero b); spared = λ site units l n. none site units l }
 
 -- at most the buses of sites, less x or without it, are those left without x

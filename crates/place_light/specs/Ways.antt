@@ -51,13 +51,13 @@ pub record Cover (g : Grid) (sites k v : ℕ) : Type 0 where
   pub full : (s : ℕ) → Closed g s → ((x : ℕ) → In v x → Idle (g .neighbours) s x) → Full (g .n) s
 
 -- there is no cover
-abbrev pub NoCover : Grid → ℕ → ℕ → Type 0
-NoCover g sites k = (v : ℕ) → Cover g sites k v → ⊥
+abbrev pub Uncoverable : Grid → ℕ → ℕ → Type 0
+Uncoverable g sites k = (v : ℕ) → Cover g sites k v → ⊥
 
 -- a cut: where it says true there is no cover
 abbrev pub Cut : Grid → ℕ → ℕ → Bool → Type 0
-Cut g sites k r = r ≡ true → NoCover g sites k
+Cut g sites k r = r ≡ true → Uncoverable g sites k
 
 -- the other sites are not needed: where rest has no cover, the sites have none
 abbrev pub Spared : Grid → ℕ → ℕ → ℕ → Type 0
-Spared g sites k rest = NoCover g rest k → NoCover g sites k
+Spared g sites k rest = Uncoverable g rest k → Uncoverable g sites k

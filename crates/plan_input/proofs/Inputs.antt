@@ -12,7 +12,7 @@ use Rattle.text_field.specs.Split.{split, part, after, PieceEnd}
 use Rattle.text_field.specs.declared.Numeral.{Numeral}
 use Rattle.text_field.specs.declared.Numeral.the-variants.{Is, Wrong}
 use Rattle.text_field.proofs.Cutting.{after-none, after-some, rest-few}
-use Rattle.case_line.specs.Fields.{one, oneNumber}
+use Rattle.case_line.specs.Fields.{ifOneField, oneNumber}
 use Rattle.grid.specs.Cases.{Valid, mostBytes}
 use Rattle.refusals.specs.declared.Refusal.{Refusal}
 use Rattle.refusals.specs.declared.Refusal.the-variants.{TextTooLong, WrongForm}
@@ -28,7 +28,7 @@ use Rattle.plan_input.specs.Asking.{planFields, budgetOf, unasked, asked
 -- ---- the plan line
 
 fields-one : (f : List ℕ) (fs : List (List ℕ)) → oneNumber (f ∷ fs) ≡ planFields (f ∷ fs)
-unfolding planFields one
+unfolding planFields ifOneField
 fields-one f [] = refl
 fields-one f (g ∷ fs) = refl
 

@@ -5,7 +5,7 @@ use Prim.Native.Nat.{ℕ}
 use lib.Dec.{ltb}
 use lib.ListN.{length}
 use Rattle.text_field.specs.Split.{split, same, bytes, tab, lineFeed}
-use Rattle.text_field.specs.Number.{numberOf}
+use Rattle.text_field.specs.Number.{numeralOf}
 use Rattle.text_field.specs.declared.Numeral.{Numeral}
 use Rattle.text_field.specs.declared.Numeral.the-variants.{Is, Wrong}
 use Rattle.refusals.specs.declared.Refusal.{Refusal}
@@ -18,7 +18,7 @@ use Rattle.plan_input.specs.declared.Asked.{Asked}
 -- what follows the word `plan`: nothing stands for the most
 unfoldable pub planFields : List (List ℕ) → Numeral
 planFields [] = Is mostBudget
-planFields (f ∷ []) = numberOf f
+planFields (f ∷ []) = numeralOf f
 planFields (f ∷ g ∷ fs) = Wrong
 
 -- the budget that the first line says

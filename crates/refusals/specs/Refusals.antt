@@ -56,8 +56,8 @@ pub record Check : Type 1 where
   pub place : ℕ
 
 -- a check, written in a line
-abbrev pub check : Type 0 → ℕ → ℕ → Check
-check wants number place = record { wants = wants; number = number; place = place }
+abbrev pub checkThat : Type 0 → ℕ → ℕ → Check
+checkThat wants number place = record { wants = wants; number = number; place = place }
 
 -- every condition holds
 abbrev pub Passed : List Check → Type 0

@@ -20,9 +20,9 @@ use Rattle.grid.specs.declared.Case.{Case}
 use Rattle.case_read.specs.Reading.{readCase}
 use Rattle.case_read.specs.declared.ReadAnswer.{ReadAnswer}
 use Rattle.case_read.specs.declared.ReadAnswer.the-variants.{Read, Refused}
-use Rattle.report_lines.specs.Printing.{printed}
+use Rattle.report_lines.specs.Printing.{printedLine}
 use Rattle.report_lines.proofs.Printed.{refused-length}
-use Rattle.report_day.specs.Day.{stepsText, verdictFields, dayText, DayReport, DayFor, Day}
+use Rattle.report_day.specs.Day.{stepsText, verdictFields, dayText, DayReport, DayFor, DayPrinted}
 use Rattle.report_day.proofs.Texts.{steps-length, verdict-length, observed-length}
 use Rattle.report_day.proofs.Reports.{observed-few, derivation-named, read-good}
 
@@ -35,7 +35,7 @@ report-unique c s t p q =
     let alone = unconfirmed-unique (p .unconfirmed) (q .unconfirmed) (p .verdict) (q .verdict) in
     p .is ∙ (λ i. dayText (size (sets i)) (c .n) (lists i) (size (alone i))) ∙ sym (q .is)
 
-pub day-unique : (text s t : List ℕ) → Day text s → Day text t → s ≡ t
+pub day-unique : (text s t : List ℕ) → DayPrinted text s → DayPrinted text t → s ≡ t
 day-unique text s t = go (readCase text .answer) (readCase text .case)
   where
     go : (a : ReadAnswer) (c : Case) → DayFor a c s → DayFor a c t → s ≡ t
@@ -47,9 +47,9 @@ day-unique text s t = go (readCase text .answer) (readCase text .case)
 text-fits : (count n alone : ℕ) (xs : List Step) → count ≤ width → n ≤ width → alone ≤ width → length xs ≤ width → Each (Names width) xs
     → length (dayText count n xs alone) ≤ 860
 text-fits count n alone xs h k l m e =
-    let first = printed (bytes "observed") (numberText count ∷ numberText n ∷ []) in
-    let verdict = printed (bytes "xv") (verdictFields alone) in
-    let end = printed (bytes "end") [] in
+    let first = printedLine (bytes "observed") (numberText count ∷ numberText n ∷ []) in
+    let verdict = printedLine (bytes "xv") (verdictFields alone) in
+    let end = printedLine (bytes "end") [] in
     omega (
       arith,
       length-append first (stepsText xs ++ (verdict ++ end)),
@@ -61,7 +61,7 @@ text-fits count n alone xs h k l m e =
       end-length,
     )
   where
-    end-length : length (printed (bytes "end") []) ≡ 4
+    end-length : length (printedLine (bytes "end") []) ≡ 4
     end-length = unfold join in refl
 
 -- a report of a valid case: 15 bytes, 13 for each of 64 steps, 9 and 4
@@ -79,7 +79,7 @@ report-fits c t v p =
           (derivation-named (v .proper) most (p .derived)),
     )
 
-pub day-fits : (text t : List ℕ) → Day text t → length t ≤ 860
+pub day-fits : (text t : List ℕ) → DayPrinted text t → length t ≤ 860
 day-fits text t = go (readCase text .answer) refl
   where
     go : (a : ReadAnswer) → readCase text .answer ≡ a → DayFor a (readCase text .case) t → length t ≤ 860

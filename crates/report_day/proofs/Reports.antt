@@ -25,7 +25,7 @@ use Rattle.grid.specs.declared.Case.{Case}
 use Rattle.refusals.specs.declared.Refusal.{Refusal}
 use Rattle.list_derive.specs.Deriving.{Derives}
 use Rattle.step.specs.Records.{noStep}
-use Rattle.list_value.specs.Lists.{listed, listOf}
+use Rattle.list_value.specs.Lists.{listedSteps, listOf}
 use Rattle.list_value.specs.declared.StepList.{StepList}
 use Rattle.case_read.specs.Reading.{readCase}
 use Rattle.case_read.specs.declared.CaseRead.{CaseRead}
@@ -33,7 +33,7 @@ use Rattle.case_read.specs.declared.ReadAnswer.{ReadAnswer}
 use Rattle.case_read.specs.declared.ReadAnswer.the-variants.{Read, Refused}
 use Rattle.case_read.proofs.Refusing.{read-place}
 use Rattle.case_inverse.proofs.Inverse.{read-valid}
-use Rattle.report_day.specs.Day.{dayText, IsDay, DayReport, DayFor, Day}
+use Rattle.report_day.specs.Day.{dayText, IsDayText, DayReport, DayFor, DayPrinted}
 use Rattle.report_day.specs.Listing.{Named}
 
 -- ---- the derivation
@@ -50,7 +50,7 @@ each-more h (x ∷ xs) e = (names-more (e .0) h, each-more h xs (e .1))
 pub derivation-named : {g : Grid} {xs : List Step} → Proper g → g .n ≤ width → Derivation g xs → Each (Names width) xs
 derivation-named {g} {xs} v h d = each-more h xs (accepted-names v empty xs (derived-accepted d .0))
 
-listed-of : (xs : List Step) → listed (listOf xs) ≡ xs
+listed-of : (xs : List Step) → listedSteps (listOf xs) ≡ xs
 listed-of xs = take-append-seam xs (replicate (64 - length xs) noStep)
 
 pub derived-named : {c : Case} {l : StepList} → Valid c → Derives (gridOf c) l → Named l
@@ -81,7 +81,7 @@ derived-named {c} {l} v d =
 -- the text put is the report: the list has one step for each observed bus
 pub reported : (c : Case) {l : StepList} {alone k : ℕ} → Derives (gridOf c) l
     → UnconfirmedSet (neighbours (c .nbr)) (setOf (c .units)) alone → Counted width alone k
-    → (t : List ℕ) → IsDay (l .n) (c .n) (listed l) k t → DayReport c t
+    → (t : List ℕ) → IsDayText (l .n) (c .n) (listedSteps l) k t → DayReport c t
 reported c {l} {alone} {k} d u counted t e = record {
   observed = reached (d .steps);
   least = derivation-least (gridOf c) (d .steps) (d .derived);
@@ -95,10 +95,10 @@ reported c {l} {alone} {k} d u counted t e = record {
     count : l .n ≡ size (reached (d .steps))
     count = ap (λ (m : StepList). m .n) (d .is) ∙ derivation-length (gridOf c) (d .steps) (d .derived)
 
-    steps : listed l ≡ d .steps
-    steps = ap listed (d .is) ∙ listed-of (d .steps)
+    steps : listedSteps l ≡ d .steps
+    steps = ap listedSteps (d .is) ∙ listed-of (d .steps)
 
-    same : dayText (l .n) (c .n) (listed l) k ≡ dayText (size (reached (d .steps))) (c .n) (d .steps) (size alone)
+    same : dayText (l .n) (c .n) (listedSteps l) k ≡ dayText (size (reached (d .steps))) (c .n) (d .steps) (size alone)
     same = λ i. dayText (count i) (c .n) (steps i) (counted .is i)
 
 -- ---- what reading says
@@ -110,5 +110,5 @@ module _ (text : List ℕ) (r : CaseRead) where
   pub read-bad : (q : Refusal) → r ≡ readCase text → r .answer ≡ Refused q → placeOf q < 10000
   read-bad q e told = omega (arith, read-place text q (ap (λ (x : CaseRead). x .answer) (sym e) ∙ told))
 
-  pub day-by : {a : ReadAnswer} → r ≡ readCase text → r .answer ≡ a → (t : List ℕ) → DayFor a (r .case) t → Day text t
+  pub day-by : {a : ReadAnswer} → r ≡ readCase text → r .answer ≡ a → (t : List ℕ) → DayFor a (r .case) t → DayPrinted text t
   day-by e told t d = subst (λ (x : CaseRead). DayFor (x .answer) (x .case) t) e (subst⁻¹ (λ (a : ReadAnswer). DayFor a (r .case) t) told d)

@@ -15,7 +15,7 @@ use Rattle.grid.specs.Cases.{gridOf}
 use Rattle.case_read.specs.Reading.{readCase}
 use Rattle.case_read.specs.declared.ReadAnswer.{ReadAnswer}
 use Rattle.case_read.specs.declared.ReadAnswer.the-variants.{Read, Refused}
-use Rattle.report_lines.specs.Printing.{printed, RefusedText}
+use Rattle.report_lines.specs.Printing.{printedLine, IsRefusedText}
 
 -- ---- its lines
 
@@ -32,14 +32,14 @@ verdictFields (suc k) = bytes "no" ∷ numberText (suc k) ∷ []
 -- the report where so many of n buses are observed, by these steps, and so many units are unconfirmed
 abbrev pub dayText : ℕ → ℕ → List Step → ℕ → List ℕ
 dayText count n steps alone =
-    printed (bytes "observed") (numberText count ∷ numberText n ∷ [])
+    printedLine (bytes "observed") (numberText count ∷ numberText n ∷ [])
     ++ (stepsText steps
-    ++ (printed (bytes "xv") (verdictFields alone)
-    ++ printed (bytes "end") []))
+    ++ (printedLine (bytes "xv") (verdictFields alone)
+    ++ printedLine (bytes "end") []))
 
 -- t is that report
-abbrev pub IsDay : ℕ → ℕ → List Step → ℕ → List ℕ → Type 0
-IsDay count n steps alone t = t ≡ dayText count n steps alone
+abbrev pub IsDayText : ℕ → ℕ → List Step → ℕ → List ℕ → Type 0
+IsDayText count n steps alone t = t ≡ dayText count n steps alone
 
 -- ---- what is printed
 
@@ -56,8 +56,8 @@ pub record DayReport (c : Case) (t : List ℕ) : Type 0 where
 -- by what reading says: the report of the case, or the refusal
 abbrev pub DayFor : ReadAnswer → Case → List ℕ → Type 0
 DayFor Read c t = DayReport c t
-DayFor (Refused q) c t = RefusedText q t
+DayFor (Refused q) c t = IsRefusedText q t
 
 -- t is what the day report prints for the case text
-abbrev pub Day : List ℕ → List ℕ → Type 0
-Day text t = DayFor (readCase text .answer) (readCase text .case) t
+abbrev pub DayPrinted : List ℕ → List ℕ → Type 0
+DayPrinted text t = DayFor (readCase text .answer) (readCase text .case) t

@@ -5,11 +5,11 @@ use lib.ListN.{length}
 use Rattle.busset.specs.Sets.{width}
 use Rattle.rules.specs.Steps.{Names}
 use Rattle.basics.specs.Lists.{Each}
-use Rattle.list_value.specs.Lists.{listed}
+use Rattle.list_value.specs.Lists.{listedSteps}
 use Rattle.list_value.specs.declared.StepList.{StepList}
 
 -- at most 64 steps, which name buses 1 to 64
 pub record Named (l : StepList) : Type 0 where
   pub few : l .n ≤ width
   pub room : length (l .steps) ≡ width
-  pub named : Each (Names width) (listed l)
+  pub named : Each (Names width) (listedSteps l)

@@ -2,9 +2,9 @@
 ghost use Prim.Native.Nat.{_≤_};
 ghost use Rattle.busset.specs.Sets.{width};
 ghost use Rattle.grid.specs.Cases.{Valid};
-ghost use Rattle.list_value.specs.Lists.{listed};
+ghost use Rattle.list_value.specs.Lists.{listedSteps};
 ghost use Rattle.report_lines.specs.Printing.{Printed, PrintedReply};
-ghost use Rattle.report_day.specs.Day.{IsDay, DayReport, Day};
+ghost use Rattle.report_day.specs.Day.{IsDayText, DayReport, DayPrinted};
 ghost use Rattle.report_day.specs.Listing.{Named};
 
 pub mod lines;
@@ -19,7 +19,8 @@ use refusals::Written;
 // The report of these steps, in the bytes lent.
 fn print_day(out: &mut [u8], n: usize, list: StepList, alone: usize) -> Written
     requires { ⌜ (n ≤ width) × Named list × (alone ≤ width) ⌝ }
-    ensures { λ r. ⌜ PrintedReply (IsDay (list .n) n (listed list) alone) (now (out .entry)) (now (out .exit)) r ⌝ }
+    ensures { λ r. ⌜ PrintedReply (IsDayText (list .n) n (listedSteps list) alone) (now (out .entry))
+        (now (out .exit)) r ⌝ }
 {
     let mut none: [u8; 1] = [0];
     if out.len() < put_day(&mut none, n, list, alone) {
@@ -43,7 +44,7 @@ fn report(case: Case, out: &mut [u8]) -> Written
 
 // The report of the case that the text says, or the line of its refusal, in the bytes lent.
 pub fn day_report(text: &[u8], out: &mut [u8]) -> Written
-    ensures { λ r. ⌜ PrintedReply (Day (now (text .entry))) (now (out .entry)) (now (out .exit)) r ⌝ }
+    ensures { λ r. ⌜ PrintedReply (DayPrinted (now (text .entry))) (now (out .entry)) (now (out .exit)) r ⌝ }
 {
     let read = case_read::read_case(text);
     let answer = read.answer;
@@ -58,7 +59,7 @@ pub fn day_report(text: &[u8], out: &mut [u8]) -> Written
 
 // What the program prints, in the bytes that it lends, and its length: no report is longer than they are.
 pub fn program_report(text: &[u8], out: &mut [u8; 1024]) -> usize
-    ensures { λ k. ⌜ Printed (Day (now (text .entry))) (now (out .entry)) (now (out .exit)) k ⌝ }
+    ensures { λ k. ⌜ Printed (DayPrinted (now (text .entry))) (now (out .entry)) (now (out .exit)) k ⌝ }
 {
     let r = day_report(text, out);
     match r {

@@ -13,16 +13,16 @@ use Rattle.refusals.specs.declared.Written.the-variants.{Bytes, Refused}
 -- ---- lines
 
 -- a printed line: its word and its fields, parted by tabs, and a line feed
-abbrev pub printed : List ℕ → List (List ℕ) → List ℕ
-printed word fields = join tab word fields ++ lineFeed ∷ []
+abbrev pub printedLine : List ℕ → List (List ℕ) → List ℕ
+printedLine word fields = join tab word fields ++ lineFeed ∷ []
 
 -- `refused number place`
 unfoldable pub refusedText : Refusal → List ℕ
-refusedText q = printed (bytes "refused") (numberText (numberOf q) ∷ numberText (placeOf q) ∷ [])
+refusedText q = printedLine (bytes "refused") (numberText (numberOf q) ∷ numberText (placeOf q) ∷ [])
 
 -- t is that line
-abbrev pub RefusedText : Refusal → List ℕ → Type 0
-RefusedText q t = t ≡ refusedText q
+abbrev pub IsRefusedText : Refusal → List ℕ → Type 0
+IsRefusedText q t = t ≡ refusedText q
 
 -- ---- the bytes lent
 

@@ -2,7 +2,7 @@
 ghost use Prim.Native.Nat.{_<_, _^_};
 ghost use Rattle.refusals.specs.Refusals.{placeOf};
 ghost use Rattle.text_put.specs.Put.{Put};
-ghost use Rattle.report_lines.specs.Printing.{refusedText, RefusedText, PrintedReply};
+ghost use Rattle.report_lines.specs.Printing.{refusedText, IsRefusedText, PrintedReply};
 use refusals::Refusal;
 use refusals::Written;
 
@@ -19,7 +19,7 @@ pub fn put_refused(out: &mut [u8], at: usize, q: Refusal) -> usize
 // The same, in the bytes lent.
 pub fn print_refused(out: &mut [u8], q: Refusal) -> Written
     requires { ⌜ placeOf q < 10000 ⌝ }
-    ensures { λ r. ⌜ PrintedReply (RefusedText q) (now (out .entry)) (now (out .exit)) r ⌝ }
+    ensures { λ r. ⌜ PrintedReply (IsRefusedText q) (now (out .entry)) (now (out .exit)) r ⌝ }
 {
     let mut none: [u8; 1] = [0];
     let counted: &mut [u8] = &mut none;

@@ -7,7 +7,7 @@ use native.Mathlib.Omega.{arith}
 use lib.ListN.{length, length-append}
 use Rattle.busset.specs.Sets.{size, empty}
 use Rattle.busset.proofs.Sizes.{size-empty}
-use Rattle.rules.specs.Placing.{Fewest}
+use Rattle.rules.specs.Placing.{FewestSites}
 use Rattle.rules.specs.Grids.{Grid}
 use Rattle.rules.proofs.Covering.{size-placed}
 use Rattle.text_field.specs.Split.{join}
@@ -22,7 +22,7 @@ use Rattle.case_read.specs.declared.ReadAnswer.{ReadAnswer}
 use Rattle.case_read.specs.declared.ReadAnswer.the-variants.{Read, Refused}
 use Rattle.case_inverse.proofs.Counts.{members-few}
 use Rattle.report_lines.proofs.Printed.{refused-length}
-use Rattle.report_plan.specs.Plan.{planText, PlanReport, PlanFor, Plan}
+use Rattle.report_plan.specs.Plan.{planText, PlanReport, PlanFor, PlanPrinted}
 use Rattle.plan_input.specs.Asking.{readPlan}
 use Rattle.report_plan.specs.Plan.PlanReport.{found, none}
 use Rattle.plan_input.proofs.Inputs.{plan-valid}
@@ -43,8 +43,8 @@ unfolding join
 text-fits n s h k =
     simp length-append (omega (arith, ap length (text-few (size s) (omega arith)), unit-lines s 1 n (omega arith), members-few Pmu s n))
 
-fewest-few : {g : Grid} {budget m : ℕ} → Fewest g budget m → size m ≤ budget
-fewest-few f = omega (arith, ap size (f .set), size-placed (f .list) empty, size-empty, f .plan .within)
+fewest-few : {g : Grid} {budget m : ℕ} → FewestSites g budget m → size m ≤ budget
+fewest-few f = omega (arith, ap size (f .set), size-placed (f .list) empty, size-empty, f .addition .within)
 
 report-fits : (c : Case) (budget : ℕ) (t : List ℕ) → Valid c → PlanReport c budget t → length t ≤ 69
 report-fits c budget t v (found m p f i) =
@@ -52,7 +52,7 @@ report-fits c budget t v (found m p f i) =
 report-fits c budget t v (none q p i) = omega (arith, ap length i, refused-length q)
 
 -- 69 bytes are room for whatever is printed
-pub plan-fits : (input t : List ℕ) → Plan input t → length t ≤ 69
+pub plan-fits : (input t : List ℕ) → PlanPrinted input t → length t ≤ 69
 plan-fits input t = go (readPlan input .read .answer) refl
   where
     go : (a : ReadAnswer) → readPlan input .read .answer ≡ a → PlanFor a (readPlan input .read .case) (readPlan input .budget) t

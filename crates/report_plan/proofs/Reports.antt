@@ -21,31 +21,32 @@ use Rattle.case_read.specs.declared.ReadAnswer.{ReadAnswer}
 use Rattle.plan_input.specs.Asking.{readPlan}
 use Rattle.plan_input.specs.declared.Asked.{Asked}
 use Rattle.text_put.specs.Put.{Put}
-use Rattle.report_lines.specs.Printing.{printed, RefusedText}
+use Rattle.report_lines.specs.Printing.{printedLine, IsRefusedText}
 use Rattle.text_put.proofs.Putting.{put-then}
-use Rattle.report_plan.specs.Plan.{planText, PlanText, PlanReport, PlanFor, Plan}
+use Rattle.report_plan.specs.Plan.{planText, IsPlanText, PlanReport, PlanFor, PlanPrinted}
 use Rattle.report_plan.specs.Plan.PlanReport.{found, none}
 
 -- the lines of the fewest, put one after another
 pub plan-put : {l m₁ m₂ m₃ m₄ : List ℕ} {k₁ k₂ k₃ k₄ count sites : ℕ} (n : ℕ) → Counted width sites count
     → Put l 0 (join tab (bytes "fewest") (numberText count ∷ [])) m₁ k₁ → Put m₁ k₁ (lineFeed ∷ []) m₂ k₂
-    → Put m₂ k₂ (linesText (members Pmu sites 1 n)) m₃ k₃ → Put m₃ k₃ (printed (bytes "end") []) m₄ k₄ → Put l 0 (planText n sites) m₄ k₄
+    → Put m₂ k₂ (linesText (members Pmu sites 1 n)) m₃ k₃ → Put m₃ k₃ (printedLine (bytes "end") []) m₄ k₄
+    → Put l 0 (planText n sites) m₄ k₄
 plan-put n c p q u e = rw (← c .is) (put-then (put-then p q) (put-then u e))
 
-pub over-budget : {c : Case} {budget : ℕ} → 8 < budget → (t : List ℕ) → RefusedText (OverBudget 1) t → PlanReport c budget t
+pub over-budget : {c : Case} {budget : ℕ} → 8 < budget → (t : List ℕ) → IsRefusedText (OverBudget 1) t → PlanReport c budget t
 over-budget h t e = none (OverBudget 1) (inl ((λ l. omega arith), itself (OverBudget 1))) e
 
 -- what the search says, by its answer
 module _ (c : Case) (budget : ℕ) {r : Found} (h : budget ≤ 8) (is : FewestIs (gridOf c) budget r) where
-  pub no-cover : r ≡ Nothing → (t : List ℕ) → RefusedText NoCover t → PlanReport c budget t
+  pub no-cover : r ≡ Nothing → (t : List ℕ) → IsRefusedText NoCover t → PlanReport c budget t
   no-cover e t i = none NoCover (inr (h, inl (rw e at is, itself NoCover))) i
 
-  pub fewest-found : {m : ℕ} → r ≡ Sites m → (t : List ℕ) → PlanText (c .n) (setOf m) t → PlanReport c budget t
+  pub fewest-found : {m : ℕ} → r ≡ Sites m → (t : List ℕ) → IsPlanText (c .n) (setOf m) t → PlanReport c budget t
   fewest-found e t i = let f = rw e at is in found _ (h, (fewest-some f, tt)) f i
 
 -- what is printed for what was read is what the input asks for
 pub plan-by : (x : List ℕ) {a : Asked} {r : ReadAnswer} → a ≡ readPlan x → a .read .answer ≡ r → (t : List ℕ)
-    → PlanFor r (a .read .case) (a .budget) t → Plan x t
+    → PlanFor r (a .read .case) (a .budget) t → PlanPrinted x t
 plan-by x {a} {r} is told t p =
     subst (λ (b : Asked). PlanFor (b .read .answer) (b .read .case) (b .budget) t) is
     (subst⁻¹ (λ (q : ReadAnswer). PlanFor q (a .read .case) (a .budget) t) told p)

@@ -8,7 +8,7 @@ use Rattle.refusals.proofs.Orders.{failed-unique, failed-or-passed}
 use Rattle.case_read.specs.declared.ReadAnswer.{ReadAnswer}
 use Rattle.case_read.specs.declared.ReadAnswer.the-variants.{Read, Refused}
 use Rattle.report_lines.specs.Printing.{refusedText}
-use Rattle.report_plan.specs.Plan.{planChecks, planText, PlanReport, PlanFor, Plan}
+use Rattle.report_plan.specs.Plan.{planChecks, planText, PlanReport, PlanFor, PlanPrinted}
 use Rattle.plan_input.specs.Asking.{readPlan}
 use Rattle.report_plan.specs.Plan.PlanReport.{found, none}
 
@@ -22,5 +22,5 @@ read-unique : (a : ReadAnswer) (c : Case) (budget : ℕ) (s t : List ℕ) → Pl
 read-unique Read c budget s t p q = report-unique c budget s t p q
 read-unique (Refused r) c budget s t p q = p ∙ sym q
 
-pub plan-unique : (input s t : List ℕ) → Plan input s → Plan input t → s ≡ t
+pub plan-unique : (input s t : List ℕ) → PlanPrinted input s → PlanPrinted input t → s ≡ t
 plan-unique input = read-unique (readPlan input .read .answer) (readPlan input .read .case) (readPlan input .budget)

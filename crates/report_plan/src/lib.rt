@@ -1,7 +1,7 @@
 // The planning program's reply to an input.
 ghost use Rattle.grid.specs.Cases.{Valid};
 ghost use Rattle.report_lines.specs.Printing.{Printed, PrintedReply};
-ghost use Rattle.report_plan.specs.Plan.{PlanReport, Plan};
+ghost use Rattle.report_plan.specs.Plan.{PlanReport, PlanPrinted};
 
 mod printing;
 
@@ -32,7 +32,7 @@ fn report(case: Case, budget: usize, out: &mut [u8]) -> Written
 
 // The fewest of the case that the input says, or the line of its refusal, in the bytes lent.
 pub fn plan_report(input: &[u8], out: &mut [u8]) -> Written
-    ensures { λ r. ⌜ PrintedReply (Plan (now (input .entry))) (now (out .entry)) (now (out .exit)) r ⌝ }
+    ensures { λ r. ⌜ PrintedReply (PlanPrinted (now (input .entry))) (now (out .entry)) (now (out .exit)) r ⌝ }
 {
     let asked = plan_input::read_plan(input);
     let read = asked.read;
@@ -48,7 +48,7 @@ pub fn plan_report(input: &[u8], out: &mut [u8]) -> Written
 
 // What the program prints, in the bytes that it lends, and its length: no report is longer than they are.
 pub fn program_report(input: &[u8], out: &mut [u8; 69]) -> usize
-    ensures { λ k. ⌜ Printed (Plan (now (input .entry))) (now (out .entry)) (now (out .exit)) k ⌝ }
+    ensures { λ k. ⌜ Printed (PlanPrinted (now (input .entry))) (now (out .entry)) (now (out .exit)) k ⌝ }
 {
     let r = plan_report(input, out);
     match r {

@@ -3,7 +3,7 @@ ghost use Prim.Native.Nat.{_≤_};
 ghost use Rattle.busset.specs.Sets.{width, setOf};
 ghost use Rattle.text_put.specs.Put.{Put};
 ghost use Rattle.report_lines.specs.Printing.{PrintedReply};
-ghost use Rattle.report_plan.specs.Plan.{planText, PlanText};
+ghost use Rattle.report_plan.specs.Plan.{planText, IsPlanText};
 use busset::BusSet;
 use refusals::Refusal;
 use refusals::Written;
@@ -22,7 +22,7 @@ fn put_plan(out: &mut [u8], n: usize, sites: BusSet) -> usize
 // The same, in the bytes lent.
 pub fn print_plan(out: &mut [u8], n: usize, sites: BusSet) -> Written
     requires { ⌜ n ≤ width ⌝ }
-    ensures { λ r. ⌜ PrintedReply (PlanText n (setOf sites)) (now (out .entry)) (now (out .exit)) r ⌝ }
+    ensures { λ r. ⌜ PrintedReply (IsPlanText n (setOf sites)) (now (out .entry)) (now (out .exit)) r ⌝ }
 {
     let mut none: [u8; 1] = [0];
     if out.len() < put_plan(&mut none, n, sites) {

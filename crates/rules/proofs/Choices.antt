@@ -9,7 +9,7 @@ use Rattle.basics.proofs.Tests.{below-or}
 use Rattle.busset.proofs.Members.{sub-of, sub-antisym}
 use Rattle.rules.specs.Grids.{Grid}
 use Rattle.rules.specs.Placing.{withUnits}
-use Rattle.rules.specs.Choosing.{Best, NoneAdds, Greedy}
+use Rattle.rules.specs.Choosing.{Best, NoneAdds, GreedyList}
 use Rattle.rules.specs.Confirming.{UnconfirmedSet}
 
 pub unconfirmed-unique : {nbr : ℕ → ℕ} {units : ℕ} (s t : ℕ) → UnconfirmedSet nbr units s → UnconfirmedSet nbr units t → s ≡ t
@@ -30,7 +30,7 @@ best-unique {g} {x} {y} p q =
 best-adds : {g : Grid} {x : ℕ} → Best g x → NoneAdds g → ⊥
 best-adds {g} {x} p none = omega (arith, p .adds, none x (p .before) (p .after) (p .observed) (p .with))
 
-pub greedy-unique : (g : Grid) (budget : ℕ) (xs ys : List ℕ) → Greedy g budget xs → Greedy g budget ys → xs ≡ ys
+pub greedy-unique : (g : Grid) (budget : ℕ) (xs ys : List ℕ) → GreedyList g budget xs → GreedyList g budget ys → xs ≡ ys
 greedy-unique g zero [] [] p q = refl
 greedy-unique g zero [] (y ∷ ys) p q = absurd q
 greedy-unique g zero (x ∷ xs) ys p q = absurd p
@@ -40,4 +40,4 @@ greedy-unique g (suc k) (x ∷ xs) [] p q = absurd (best-adds (p .0) q)
 greedy-unique g (suc k) (x ∷ xs) (y ∷ ys) p q =
     let e = best-unique (p .0) (q .0) in
     ap₂ (λ (z : ℕ) (zs : List ℕ). z ∷ zs) e
-    (greedy-unique (withUnits g (add (g .units) x)) k xs ys (p .1) (subst⁻¹ (λ (z : ℕ). Greedy (withUnits g (add (g .units) z)) k ys) e (q .1)))
+    (greedy-unique (withUnits g (add (g .units) x)) k xs ys (p .1) (subst⁻¹ (λ (z : ℕ). GreedyList (withUnits g (add (g .units) z)) k ys) e (q .1)))

@@ -6,7 +6,7 @@ use Prim.Native.Nat.{ℕ}
 use native.Mathlib.Omega.{arith}
 use Rattle.busset.specs.Sets.{empty}
 use Rattle.rules.specs.Grids.{Grid}
-use Rattle.rules.specs.Placing.{placed, Before, Earlier, Fewest, SomePlan}
+use Rattle.rules.specs.Placing.{placed, Before, Earlier, FewestSites, SomeAddition}
 
 pub before-antisym : (xs ys : List ℕ) → Before xs ys → Before ys xs → xs ≡ ys
 before-antisym [] [] p q = refl
@@ -24,11 +24,11 @@ earlier-antisym xs ys (inr l) (inl m) = absurd (omega (arith, l .0))
 earlier-antisym xs ys (inr l) (inr m) = before-antisym xs ys (l .1) (m .1)
 
 -- the sites of the fewest are one set
-pub fewest-set-unique : {g : Grid} {budget m k : ℕ} → Fewest g budget m → Fewest g budget k → m ≡ k
+pub fewest-set-unique : {g : Grid} {budget m k : ℕ} → FewestSites g budget m → FewestSites g budget k → m ≡ k
 fewest-set-unique p q =
-    p .set ∙ ap (placed empty) (earlier-antisym (p .list) (q .list) (p .first (q .list) (q .plan)) (q .first (p .list) (p .plan)))
+    p .set ∙ ap (placed empty) (earlier-antisym (p .list) (q .list) (p .first (q .list) (q .addition)) (q .first (p .list) (p .addition)))
     ∙ sym (q .set)
 
 -- where there is a fewest, some addition within the budget covers
-pub fewest-some : {g : Grid} {budget m : ℕ} → Fewest g budget m → SomePlan g budget
-fewest-some f = record { list = f .list; plan = f .plan }
+pub fewest-some : {g : Grid} {budget m : ℕ} → FewestSites g budget m → SomeAddition g budget
+fewest-some f = record { list = f .list; addition = f .addition }

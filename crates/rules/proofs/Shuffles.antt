@@ -14,7 +14,7 @@ use Rattle.rules.specs.Grids.{Grid}
 use Rattle.rules.specs.Observation.{ObservedSet}
 use Rattle.rules.specs.Steps.{Holds, reachedFrom, AcceptedFrom, reached, Accepted, Finished}
 use Rattle.basics.specs.Lists.{Each, Some}
-use Rattle.rules.specs.Weaving.{unlessSeen, wovenFrom, WeavableFrom, woven, Weavable, Taken, here, there, Shuffle, none, next}
+use Rattle.rules.specs.Weaving.{unlessSeen, wovenFrom, WeavableFrom, woven, Weavable, TakenFromOne, here, there, Shuffle, none, next}
 use Rattle.rules.proofs.Reasons.{holds-more}
 use Rattle.rules.proofs.Lists.{reached-grows, accepted-inside, accepted-length, finished-least}
 
@@ -40,7 +40,8 @@ each-more g s t (xs ∷ xss) sub w = (weavable-more g s t xs sub (w .0), each-mo
 abbrev First : Grid → ℕ → Step → List (List Step) → Type 0
 First g s x yss = (Out s (x .bus) → Holds g s (x .bus) (x .reason)) × Each (WeavableFrom g (add s (x .bus))) yss
 
-taken-first : (g : Grid) (s : ℕ) {x : Step} {xss yss : List (List Step)} → Taken x xss yss → Each (WeavableFrom g s) xss → First g s x yss
+taken-first : (g : Grid) (s : ℕ) {x : Step} {xss yss : List (List Step)} → TakenFromOne x xss yss → Each (WeavableFrom g s) xss
+    → First g s x yss
 taken-first g s (here {x = x} {xss = xss}) w = (w .0 .0, (w .0 .1, each-more g s (add s (x .bus)) xss (add-grows s (x .bus)) (w .1)))
 taken-first g s (there {x = x} {xs = xs} k) w =
     let f = taken-first g s k (w .1) in
@@ -95,7 +96,7 @@ for-reached s b (x ∷ xs) (inr p) = for-reached (add s (x .bus)) b xs p
 -- ---- a shuffle has the steps of its lists
 
 module _ (P : Step → Type 0) where
-  taken-to : {x : Step} {xss yss : List (List Step)} → Taken x xss yss → P x ⊎ Some (Some P) yss → Some (Some P) xss
+  taken-to : {x : Step} {xss yss : List (List Step)} → TakenFromOne x xss yss → P x ⊎ Some (Some P) yss → Some (Some P) xss
   taken-to here (inl p) = inl (inl p)
   taken-to here (inr (inl q)) = inl (inr q)
   taken-to here (inr (inr q)) = inr q
@@ -103,7 +104,7 @@ module _ (P : Step → Type 0) where
   taken-to (there k) (inr (inl q)) = inl q
   taken-to (there k) (inr (inr q)) = inr (taken-to k (inr q))
 
-  taken-from : {x : Step} {xss yss : List (List Step)} → Taken x xss yss → Some (Some P) xss → P x ⊎ Some (Some P) yss
+  taken-from : {x : Step} {xss yss : List (List Step)} → TakenFromOne x xss yss → Some (Some P) xss → P x ⊎ Some (Some P) yss
   taken-from here (inl (inl p)) = inl p
   taken-from here (inl (inr q)) = inr (inl q)
   taken-from here (inr q) = inr (inr q)
@@ -122,7 +123,7 @@ module _ (P : Step → Type 0) where
   shuffle-from (none {xss = xss} e) q = absurd (none-left xss e q)
   shuffle-from (next k r) q = ⊎-elim (λ p. inl p) (λ t. inr (shuffle-from r t)) (taken-from k q)
 
-  taken-each : {x : Step} {xss yss : List (List Step)} → Taken x xss yss → Each (Each P) xss → P x × Each (Each P) yss
+  taken-each : {x : Step} {xss yss : List (List Step)} → TakenFromOne x xss yss → Each (Each P) xss → P x × Each (Each P) yss
   taken-each here e = (e .0 .0, (e .0 .1, e .1))
   taken-each (there k) e = let r = taken-each k (e .1) in (r .0, (e .0, r .1))
 

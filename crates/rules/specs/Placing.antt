@@ -40,7 +40,7 @@ placed u [] = u
 placed u (x ∷ xs) = placed (add u x) xs
 
 -- xs is an addition within the budget that makes all n buses observed
-pub record Plan (g : Grid) (budget : ℕ) (xs : List ℕ) : Type 0 where
+pub record Addition (g : Grid) (budget : ℕ) (xs : List ℕ) : Type 0 where
   pub within : length xs ≤ budget
   pub rising : Rising (Free g) 0 xs
   pub covers : Covers g (placed (g .units) xs)
@@ -57,14 +57,14 @@ Before (x ∷ xs) (y ∷ ys) = (x < y) ⊎ ((x ≡ y) × Before xs ys)
 abbrev pub Earlier : List ℕ → List ℕ → Type 0
 Earlier xs ys = (length xs < length ys) ⊎ ((length xs ≡ length ys) × Before xs ys)
 
--- m is the set of the sites of the fewest: the plan that is earlier than every plan
-pub record Fewest (g : Grid) (budget m : ℕ) : Type 0 where
+-- m is the set of the sites of the fewest: the addition that is earlier than every one
+pub record FewestSites (g : Grid) (budget m : ℕ) : Type 0 where
   pub list : List ℕ
   pub set : m ≡ placed empty list
-  pub plan : Plan g budget list
-  pub first : (ys : List ℕ) → Plan g budget ys → Earlier list ys
+  pub addition : Addition g budget list
+  pub first : (ys : List ℕ) → Addition g budget ys → Earlier list ys
 
 -- some addition within the budget makes all n buses observed
-pub record SomePlan (g : Grid) (budget : ℕ) : Type 0 where
+pub record SomeAddition (g : Grid) (budget : ℕ) : Type 0 where
   pub list : List ℕ
-  pub plan : Plan g budget list
+  pub addition : Addition g budget list

@@ -36,11 +36,11 @@ Weavable g xs = WeavableFrom g empty xs
 -- ---- shuffles
 
 -- x is the first step of one of the lists, and the lists after it are those without it
-pub data Taken : Step → List (List Step) → List (List Step) → Type 0 where
-  here : {x : Step} {xs : List Step} {xss : List (List Step)} → Taken x ((x ∷ xs) ∷ xss) (xs ∷ xss)
-  there : {x : Step} {xs : List Step} {xss yss : List (List Step)} → Taken x xss yss → Taken x (xs ∷ xss) (xs ∷ yss)
+pub data TakenFromOne : Step → List (List Step) → List (List Step) → Type 0 where
+  here : {x : Step} {xs : List Step} {xss : List (List Step)} → TakenFromOne x ((x ∷ xs) ∷ xss) (xs ∷ xss)
+  there : {x : Step} {xs : List Step} {xss yss : List (List Step)} → TakenFromOne x xss yss → TakenFromOne x (xs ∷ xss) (xs ∷ yss)
 
 -- zs has the steps of all the lists, and those of each list in that list's order
 pub data Shuffle : List (List Step) → List Step → Type 0 where
   none : {xss : List (List Step)} → Each (λ xs. xs ≡ []) xss → Shuffle xss []
-  next : {x : Step} {xss yss : List (List Step)} {zs : List Step} → Taken x xss yss → Shuffle yss zs → Shuffle xss (x ∷ zs)
+  next : {x : Step} {xss yss : List (List Step)} {zs : List Step} → TakenFromOne x xss yss → Shuffle yss zs → Shuffle xss (x ∷ zs)

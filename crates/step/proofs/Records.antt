@@ -7,7 +7,7 @@ use native.Mathlib.Omega.{arith}
 use lib.ListN.{length, take, drop, getD, set, length-set}
 use Rattle.step.specs.declared.Step.{Step}
 use Rattle.step.specs.Records.{noStep, putFirst}
-use Rattle.step.proofs.Writing.{Written, written-none, written-more}
+use Rattle.step.proofs.Writing.{WrittenSoFar, written-none, written-more}
 
 pub put-long : (k : ℕ) (told : ℕ → Step) (before : List Step) → length (putFirst k told before) ≡ length before
 put-long zero told before = refl
@@ -19,11 +19,11 @@ put-next k told before x e = ap (set (putFirst k told before) k) e ∙ ap (λ (j
 
 put-written : (xs before : List Step) (told : ℕ → Step) (k : ℕ) → ((i : ℕ) → i < k → told i ≡ getD xs i noStep) → k ≤ length xs
     → k ≤ length before
-    → Written xs before (putFirst k told before) k
+    → WrittenSoFar xs before (putFirst k told before) k
 put-written xs before told zero is few fits = written-none xs before
 put-written xs before told (suc k) is few fits =
-    subst (λ (x : Step). Written xs before (set (putFirst k told before) k x) (suc k)) (sym (is k (omega arith)))
-    (subst (Written xs before (set (putFirst k told before) k (getD xs k noStep))) (add-one k)
+    subst (λ (x : Step). WrittenSoFar xs before (set (putFirst k told before) k x) (suc k)) (sym (is k (omega arith)))
+    (subst (WrittenSoFar xs before (set (putFirst k told before) k (getD xs k noStep))) (add-one k)
     (written-more noStep (put-written xs before told k (λ i l. is i (omega arith)) (omega arith) (omega arith)) few fits))
 
 -- the first k records hold the first k steps of xs, and the others what they held

@@ -2,8 +2,8 @@
 use Prim.Native.Nat.{ℕ, _*_, _<_, _^_}
 use native.Mathlib.Omega.{arith}
 
-abbrev pub bytes : ℕ
-bytes = 24
+abbrev pub recordBytes : ℕ
+recordBytes = 24
 
-pub offset-fits : (n i : ℕ) → n * bytes < 2 ^ 63 → i < n → i * bytes < 2 ^ 64
+pub offset-fits : (n i : ℕ) → n * recordBytes < 2 ^ 63 → i < n → i * recordBytes < 2 ^ 64
 offset-fits n i g l = omega arith

@@ -8,16 +8,17 @@ use lib.ListN.{length, take, drop, getD, set, length-set}
 use lib.Seq.{drop-cons, set-at, take-suc, length-take-le, append-snoc}
 
 -- i elements of the list are written over the room as it was lent
-pub record Written {A : Type 0} (list lent room : List A) (i : ℕ) : Type 0 where
+pub record WrittenSoFar {A : Type 0} (list lent room : List A) (i : ℕ) : Type 0 where
   pub is : room ≡ take i list ++ drop i lent
   pub long : length room ≡ length lent
 
-pub written-none : {A : Type 0} (list lent : List A) → Written list lent lent 0
+pub written-none : {A : Type 0} (list lent : List A) → WrittenSoFar list lent lent 0
 written-none list lent = record { is = cc; long = cc }
 
 -- d is whatever stands past the end of a list
-pub written-more : {A : Type 0} (d : A) {list lent room : List A} {i : ℕ} → Written list lent room i → i < length list → i < length lent
-    → Written list lent (set room i (getD list i d)) (i + 1)
+pub written-more : {A : Type 0} (d : A) {list lent room : List A} {i : ℕ} → WrittenSoFar list lent room i → i < length list
+    → i < length lent
+    → WrittenSoFar list lent (set room i (getD list i d)) (i + 1)
 written-more {A} d {list} {lent} {room} {i} w hl hr = record {
   is = ap (λ (r : List A). set r i (getD list i d)) (w .is) ∙ turn ∙ ap (λ (k : ℕ). take k list ++ drop k lent) (sym (add-one i));
   long = simp length-set (w .long);

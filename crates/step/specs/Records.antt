@@ -10,8 +10,8 @@ abbrev pub noStep : Step
 noStep = record { bus = 0; reason = OwnUnit }
 
 -- the first records hold the list, and the others what they held
-abbrev pub written : List Step → List Step → List Step
-written xs before = xs ++ drop (length xs) before
+abbrev pub writtenInto : List Step → List Step → List Step
+writtenInto xs before = xs ++ drop (length xs) before
 
 -- the records with the first k steps in their places, where the step at each place, counted from 0, is told
 abbrev pub putFirst : ℕ → (ℕ → Step) → List Step → List Step

@@ -3,13 +3,13 @@ use mathlib.Core.Bool.{cond}
 use mathlib.Core.List.{List, [], _∷_}
 use Prim.Native.Nat.{ℕ}
 use Rattle.text_field.specs.Split.{split, join, same, bytes, tab}
-use Rattle.text_field.specs.Number.{numberOf, numberText}
+use Rattle.text_field.specs.Number.{numeralOf, numberText}
 use Rattle.text_field.specs.declared.Numeral.{Numeral}
 use Rattle.text_field.specs.declared.Numeral.the-variants.{Is as Number, Wrong as NoNumber}
 use Rattle.step.specs.declared.Reason.{Reason}
 use Rattle.step.specs.declared.Reason.the-variants.{OwnUnit, NeighbourOf, ZeroInjection}
 use Rattle.step.specs.declared.Step as step
-use Rattle.case_line.specs.Fields.{none, oneNumber}
+use Rattle.case_line.specs.Fields.{ifNoField, oneNumber}
 use Rattle.step_line.specs.declared.Given.{Given}
 use Rattle.step_line.specs.declared.Given.the-variants.{Is as By, Wrong as NoReason}
 use Rattle.step_line.specs.declared.Letter.{Letter}
@@ -50,7 +50,7 @@ zeroOf NoNumber = NoReason
 
 -- O, which no field follows
 abbrev pub ownFields : List (List ℕ) → Given
-ownFields = none NoReason (By OwnUnit)
+ownFields = ifNoField NoReason (By OwnUnit)
 
 -- the reason's letter, and the fields after it
 abbrev pub byLetter : Letter → List (List ℕ) → Given
@@ -73,11 +73,11 @@ stepOf NoNumber given = Wrong
 -- the fields after `step`
 unfoldable pub stepFields : List (List ℕ) → StepLine
 stepFields [] = Wrong
-stepFields (b ∷ fs) = stepOf (numberOf b) (reasonFields fs)
+stepFields (b ∷ fs) = stepOf (numeralOf b) (reasonFields fs)
 
 -- `end`, which no field follows
 abbrev pub endFields : List (List ℕ) → StepLine
-endFields = none Wrong End
+endFields = ifNoField Wrong End
 
 -- the word, and the fields after it
 abbrev pub byStepWord : StepWord → List (List ℕ) → StepLine

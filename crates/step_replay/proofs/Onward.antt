@@ -7,8 +7,8 @@ use lib.ListN.{length, length-append}
 use Rattle.step.specs.declared.Step.{Step}
 use Rattle.grid.specs.declared.Case.{Case}
 use Rattle.refusals.specs.declared.Refusal.{Refusal}
-use Rattle.list_follow.specs.Following.{After, Follows}
-use Rattle.list_follow.specs.Replies.{ReplayReply, Ended}
+use Rattle.list_follow.specs.Following.{StandsAfter, Follows}
+use Rattle.list_follow.specs.Replies.{ReplayReply, AnswersReplay}
 use Rattle.list_follow.specs.declared.Standing.the-variants.{Bad}
 use Rattle.list_follow.specs.declared.Following.{Following}
 use Rattle.list_follow.specs.declared.Task.the-variants.{Replay}
@@ -28,9 +28,9 @@ pub record Onward (c : Case) (text : List ℕ) (n : ℕ) (st : Following) (at : 
   pub high : at ≤ length text
   pub sofar : List Step
   pub all : sofar ++ stepsFrom text at ≡ stepsOf text
-  pub after : After c Replay n sofar st
+  pub after : StandsAfter c Replay n sofar st
 
-pub onward-none : {c : Case} (text : List ℕ) {n : ℕ} {st : Following} → After c Replay n [] st → Onward c text n st 0
+pub onward-none : {c : Case} (text : List ℕ) {n : ℕ} {st : Following} → StandsAfter c Replay n [] st → Onward c text n st 0
 onward-none text s = record { high = omega arith; sofar = []; all = refl; after = s }
 
 -- the step at index at
@@ -54,21 +54,21 @@ onward-more {c} {text} {n} {st} {r} {at} {e} {x} l o p t f =
 
 -- the steps that are still to come, followed
 onward-last : {c : Case} {text : List ℕ} {n : ℕ} {st last : Following} {at : ℕ} → length (stepsOf text) ≡ n → Onward c text n st at
-    → Follows c st (stepsFrom text at) last → After c Replay n (stepsOf text) last
+    → Follows c st (stepsFrom text at) last → StandsAfter c Replay n (stepsOf text) last
 onward-last {c} {text} {n} {st} {last} {at} l o f =
-    subst (λ (xs : List Step). After c Replay n xs last) (o .all)
+    subst (λ (xs : List Step). StandsAfter c Replay n xs last) (o .all)
     (f .leads Replay n (o .sofar) (omega (arith, l, ap length (o .all))) (o .after))
 
 -- none is to come
 pub onward-all : {c : Case} {text : List ℕ} {n : ℕ} {st : Following} {at : ℕ} {t : NextStep} → length (stepsOf text) ≡ n
-    → Onward c text n st at → StepAt text at t → t ≡ Nothing → After c Replay n (stepsOf text) st
+    → Onward c text n st at → StepAt text at t → t ≡ Nothing → StandsAfter c Replay n (stepsOf text) st
 onward-all {c} {text} {n} {st} {at} l o p t =
     let h : stepsFrom text at ≡ [] = subst (StepAt text at) t p in
     onward-last l o (subst⁻¹ (λ (xs : List Step). Follows c st xs st) h (follows-none c st))
 
 -- one step was bad, and stays so whatever comes
 pub onward-bad : {c : Case} {text : List ℕ} {n : ℕ} {st : Following} {at : ℕ} {q : Refusal} → length (stepsOf text) ≡ n
-    → Onward c text n st at → st .standing ≡ Bad q → After c Replay n (stepsOf text) st
+    → Onward c text n st at → st .standing ≡ Bad q → StandsAfter c Replay n (stepsOf text) st
 onward-bad {text = text} {at = at} l o e = onward-last l o (bad-stays (stepsFrom text at) e)
 
 -- ---- the answer
@@ -76,10 +76,10 @@ onward-bad {text = text} {at = at} l o e = onward-last l o (bad-stays (stepsFrom
 module _ (c : Case) (text : List ℕ) {a : StepsRead} (is : a ≡ readSteps text) where
   -- a text that reads
   pub replied : {n : ℕ} {st : Following} {r w : Replayed} → length (stepsOf text) ≡ n → a ≡ read.Steps n
-      → After c Replay n (stepsOf text) st → Ended c st r → r ≡ w → TextReplayReply c text (textAnswer w)
+      → StandsAfter c Replay n (stepsOf text) st → AnswersReplay c st r → r ≡ w → TextReplayReply c text (textAnswer w)
   replied {n} {st} {r} {w} l t s e told =
       subst (λ (x : StepsRead). TextReplayAt c text x (textAnswer w)) (sym t ∙ is)
-      (w, subst (ReplayReply c (stepsOf text)) told (e (stepsOf text) (subst⁻¹ (λ (k : ℕ). After c Replay k (stepsOf text) st) l s)), refl)
+      (w, subst (ReplayReply c (stepsOf text)) told (e (stepsOf text) (subst⁻¹ (λ (k : ℕ). StandsAfter c Replay k (stepsOf text) st) l s)), refl)
 
   -- a text that does not
   pub unread : {q : Refusal} → a ≡ read.Refused q → TextReplayReply c text (Unread q)

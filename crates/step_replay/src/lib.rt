@@ -2,7 +2,7 @@
 ghost use mathlib.Core.Path.{_≡_};
 ghost use lib.ListN.{length};
 ghost use Rattle.step_text.specs.Steps.{stepsOf};
-ghost use Rattle.list_follow.specs.Following.{After};
+ghost use Rattle.list_follow.specs.Following.{StandsAfter};
 ghost use Rattle.list_follow.specs.declared.Task.the-variants.{Replay};
 ghost use Rattle.step_replay.specs.Replying.{TextReplayReply};
 use busset::BusSet;
@@ -30,7 +30,7 @@ pub enum TextReplayed {
 // The n steps of a text, followed one after another up to the first bad one.
 fn follow_text(case: Case, text: &[u8], n: usize) -> Following
     requires { ⌜ length (stepsOf (now text)) ≡ n ⌝ }
-    ensures { λ r. ⌜ After case Replay n (stepsOf (now (text .entry))) r ⌝ }
+    ensures { λ r. ⌜ StandsAfter case Replay n (stepsOf (now (text .entry))) r ⌝ }
 {
     let mut st = begin(case, Task::Replay, n);
     let mut at: usize = 0;

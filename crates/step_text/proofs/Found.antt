@@ -21,7 +21,7 @@ use Rattle.grid.specs.Cases.{mostBuses, mostSteps, mostStepBytes}
 use Rattle.refusals.specs.declared.Refusal.{Refusal}
 use Rattle.refusals.specs.declared.Refusal.the-variants.{TextTooLong, OutOfRange, TooManySteps}
 use Rattle.case_judge.specs.Judging.{isBus}
-use Rattle.case_judge.proofs.Judged.{inside, apart}
+use Rattle.case_judge.proofs.Judged.{inside, not-one}
 use Rattle.step_text.specs.Steps.{reasonInRange, stepInRange, ended, lineSaid, stepLines}
 use Rattle.step_text.specs.Steps.{readSteps, andSteps, stepsIn, stepsFrom, stepsOf}
 use Rattle.step_text.specs.declared.StepsRead.{StepsRead}
@@ -39,22 +39,23 @@ names x e =
     record { bus = inside mostBuses (x .bus) (p .0); reason = reason-names (x .reason) (p .1) }
 
 -- n steps are found from line k on
-pub record Found (k n : ℕ) (xs : List Step) : Type 0 where
+pub record StepsFound (k n : ℕ) (xs : List Step) : Type 0 where
   pub count : length xs + k ≡ n + 1
   pub few : n ≤ mostSteps
   pub named : Each (Names mostBuses) xs
 
 pub not-steps : {n : ℕ} (r : Refusal) → Refused r ≡ Steps n → ⊥
-not-steps r e = apart (cc)
+not-steps r e = not-one (cc)
 
-found-end : (k n : ℕ) (m : List ℕ) (ms : List (List ℕ)) → 1 ≤ k → k ≤ mostSteps + 1 → ended k m ms ≡ Steps n → Found k n []
+found-end : (k n : ℕ) (m : List ℕ) (ms : List (List ℕ)) → 1 ≤ k → k ≤ mostSteps + 1 → ended k m ms ≡ Steps n → StepsFound k n []
 found-end k n [] [] h l e = let f : k - 1 ≡ n = cc in record { count = omega arith; few = omega arith; named = tt }
 found-end k n [] (m ∷ ms) h l e = absurd (not-steps _ e)
 found-end k n (b ∷ m) ms h l e = absurd (not-steps _ e)
 
 found-step : (k n : ℕ) (x : Step) (xs : List Step) (on : StepsRead) (a b : Bool) → stepInRange x ≡ a → ltb mostSteps k ≡ b →
-    cond a (cond b (Refused (TooManySteps k)) on) (Refused (OutOfRange k)) ≡ Steps n → (k ≤ mostSteps → on ≡ Steps n → Found (k + 1) n xs)
-    → Found k n (x ∷ xs)
+    cond a (cond b (Refused (TooManySteps k)) on) (Refused (OutOfRange k)) ≡ Steps n
+    → (k ≤ mostSteps → on ≡ Steps n → StepsFound (k + 1) n xs)
+    → StepsFound k n (x ∷ xs)
 found-step k n x xs on true true p q e ih = absurd (not-steps _ e)
 found-step k n x xs on true false p q e ih =
     let f = ih (ltb-false mostSteps k q) e in
@@ -62,13 +63,13 @@ found-step k n x xs on true false p q e ih =
 found-step k n x xs on false b p q e ih = absurd (not-steps _ e)
 
 found-line : (k n : ℕ) (r : StepLine) (m : List ℕ) (ms : List (List ℕ)) (xs : List Step) (on : StepsRead) → 1 ≤ k → k ≤ mostSteps + 1 →
-    lineSaid r k on (ended k m ms) ≡ Steps n → (k ≤ mostSteps → on ≡ Steps n → Found (k + 1) n xs) → Found k n (andSteps r xs)
+    lineSaid r k on (ended k m ms) ≡ Steps n → (k ≤ mostSteps → on ≡ Steps n → StepsFound (k + 1) n xs) → StepsFound k n (andSteps r xs)
 found-line k n (StepOf x) m ms xs on h l e ih = found-step k n x xs on (stepInRange x) (ltb mostSteps k) refl refl e ih
 found-line k n End m ms xs on h l e ih = found-end k n m ms h l e
 found-line k n Wrong m ms xs on h l e ih = absurd (not-steps _ e)
 
 found-lines : (ps : List (List ℕ)) (k n : ℕ) (l : List ℕ) → 1 ≤ k → k ≤ mostSteps + 1 → stepLines k l ps ≡ Steps n
-    → Found k n (stepsIn l ps)
+    → StepsFound k n (stepsIn l ps)
 unfolding stepLines stepsIn
 found-lines [] k n l h b e = absurd (not-steps _ e)
 found-lines (m ∷ ms) k n l h b e =
@@ -76,12 +77,12 @@ found-lines (m ∷ ms) k n l h b e =
     (λ g f. found-lines ms (k + 1) n m (omega arith) (omega arith) f)
 
 -- a text found to have n steps
-pub steps-found : (text : List ℕ) (n : ℕ) → readSteps text ≡ Steps n → Found 1 n (stepsOf text)
+pub steps-found : (text : List ℕ) (n : ℕ) → readSteps text ≡ Steps n → StepsFound 1 n (stepsOf text)
 unfolding readSteps stepsFrom
 steps-found text n e = go (ltb mostStepBytes (length text)) e
   where
     go : (b : Bool) → cond b (Refused TextTooLong) (stepLines 1 (split 10 text .first) (split 10 text .rest)) ≡ Steps n
-        → Found 1 n (stepsOf text)
+        → StepsFound 1 n (stepsOf text)
     go true e = absurd (not-steps _ e)
     go false e = found-lines (split 10 text .rest) 1 n (split 10 text .first) (omega arith) (omega arith) e
 

@@ -15,7 +15,7 @@ use Rattle.step.proofs.Records.{put-first}
 use Rattle.refusals.specs.declared.Refusal.{Refusal}
 use Rattle.refusals.specs.declared.Refusal.the-variants.{NoRoom}
 use Rattle.step_text.specs.Steps.{readSteps, stepsIn, stepsFrom, stepsOf, StepHere}
-use Rattle.step_text.specs.Taking.{StepAt, withRoom, leaves, StepsReadReply, countOf, Takes}
+use Rattle.step_text.specs.Taking.{StepAt, withRoom, leaves, StepsReadReply, countRead, Takes}
 use Rattle.step_text.specs.declared.StepsRead.{StepsRead}
 use Rattle.step_text.specs.declared.StepsRead.the-variants.{Steps, Refused}
 use Rattle.step_text.specs.declared.taking.NextStep.{NextStep}
@@ -69,34 +69,34 @@ said-fits room n (Steps m) e = go (ltb room m) refl e
 said-fits room n (Refused q) e = absurd (not-steps q (sym e))
 
 -- no more is written than there is room for
-pub count-fits : (room : ℕ) (r said : StepsRead) → r ≡ withRoom room said → countOf r ≤ room
+pub count-fits : (room : ℕ) (r said : StepsRead) → r ≡ withRoom room said → countRead r ≤ room
 count-fits room (Steps n) said e = said-fits room n said e .1
 count-fits room (Refused q) said e = omega arith
 
 -- the step at a place of a list, counted from 0
-abbrev pub placed : List Step → ℕ → Step
-placed xs i = getD xs i noStep
+abbrev pub nthStep : List Step → ℕ → Step
+nthStep xs i = getD xs i noStep
 
 -- where i steps of xs are taken, the next is the one at i, and those after it are left
 pub takes-next : {text : List ℕ} {a : ℕ} {r : Taken} (i : ℕ) (xs : List Step) → stepsFrom text a ≡ drop i xs → Takes text a r
-    → (r .step ≡ placed xs i) × (stepsFrom text (r .next) ≡ drop (i + 1) xs)
+    → (r .step ≡ nthStep xs i) × (stepsFrom text (r .next) ≡ drop (i + 1) xs)
 takes-next i xs e t = (
-  t .step ∙ ap (λ (l : List Step). placed l 0) e ∙ getD-drop i xs 0 noStep ∙ ap (placed xs) (omega arith),
+  t .step ∙ ap (λ (l : List Step). nthStep l 0) e ∙ getD-drop i xs 0 noStep ∙ ap (nthStep xs) (omega arith),
   t .rest ∙ ap (drop 1) e ∙ drop-drop 1 i xs,
 )
 
 -- the reply, where as many of the text's steps are put into the records as it says
 pub read-law : (text : List ℕ) (before : List Step) (r : StepsRead) → r ≡ withRoom (length before) (readSteps text)
-    → StepsReadReply text before (putFirst (countOf r) (placed (stepsOf text)) before) r
+    → StepsReadReply text before (putFirst (countRead r) (nthStep (stepsOf text)) before) r
 read-law text before r e = (e, go r e)
   where
     xs : List Step
     xs = stepsOf text
 
-    go : (r : StepsRead) → r ≡ withRoom (length before) (readSteps text) → putFirst (countOf r) (placed xs) before ≡ leaves r xs before
+    go : (r : StepsRead) → r ≡ withRoom (length before) (readSteps text) → putFirst (countRead r) (nthStep xs) before ≡ leaves r xs before
     go (Steps n) e =
         let f = said-fits (length before) n (readSteps text) e in
         let c = steps-count text n (f .0) in
-        put-first xs before (placed xs) n (λ i l. refl) (omega (arith, c)) (f .1)
+        put-first xs before (nthStep xs) n (λ i l. refl) (omega (arith, c)) (f .1)
         ∙ ap (λ (k : ℕ). take k xs ++ drop k before) (sym c) ∙ ap (λ (l : List Step). l ++ drop (length xs) before) (take-length xs)
     go (Refused q) e = refl

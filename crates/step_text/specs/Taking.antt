@@ -5,7 +5,7 @@ use mathlib.Core.List.{List, []}
 use Prim.Native.Nat.{ℕ}
 use lib.Dec.{ltb}
 use lib.ListN.{length, drop, getD}
-use Rattle.step.specs.Records.{noStep, written}
+use Rattle.step.specs.Records.{noStep, writtenInto}
 use Rattle.step.specs.declared.Step.{Step}
 use Rattle.refusals.specs.declared.Refusal.the-variants.{NoRoom}
 use Rattle.step_text.specs.Steps.{readSteps, stepsFrom, stepsOf, StepHere}
@@ -31,7 +31,7 @@ withRoom room (Refused q) = Refused q
 
 -- what the records hold afterwards: the steps, and then what they held; a refusal leaves every record
 abbrev pub leaves : StepsRead → List Step → List Step → List Step
-leaves (Steps n) xs before = written xs before
+leaves (Steps n) xs before = writtenInto xs before
 leaves (Refused q) xs before = before
 
 -- the reply, and what every record lent holds afterwards
@@ -39,9 +39,9 @@ abbrev pub StepsReadReply : List ℕ → List Step → List Step → StepsRead �
 StepsReadReply text before after r = (r ≡ withRoom (length before) (readSteps text)) × (after ≡ leaves r (stepsOf text) before)
 
 -- how many records are written
-abbrev pub countOf : StepsRead → ℕ
-countOf (Steps n) = n
-countOf (Refused q) = 0
+abbrev pub countRead : StepsRead → ℕ
+countRead (Steps n) = n
+countRead (Refused q) = 0
 
 -- the first step from index a on, and the next line's start: the other steps are those from there on
 pub record Takes (text : List ℕ) (a : ℕ) (r : Taken) : Type 0 where

@@ -3,7 +3,7 @@ ghost use mathlib.Core.Path.{_≡_};
 ghost use Prim.Native.Nat.{_≤_};
 ghost use lib.ListN.{length};
 ghost use Rattle.step_text.specs.Steps.{readSteps};
-ghost use Rattle.step_text.specs.Taking.{StepAt, Takes, withRoom, countOf};
+ghost use Rattle.step_text.specs.Taking.{StepAt, Takes, withRoom, countRead};
 use crate::StepsRead;
 use crate::check_steps;
 use refusals::Refusal;
@@ -78,7 +78,7 @@ pub fn check_room(text: &[u8], room: usize) -> StepsRead
 
 // How many records are written.
 pub fn count_of(r: StepsRead) -> usize
-    ensures { λ n. ⌜ n ≡ countOf r ⌝ }
+    ensures { λ n. ⌜ n ≡ countRead r ⌝ }
 {
     match r {
         StepsRead::Steps(n) => n,

@@ -10,37 +10,37 @@ use Rattle.tables.proofs.Tests.{gap, isOne, given, subTest, holdsTest, 
 use Rattle.tables.proofs.Sought.{derived, pick, reasonFor, reasonAt, stepFor, passFrom, extended, derive}
 use Rattle.grid.specs.Cases.{neighbours, Valid}
 use Rattle.tables.proofs.Drawn.{withinTest, rowTest, validTest, valid-passes}
-use Rattle.tables.specs.Starred.{Drawing, caseOf, seven, path}
-use Rattle.tables.specs.Drawings.{set, grid, pathWith, sweep, leaf, lone, ring}
+use Rattle.tables.specs.Starred.{Drawing, drawnCase, seven, path}
+use Rattle.tables.specs.Drawings.{set, drawnGrid, pathWith, sweep, leaf, lone, ring}
 
 -- a valid case, and the set that is observed in it
-pub record Observed (d : Drawing) (s : ℕ) : Type 0 where
-  pub valid : Valid (caseOf d)
-  pub least : ObservedSet (grid d) s
+pub record ObservedIn (d : Drawing) (s : ℕ) : Type 0 where
+  pub valid : Valid (drawnCase d)
+  pub least : ObservedSet (drawnGrid d) s
 
 -- from two tests, where the list that derives the set is found
-observed : (d : Drawing) (s : ℕ) → validTest (caseOf d) ≡ 0 → leastTest (grid d) (derived (grid d)) s ≡ 0 → Observed d s
+observed : (d : Drawing) (s : ℕ) → validTest (drawnCase d) ≡ 0 → leastTest (drawnGrid d) (derived (drawnGrid d)) s ≡ 0 → ObservedIn d s
 observed d s v e =
-    let ok : Valid (caseOf d) = valid-passes (caseOf d) v in
-    record { valid = ok; least = least-passes (grid d) (derived (grid d)) s (ok .proper) e }
+    let ok : Valid (drawnCase d) = valid-passes (drawnCase d) v in
+    record { valid = ok; least = least-passes (drawnGrid d) (derived (drawnGrid d)) s (ok .proper) e }
 
 -- those that the tables speak of
 pub record Known : Type 0 where
-  pub none : Observed (seven []) (set [])
-  pub at2 : Observed (seven (2 ∷ [])) (set (1 ∷ 2 ∷ 3 ∷ []))
-  pub at3 : Observed (seven (3 ∷ [])) (set (1 ∷ 2 ∷ 3 ∷ 4 ∷ 7 ∷ []))
-  pub at4 : Observed (seven (4 ∷ [])) (set (3 ∷ 4 ∷ 5 ∷ 6 ∷ []))
-  pub at14 : Observed (seven (1 ∷ 4 ∷ [])) (set (1 ∷ 2 ∷ 3 ∷ 4 ∷ 5 ∷ 6 ∷ 7 ∷ []))
-  pub at12 : Observed (seven (1 ∷ 2 ∷ [])) (set (1 ∷ 2 ∷ 3 ∷ []))
-  pub at13 : Observed (seven (1 ∷ 3 ∷ [])) (set (1 ∷ 2 ∷ 3 ∷ 4 ∷ 7 ∷ []))
-  pub at34 : Observed (seven (3 ∷ 4 ∷ [])) (set (1 ∷ 2 ∷ 3 ∷ 4 ∷ 5 ∷ 6 ∷ 7 ∷ []))
-  pub ring4 : Observed (ring (4 ∷ [])) (set (1 ∷ 2 ∷ 3 ∷ 4 ∷ []))
-  pub ring34 : Observed (ring (3 ∷ 4 ∷ [])) (set (1 ∷ 2 ∷ 3 ∷ 4 ∷ []))
-  pub path15 : Observed path (set (1 ∷ 2 ∷ 4 ∷ 5 ∷ []))
-  pub path1 : Observed (pathWith (1 ∷ [])) (set (1 ∷ 2 ∷ []))
-  pub swept : Observed sweep (set (1 ∷ 2 ∷ 3 ∷ 4 ∷ []))
-  pub leaf2 : Observed leaf (set (1 ∷ 2 ∷ []))
-  pub lone1 : Observed lone (set (1 ∷ []))
+  pub none : ObservedIn (seven []) (set [])
+  pub at2 : ObservedIn (seven (2 ∷ [])) (set (1 ∷ 2 ∷ 3 ∷ []))
+  pub at3 : ObservedIn (seven (3 ∷ [])) (set (1 ∷ 2 ∷ 3 ∷ 4 ∷ 7 ∷ []))
+  pub at4 : ObservedIn (seven (4 ∷ [])) (set (3 ∷ 4 ∷ 5 ∷ 6 ∷ []))
+  pub at14 : ObservedIn (seven (1 ∷ 4 ∷ [])) (set (1 ∷ 2 ∷ 3 ∷ 4 ∷ 5 ∷ 6 ∷ 7 ∷ []))
+  pub at12 : ObservedIn (seven (1 ∷ 2 ∷ [])) (set (1 ∷ 2 ∷ 3 ∷ []))
+  pub at13 : ObservedIn (seven (1 ∷ 3 ∷ [])) (set (1 ∷ 2 ∷ 3 ∷ 4 ∷ 7 ∷ []))
+  pub at34 : ObservedIn (seven (3 ∷ 4 ∷ [])) (set (1 ∷ 2 ∷ 3 ∷ 4 ∷ 5 ∷ 6 ∷ 7 ∷ []))
+  pub ring4 : ObservedIn (ring (4 ∷ [])) (set (1 ∷ 2 ∷ 3 ∷ 4 ∷ []))
+  pub ring34 : ObservedIn (ring (3 ∷ 4 ∷ [])) (set (1 ∷ 2 ∷ 3 ∷ 4 ∷ []))
+  pub path15 : ObservedIn path (set (1 ∷ 2 ∷ 4 ∷ 5 ∷ []))
+  pub path1 : ObservedIn (pathWith (1 ∷ [])) (set (1 ∷ 2 ∷ []))
+  pub swept : ObservedIn sweep (set (1 ∷ 2 ∷ 3 ∷ 4 ∷ []))
+  pub leaf2 : ObservedIn leaf (set (1 ∷ 2 ∷ []))
+  pub lone1 : ObservedIn lone (set (1 ∷ []))
 
 pub known : Known
 unfolding validTest withinTest rowTest leastTest acceptedTest holdsTest closedTest subTest isOne gap given total neighbours setOf upTo less

@@ -15,10 +15,10 @@ use Rattle.tables.proofs.Tests.{gap, given}
 use Rattle.tables.proofs.Sought.{confirmTest, aloneTest, unconfirmedTest, unconfirmed-passes}
 use Rattle.grid.specs.Cases.{neighbours}
 use Rattle.tables.proofs.Drawn.{withinTest, rowTest, validTest, valid-passes}
-use Rattle.tables.specs.Starred.{Drawing, wordOf, caseOf, seven}
+use Rattle.tables.specs.Starred.{Drawing, setWord, drawnCase, seven}
 use Rattle.tables.proofs.Rows.{_&_}
 use Rattle.tables.specs.Tables.{AllRight}
-use Rattle.tables.specs.Drawings.{set, grid, sevenGrid, apart}
+use Rattle.tables.specs.Drawings.{set, drawnGrid, sevenGrid, apart}
 use Rattle.tables.specs.Confirming as tables
 
 -- buses that are not joined and share no neighbour
@@ -26,7 +26,7 @@ strangers : (nbr : ℕ → ℕ) (a b : ℕ) → bit (nbr a) b + size (meet (nbr 
 strangers nbr a b e (joined j) = omega arith
 strangers nbr a b e (share c j k) = omega (arith, size-some (meet (nbr a) (nbr b)) c (let m = meet-at (nbr a) (nbr b) c in omega arith))
 
-pub confirm-right : AllRight tables.confirm
+pub confirm-right : AllRight tables.confirmTable
 unfolding meet neighbours setOf ones onesIn
 confirm-right =
     joined refl
@@ -35,25 +35,26 @@ confirm-right =
     & share 4 refl refl
     & strangers (sevenGrid [] .neighbours) 1 4 refl
     & strangers (sevenGrid [] .neighbours) 1 6 refl
-    & strangers (grid (apart []) .neighbours) 1 3 refl
+    & strangers (drawnGrid (apart []) .neighbours) 1 3 refl
     & tt
 
 -- the units of a drawing that no other unit confirms
-alone : (d : Drawing) (s : ℕ) → validTest (caseOf d) ≡ 0 → withinTest (d .n) s ≡ 0 → unconfirmedTest (grid d) (setOf s) ≡ 0
-    → UnconfirmedSet (grid d .neighbours) (grid d .units) (setOf s)
+alone : (d : Drawing) (s : ℕ) → validTest (drawnCase d) ≡ 0 → withinTest (d .n) s ≡ 0 → unconfirmedTest (drawnGrid d) (setOf s) ≡ 0
+    → UnconfirmedSet (drawnGrid d .neighbours) (drawnGrid d .units) (setOf s)
 unfolding withinTest
-alone d s v w e = unconfirmed-passes (grid d) (valid-passes (caseOf d) v .proper) (setOf s) (λ b h. set-bus (d .n) b (omega arith) h) e
+alone d s v w e =
+    unconfirmed-passes (drawnGrid d) (valid-passes (drawnCase d) v .proper) (setOf s) (λ b h. set-bus (d .n) b (omega arith) h) e
 
 -- no units, and a unit alone
 pub nobody : UnconfirmedSet (sevenGrid [] .neighbours) (set []) (set [])
 unfolding validTest withinTest rowTest unconfirmedTest aloneTest confirmTest gap given total meet upTo neighbours setOf ones onesIn
-nobody = alone (seven []) (wordOf []) refl refl refl
+nobody = alone (seven []) (setWord []) refl refl refl
 
 pub itself : UnconfirmedSet (sevenGrid [] .neighbours) (set (3 ∷ [])) (set (3 ∷ []))
 unfolding validTest withinTest rowTest unconfirmedTest aloneTest confirmTest gap given total meet upTo neighbours setOf ones onesIn
-itself = alone (seven (3 ∷ [])) (wordOf (3 ∷ [])) refl refl refl
+itself = alone (seven (3 ∷ [])) (setWord (3 ∷ [])) refl refl refl
 
-pub unconfirmed-right : AllRight tables.unconfirmed
+pub unconfirmed-right : AllRight tables.unconfirmedTable
 unfolding neighbours setOf
 unconfirmed-right =
     itself .only 3 refl
@@ -61,22 +62,22 @@ unconfirmed-right =
     & (λ h. omega (arith, h .unit))
     & tt
 
-pub sets-right : AllRight tables.sets
+pub sets-right : AllRight tables.unconfirmedSetTable
 unfolding validTest withinTest rowTest unconfirmedTest aloneTest confirmTest gap given total meet upTo neighbours setOf ones onesIn
 sets-right =
     nobody
     & itself
     & joined34
-    & alone (seven (2 ∷ 4 ∷ [])) (wordOf []) refl refl refl
+    & alone (seven (2 ∷ 4 ∷ [])) (setWord []) refl refl refl
     & apart14
-    & alone (apart (1 ∷ 2 ∷ 3 ∷ [])) (wordOf (3 ∷ [])) refl refl refl
+    & alone (apart (1 ∷ 2 ∷ 3 ∷ [])) (setWord (3 ∷ [])) refl refl refl
     & (λ h. omega (arith, unconfirmed-unique _ _ itself h))
     & (λ h. omega (arith, unconfirmed-unique _ _ apart14 h))
     & (λ h. omega (arith, unconfirmed-unique _ _ joined34 h))
     & tt
   where
     joined34 : UnconfirmedSet (sevenGrid [] .neighbours) (set (3 ∷ 4 ∷ [])) (set [])
-    joined34 = alone (seven (3 ∷ 4 ∷ [])) (wordOf []) refl refl refl
+    joined34 = alone (seven (3 ∷ 4 ∷ [])) (setWord []) refl refl refl
 
     apart14 : UnconfirmedSet (sevenGrid [] .neighbours) (set (1 ∷ 4 ∷ [])) (set (1 ∷ 4 ∷ []))
-    apart14 = alone (seven (1 ∷ 4 ∷ [])) (wordOf (1 ∷ 4 ∷ [])) refl refl refl
+    apart14 = alone (seven (1 ∷ 4 ∷ [])) (setWord (1 ∷ 4 ∷ [])) refl refl refl

@@ -14,7 +14,7 @@ use Rattle.grid.specs.Cases.{mostBuses, neighbours}
 use Rattle.tables.proofs.Drawn.{withinTest, rowTest, validTest, valid-passes}
 use Rattle.tables.proofs.Rows.{_&_}
 use Rattle.tables.specs.Tables.{AllRight}
-use Rattle.tables.specs.Grids.{crowd, most}
+use Rattle.tables.specs.Grids.{crowd, mostLinesTable}
 
 -- a number below 2 ^ k has its ones among the lowest k digits
 pub ones-in : (k n : ℕ) → n < 2 ^ k → size n ≡ onesIn k n
@@ -47,7 +47,7 @@ rest-right : total mostBuses (rowTest 24 (neighbours (crowd 3 .nbr))) ≡ 0
 unfolding total rowTest neighbours setOf
 rest-right = refl
 
-pub most-right : AllRight most
+pub most-right : AllRight mostLinesTable
 unfolding validTest withinTest gap
 most-right =
     valid-passes (crowd 3) (omega (arith, rest-right, lines-3))

@@ -11,11 +11,11 @@ use Rattle.tables.proofs.Tests.{gap}
 use Rattle.refusals.specs.declared.Refusal.{Refusal}
 use Rattle.refusals.specs.declared.Refusal.the-variants.{InvalidCase, OverBudget}
 use Rattle.grid.specs.Cases.{neighbours, Lines}
-use Rattle.refusals.specs.Refusals.{Check, check, Failed}
+use Rattle.refusals.specs.Refusals.{Check, checkThat, Failed}
 use Rattle.refusals.proofs.Orders.{itself, failed-unique, failed-or-passed}
 use Rattle.tables.proofs.Drawn.{withinTest, rowTest, validTest, valid-passes}
 use Rattle.estimator_reply.specs.Results.{codeOf}
-use Rattle.tables.specs.Starred.{caseOf, seven, path}
+use Rattle.tables.specs.Starred.{drawnCase, seven, path}
 use Rattle.tables.proofs.Rows.{_&_}
 use Rattle.tables.specs.Tables.{AllRight}
 use Rattle.tables.specs.Drawings.{value}
@@ -31,7 +31,7 @@ pub neighbours-right : grids.NeighboursRight
 unfolding neighbours setOf
 neighbours-right = refl
 
-pub parts-right : grids.PartsRight
+pub parts-right : grids.GridPartsRight
 unfolding neighbours setOf
 parts-right = refl
 
@@ -39,16 +39,16 @@ pub sums-right : grids.SumsRight
 unfolding total upTo neighbours setOf ones onesIn
 sums-right = refl
 
-pub table-right : refusals.TableRight
+pub table-right : refusals.RefusalTableRight
 table-right = refl
 
 -- ---- which case values are valid
 
-pub valid-right : AllRight grids.valid
+pub valid-right : AllRight grids.validTable
 unfolding validTest withinTest rowTest gap total upTo neighbours setOf ones onesIn
 valid-right =
-    valid-passes (caseOf (seven (3 ∷ []))) refl
-    & valid-passes (caseOf path) refl
+    valid-passes (drawnCase (seven (3 ∷ []))) refl
+    & valid-passes (drawnCase path) refl
     & valid-passes (value 1 [] [] [] []) refl
     & valid-passes (value 64 [] [] [] (64 ∷ [])) refl
     & valid-passes (value 2 grids.pair (1 ∷ []) (1 ∷ 2 ∷ []) (2 ∷ [])) refl
@@ -64,7 +64,7 @@ valid-right =
     & (λ v. omega (arith, v .proper .sites 3 refl .most))
     & tt
 
-pub proper-right : AllRight grids.proper
+pub proper-right : AllRight grids.properTable
 unfolding neighbours setOf
 proper-right =
     valid-right .0 .proper
@@ -72,7 +72,7 @@ proper-right =
     & (λ v. omega (arith, v .units 3 refl .most))
     & tt
 
-pub lines-right : AllRight grids.lines
+pub lines-right : AllRight grids.lineTable
 unfolding neighbours setOf validTest withinTest rowTest gap total upTo ones onesIn
 lines-right =
     pair-lines 1 2 refl
@@ -87,7 +87,7 @@ lines-right =
     & (λ l. omega (arith, l 1 3 refl .to .most))
     & tt
   where
-    pair-lines : Lines 2 (grids.near grids.pair)
+    pair-lines : Lines 2 (grids.neighboursIn grids.pair)
     pair-lines = valid-passes (value 2 grids.pair [] [] []) refl .proper .lines
 
 -- ---- checks
@@ -96,7 +96,7 @@ lines-right =
 other : (qs : List Check) (r q : Refusal) → Failed qs r → (codeOf r ≡ codeOf q → ⊥) → Failed qs q → ⊥
 other qs r q f ne g = ne (ap codeOf (failed-unique qs r q f g))
 
-pub checked-right : AllRight refusals.checked
+pub checked-right : AllRight refusals.checkTable
 checked-right =
     itself _
     & (λ h. omega (arith, h .numbered))
@@ -105,15 +105,15 @@ checked-right =
     & (omega arith, (omega arith, tt))
     & (λ h. omega (arith, h .1 .0))
     & first
-    & other (check (3 ≤ 2) 5 0 ∷ check (3 ≤ 2) 10 0 ∷ []) InvalidCase (OverBudget 0) first (λ e. omega arith)
+    & other (checkThat (3 ≤ 2) 5 0 ∷ checkThat (3 ≤ 2) 10 0 ∷ []) InvalidCase (OverBudget 0) first (λ e. omega arith)
     & second
-    & other (check (1 ≤ 2) 5 0 ∷ check (3 ≤ 2) 10 0 ∷ []) (OverBudget 0) (OverBudget 1) second (λ e. omega arith)
-    & (λ h. failed-or-passed (check (1 ≤ 2) 5 0 ∷ check (2 ≤ 2) 10 0 ∷ []) (OverBudget 0) h (omega arith, (omega arith, tt)))
+    & other (checkThat (1 ≤ 2) 5 0 ∷ checkThat (3 ≤ 2) 10 0 ∷ []) (OverBudget 0) (OverBudget 1) second (λ e. omega arith)
+    & (λ h. failed-or-passed (checkThat (1 ≤ 2) 5 0 ∷ checkThat (2 ≤ 2) 10 0 ∷ []) (OverBudget 0) h (omega arith, (omega arith, tt)))
     & (λ h. h)
     & tt
   where
-    first : Failed (check (3 ≤ 2) 5 0 ∷ check (3 ≤ 2) 10 0 ∷ []) InvalidCase
+    first : Failed (checkThat (3 ≤ 2) 5 0 ∷ checkThat (3 ≤ 2) 10 0 ∷ []) InvalidCase
     first = inl ((λ h. omega arith), itself _)
 
-    second : Failed (check (1 ≤ 2) 5 0 ∷ check (3 ≤ 2) 10 0 ∷ []) (OverBudget 0)
+    second : Failed (checkThat (1 ≤ 2) 5 0 ∷ checkThat (3 ≤ 2) 10 0 ∷ []) (OverBudget 0)
     second = inr (omega arith, inl ((λ h. omega arith), itself _))

@@ -15,12 +15,12 @@ use Rattle.tables.specs.Starred.{path}
 use Rattle.tables.proofs.Rows.{_&_}
 use Rattle.tables.proofs.Computed.{known}
 use Rattle.tables.specs.Tables.{AllRight}
-use Rattle.tables.specs.Drawings.{set, grid, sevenGrid, sweep, lone}
+use Rattle.tables.specs.Drawings.{set, drawnGrid, sevenGrid, sweep, lone}
 use Rattle.tables.specs.Observation as tables
 
 -- ---- the rules
 
-pub o1-right : AllRight tables.o1
+pub o1-right : AllRight tables.o1Table
 unfolding neighbours setOf
 o1-right =
     known .at3 .least .closed .o1
@@ -34,7 +34,7 @@ o1-right =
 but-one : (m b s : ℕ) → (size (lack m s) ≡ 1) → In m b → Out s b → AllBut m b s
 but-one m b s e i o = others-in m s s b e (λ a. omega arith) i o
 
-pub all-but-right : AllRight tables.allBut
+pub all-but-right : AllRight tables.allButTable
 unfolding lack setOf ones onesIn
 all-but-right =
     but-one (set (2 ∷ 4 ∷ 7 ∷ [])) 7 (set (2 ∷ 4 ∷ [])) refl refl refl
@@ -42,7 +42,7 @@ all-but-right =
     & but-one (set (2 ∷ [])) 2 (set []) refl refl refl
     & tt
 
-pub fired-right : AllRight tables.fired
+pub fired-right : AllRight tables.firedTable
 unfolding lack setOf ones onesIn
 fired-right =
     (λ h. omega (arith, h 1 refl (but-one (set (1 ∷ 3 ∷ [])) 1 (set (3 ∷ [])) refl refl refl)))
@@ -56,7 +56,7 @@ asks-1 : O2 (sevenGrid [] .neighbours) (sevenGrid [] .zeros) (set (2 ∷ 3 ∷ 4
 unfolding neighbours lack setOf ones onesIn
 asks-1 h = omega (arith, h 2 refl refl 1 refl (but-one (set (1 ∷ 3 ∷ [])) 1 (set (2 ∷ 3 ∷ 4 ∷ 7 ∷ [])) refl refl refl))
 
-pub o2-right : AllRight tables.o2
+pub o2-right : AllRight tables.o2Table
 unfolding neighbours lack setOf ones onesIn
 o2-right =
     asks-1
@@ -74,7 +74,7 @@ o2-right =
 all-seven : Closed (sevenGrid (3 ∷ [])) (set (1 ∷ 2 ∷ 3 ∷ 4 ∷ 5 ∷ 6 ∷ 7 ∷ []))
 all-seven = all-closed (known .at3 .valid .proper) (all-law 7)
 
-pub closed-right : AllRight tables.closed
+pub closed-right : AllRight tables.closedTable
 unfolding neighbours setOf
 closed-right =
     known .at3 .least .closed
@@ -87,7 +87,7 @@ closed-right =
 other : (g : Grid) (s t : ℕ) → ObservedSet g s → (s ≡ t → ⊥) → ObservedSet g t → ⊥
 other g s t l ne h = ne (least-unique g s t l h)
 
-pub least-right : AllRight tables.least
+pub least-right : AllRight tables.observedSetTable
 unfolding setOf
 least-right =
     known .none .least
@@ -98,9 +98,9 @@ least-right =
     & known .path15 .least
     & other (sevenGrid (3 ∷ [])) _ _ (known .at3 .least) (λ e. omega arith)
     & (λ h. asks-1 (h .closed .o2))
-    & other (grid path) _ _ (known .path15 .least) (λ e. omega arith)
-    & other (grid sweep) _ _ (known .swept .least) (λ e. omega arith)
+    & other (drawnGrid path) _ _ (known .path15 .least) (λ e. omega arith)
+    & other (drawnGrid sweep) _ _ (known .swept .least) (λ e. omega arith)
     & known .swept .least
     & known .lone1 .least
-    & other (grid lone) _ _ (known .lone1 .least) (λ e. omega arith)
+    & other (drawnGrid lone) _ _ (known .lone1 .least) (λ e. omega arith)
     & tt

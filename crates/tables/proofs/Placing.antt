@@ -10,33 +10,33 @@ use Rattle.busset.specs.Sets.{add, lack, less, upTo, setOf}
 use Rattle.busset.proofs.Members.{lack-at}
 use Rattle.busset.proofs.Words.{all-law}
 use Rattle.rules.specs.Grids.{Grid, total}
-use Rattle.rules.specs.Placing.{Full, Covers, Free, placed, Plan, Before, Earlier, Fewest, SomePlan}
-use Rattle.rules.specs.Choosing.{With, NoneAdds, Greedy}
+use Rattle.rules.specs.Placing.{Full, Covers, Free, placed, Addition, Before, Earlier, FewestSites, SomeAddition}
+use Rattle.rules.specs.Choosing.{WithSite, NoneAdds, GreedyList}
 use Rattle.rules.proofs.Choices.{best-unique, greedy-unique}
 use Rattle.rules.proofs.Covering.{covers-full, full-covers}
 use Rattle.rules.proofs.Leasts.{least-unique}
 use Rattle.rules.proofs.Ordering.{before-antisym, earlier-antisym, fewest-set-unique, fewest-some}
 use Rattle.tables.proofs.Tests.{gap, isOne, given, subTest, holdsTest, acceptedTest, closedTest, leastTest}
 use Rattle.tables.proofs.Sought.{Sought, PlanIs, pick, reasonFor, reasonAt, stepFor, passFrom, extended, derive}
-use Rattle.tables.proofs.Sought.{noBetter, bestTest, noneTest, greedyTest, greedy-passes, after, none, some}
-use Rattle.tables.proofs.Sought.{judged, judge, orElse, choose, seek, firstOf, smallest, fewest-passes}
+use Rattle.tables.proofs.Sought.{noBetter, bestTest, noneTest, greedyTest, greedy-passes, above, none, some}
+use Rattle.tables.proofs.Sought.{soughtFrom, judge, orElse, choose, seek, firstOf, smallest, fewest-passes}
 use Rattle.grid.specs.declared.Case.{Case}
 use Rattle.grid.specs.Cases.{neighbours, gridOf}
 use Rattle.tables.proofs.Drawn.{withinTest, rowTest, validTest, valid-passes}
-use Rattle.tables.specs.Starred.{caseOf, seven}
+use Rattle.tables.specs.Starred.{drawnCase, seven}
 use Rattle.tables.proofs.Rows.{_&_}
 use Rattle.tables.proofs.Computed.{known}
 use Rattle.tables.specs.Tables.{AllRight}
-use Rattle.tables.specs.Drawings.{set, grid, sevenGrid, value, apart, barred, trio, hub}
+use Rattle.tables.specs.Drawings.{set, drawnGrid, sevenGrid, value, apart, barred, trio, hub}
 use Rattle.tables.specs.Placing as tables
 
 -- ---- additions
 
-pub placings-right : tables.PlacingsRight
+pub placings-right : tables.PlacedRight
 unfolding add setOf
 placings-right = refl
 
-pub free-right : AllRight tables.free
+pub free-right : AllRight tables.freeTable
 unfolding setOf
 free-right =
     record { site = refl; bare = refl }
@@ -46,7 +46,7 @@ free-right =
     & (λ h. omega (arith, h .site))
     & tt
 
-pub rising-right : AllRight tables.rising
+pub rising-right : AllRight tables.risingTable
 rising-right =
     (omega arith, omega arith, (omega arith, omega arith, (omega arith, omega arith, tt)))
     & tt
@@ -65,7 +65,7 @@ uncovered : Covers (sevenGrid []) (set (3 ∷ [])) → ⊥
 unfolding setOf
 uncovered h = omega (arith, covers-full (sevenGrid []) (known .at3 .least) h 5 (record { some = omega arith; most = omega arith }))
 
-pub covers-right : AllRight tables.covers
+pub covers-right : AllRight tables.coversTable
 unfolding setOf
 covers-right =
     full
@@ -78,10 +78,10 @@ covers-right =
 
 -- two sites that cover, within a budget of two or more
 two : (g : Grid) (x y budget : ℕ) → 0 < x → x < y → Free g x → Free g y → Covers g (placed (g .units) (x ∷ y ∷ [])) → 2 ≤ budget
-    → Plan g budget (x ∷ y ∷ [])
+    → Addition g budget (x ∷ y ∷ [])
 two g x y budget l m p q c k = record { within = k; rising = (l, p, (m, q, tt)); covers = c }
 
-pub plan-right : AllRight tables.plan
+pub plan-right : AllRight tables.additionTable
 unfolding add setOf
 plan-right =
     at14 2 (omega arith)
@@ -100,7 +100,7 @@ plan-right =
     & (λ h. omega (arith, h .rising .1 .site))
     & tt
   where
-    at14 : (budget : ℕ) → 2 ≤ budget → Plan (sevenGrid []) budget (1 ∷ 4 ∷ [])
+    at14 : (budget : ℕ) → 2 ≤ budget → Addition (sevenGrid []) budget (1 ∷ 4 ∷ [])
     at14 budget =
         two (sevenGrid []) 1 4 budget (omega arith) (omega arith) (record { site = refl; bare = refl })
         (record { site = refl; bare = refl }) (full-covers (sevenGrid []) (known .at14 .least) full)
@@ -111,7 +111,7 @@ plan-right =
 not-before : (i : ℕ) (xs ys : List ℕ) → Before xs ys → (getD xs i 0 ≡ getD ys i 0 → ⊥) → Before ys xs → ⊥
 not-before i xs ys h ne k = ne (ap (λ (zs : List ℕ). getD zs i 0) (before-antisym xs ys h k))
 
-pub before-right : AllRight tables.before
+pub before-right : AllRight tables.beforeTable
 before-right =
     inl (omega arith)
     & not-before 0 (1 ∷ 4 ∷ []) (2 ∷ 3 ∷ []) (inl (omega arith)) (λ e. omega arith)
@@ -123,7 +123,7 @@ before-right =
 not-earlier : (i : ℕ) (xs ys : List ℕ) → Earlier xs ys → (getD xs i 0 ≡ getD ys i 0 → ⊥) → Earlier ys xs → ⊥
 not-earlier i xs ys h ne k = ne (ap (λ (zs : List ℕ). getD zs i 0) (earlier-antisym xs ys h k))
 
-pub earlier-right : AllRight tables.earlier
+pub earlier-right : AllRight tables.earlierTable
 earlier-right =
     inl (omega arith)
     & not-earlier 1 (1 ∷ []) (1 ∷ 4 ∷ []) (inl (omega arith)) (λ e. omega arith)
@@ -144,48 +144,48 @@ found c budget a v e =
     (record { at = lack-at (gridOf c .sites) (gridOf c .units) }) budget a e
 
 -- what greedy adds on a valid case
-adds : (c : Case) (budget : ℕ) (xs : List ℕ) → validTest c ≡ 0 → greedyTest (gridOf c) budget xs ≡ 0 → Greedy (gridOf c) budget xs
+adds : (c : Case) (budget : ℕ) (xs : List ℕ) → validTest c ≡ 0 → greedyTest (gridOf c) budget xs ≡ 0 → GreedyList (gridOf c) budget xs
 adds c budget xs v e = greedy-passes (gridOf c) budget xs (valid-passes c v .proper) e
 
 -- those that the tables speak of
 pub record Placed : Type 0 where
-  pub fewest1 : SomePlan (sevenGrid []) 1 → ⊥
-  pub fewest2 : Fewest (sevenGrid []) 2 (set (1 ∷ 4 ∷ []))
-  pub fewest3 : Fewest (sevenGrid []) 3 (set (1 ∷ 4 ∷ []))
-  pub hub4 : Fewest (grid hub) 3 (set (4 ∷ []))
-  pub beside14 : Fewest (sevenGrid (1 ∷ 4 ∷ [])) 0 (set [])
-  pub beside4 : Fewest (sevenGrid (4 ∷ [])) 1 (set (1 ∷ []))
-  pub barred2 : Fewest (barred []) 1 (set (2 ∷ []))
-  pub greedy2 : Greedy (sevenGrid []) 2 (3 ∷ 4 ∷ [])
-  pub greedy3 : Greedy (sevenGrid []) 3 (3 ∷ 4 ∷ [])
+  pub fewest1 : SomeAddition (sevenGrid []) 1 → ⊥
+  pub fewest2 : FewestSites (sevenGrid []) 2 (set (1 ∷ 4 ∷ []))
+  pub fewest3 : FewestSites (sevenGrid []) 3 (set (1 ∷ 4 ∷ []))
+  pub hub4 : FewestSites (drawnGrid hub) 3 (set (4 ∷ []))
+  pub beside14 : FewestSites (sevenGrid (1 ∷ 4 ∷ [])) 0 (set [])
+  pub beside4 : FewestSites (sevenGrid (4 ∷ [])) 1 (set (1 ∷ []))
+  pub barred2 : FewestSites (barred []) 1 (set (2 ∷ []))
+  pub greedy2 : GreedyList (sevenGrid []) 2 (3 ∷ 4 ∷ [])
+  pub greedy3 : GreedyList (sevenGrid []) 3 (3 ∷ 4 ∷ [])
   pub covered : NoneAdds (sevenGrid (1 ∷ 4 ∷ []))
-  pub tie : Greedy (grid (apart [])) 1 (1 ∷ [])
-  pub observed2 : Greedy (grid (trio (1 ∷ []))) 1 (2 ∷ [])
-  pub greedyBarred : Greedy (barred []) 1 (2 ∷ [])
+  pub tie : GreedyList (drawnGrid (apart [])) 1 (1 ∷ [])
+  pub observed2 : GreedyList (drawnGrid (trio (1 ∷ []))) 1 (2 ∷ [])
+  pub greedyBarred : GreedyList (barred []) 1 (2 ∷ [])
 
 pub known-places : Placed
 unfolding validTest withinTest rowTest leastTest acceptedTest holdsTest closedTest subTest isOne gap given total neighbours setOf upTo less
-    lack add ones onesIn pick reasonFor reasonAt stepFor passFrom extended derive after judged judge orElse choose seek firstOf smallest
+    lack add ones onesIn pick reasonFor reasonAt stepFor passFrom extended derive above soughtFrom judge orElse choose seek firstOf smallest
     noBetter bestTest noneTest greedyTest
 known-places = record {
-  fewest1 = found (caseOf (seven [])) 1 none refl refl;
-  fewest2 = found (caseOf (seven [])) 2 (some (set (1 ∷ 4 ∷ []))) refl refl;
-  fewest3 = found (caseOf (seven [])) 3 (some (set (1 ∷ 4 ∷ []))) refl refl;
-  hub4 = found (caseOf hub) 3 (some (set (4 ∷ []))) refl refl;
-  beside14 = found (caseOf (seven (1 ∷ 4 ∷ []))) 0 (some (set [])) refl refl;
-  beside4 = found (caseOf (seven (4 ∷ []))) 1 (some (set (1 ∷ []))) refl refl;
+  fewest1 = found (drawnCase (seven [])) 1 none refl refl;
+  fewest2 = found (drawnCase (seven [])) 2 (some (set (1 ∷ 4 ∷ []))) refl refl;
+  fewest3 = found (drawnCase (seven [])) 3 (some (set (1 ∷ 4 ∷ []))) refl refl;
+  hub4 = found (drawnCase hub) 3 (some (set (4 ∷ []))) refl refl;
+  beside14 = found (drawnCase (seven (1 ∷ 4 ∷ []))) 0 (some (set [])) refl refl;
+  beside4 = found (drawnCase (seven (4 ∷ []))) 1 (some (set (1 ∷ []))) refl refl;
   barred2 = found (value 2 ((2 ∷ []) ∷ (1 ∷ []) ∷ []) [] (2 ∷ []) []) 1 (some (set (2 ∷ []))) refl refl;
-  greedy2 = adds (caseOf (seven [])) 2 (3 ∷ 4 ∷ []) refl refl;
-  greedy3 = adds (caseOf (seven [])) 3 (3 ∷ 4 ∷ []) refl refl;
-  covered = adds (caseOf (seven (1 ∷ 4 ∷ []))) 1 [] refl refl;
-  tie = adds (caseOf (apart [])) 1 (1 ∷ []) refl refl;
-  observed2 = adds (caseOf (trio (1 ∷ []))) 1 (2 ∷ []) refl refl;
+  greedy2 = adds (drawnCase (seven [])) 2 (3 ∷ 4 ∷ []) refl refl;
+  greedy3 = adds (drawnCase (seven [])) 3 (3 ∷ 4 ∷ []) refl refl;
+  covered = adds (drawnCase (seven (1 ∷ 4 ∷ []))) 1 [] refl refl;
+  tie = adds (drawnCase (apart [])) 1 (1 ∷ []) refl refl;
+  observed2 = adds (drawnCase (trio (1 ∷ []))) 1 (2 ∷ []) refl refl;
   greedyBarred = adds (value 2 ((2 ∷ []) ∷ (1 ∷ []) ∷ []) [] (2 ∷ []) []) 1 (2 ∷ []) refl refl;
 }
 
 -- ---- the fewest
 
-pub fewest-right : AllRight tables.fewest
+pub fewest-right : AllRight tables.fewestSitesTable
 unfolding setOf
 fewest-right =
     known-places .fewest2
@@ -206,11 +206,11 @@ fewest-right =
 -- ---- greedy
 
 -- a unit at 3
-with3 : With (sevenGrid []) 3 (set (1 ∷ 2 ∷ 3 ∷ 4 ∷ 7 ∷ []))
+with3 : WithSite (sevenGrid []) 3 (set (1 ∷ 2 ∷ 3 ∷ 4 ∷ 7 ∷ []))
 unfolding add setOf
 with3 = record { free = record { site = refl; bare = refl }; observed = known .at3 .least }
 
-pub with-right : AllRight tables.with
+pub with-right : AllRight tables.withSiteTable
 unfolding add setOf
 with-right =
     with3
@@ -219,7 +219,7 @@ with-right =
     & (λ h. omega (arith, h .free .site))
     & tt
 
-pub best-right : AllRight tables.best
+pub best-right : AllRight tables.bestTable
 unfolding setOf ones onesIn
 best-right =
     known-places .greedy2 .0
@@ -234,10 +234,11 @@ best-right =
     & tt
 
 -- of two lists that differ at some place, greedy adds only one
-not-greedy : (g : Grid) (budget i : ℕ) (xs ys : List ℕ) → Greedy g budget xs → (getD xs i 0 ≡ getD ys i 0 → ⊥) → Greedy g budget ys → ⊥
+not-greedy : (g : Grid) (budget i : ℕ) (xs ys : List ℕ) → GreedyList g budget xs → (getD xs i 0 ≡ getD ys i 0 → ⊥) → GreedyList g budget ys
+    → ⊥
 not-greedy g budget i xs ys h ne k = ne (ap (λ (zs : List ℕ). getD zs i 0) (greedy-unique g budget xs ys h k))
 
-pub greedy-right : AllRight tables.greedy
+pub greedy-right : AllRight tables.greedyListTable
 greedy-right =
     known-places .greedy2
     & not-greedy (sevenGrid []) 2 0 (3 ∷ 4 ∷ []) (4 ∷ 3 ∷ []) (known-places .greedy2) (λ e. omega arith)

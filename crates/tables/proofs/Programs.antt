@@ -12,19 +12,19 @@ use Rattle.busset.specs.Held as held
 use Rattle.step.specs.Records.{noStep}
 use Rattle.step.specs.declared.Step.{Step}
 use Rattle.text_field.specs.Split.{split, join, same, bytes}
-use Rattle.text_field.specs.Number.{isDigit, takes, numberFrom, numberOf, digits}
-use Rattle.case_line.specs.Fields.{markOf, one, none}
-use Rattle.case_line.specs.Record.{wordOf, lineFields, busFields, recordOf, recordText}
+use Rattle.text_field.specs.Number.{isDigit, takesDigit, numberFrom, numeralOf, digits}
+use Rattle.case_line.specs.Fields.{markOf, ifOneField, ifNoField}
+use Rattle.case_line.specs.Record.{recordWordOf, lineFields, busFields, recordOf, recordText}
 use Rattle.step_line.specs.StepLine.{letterOf, stepWordOf, reasonFields, stepFields, stepLineOf, stepText}
 use Rattle.rules.proofs.Ordering.{fewest-some}
 use Rattle.refusals.specs.declared.Refusal.{Refusal}
 use Rattle.refusals.specs.declared.Refusal.the-variants.{WrongForm, OutOfRange, ReasonFails, OverBudget, NoCover}
 use Rattle.refusals.proofs.Orders.{itself}
 use Rattle.case_line.specs.CaseText.{members, linesText}
-use Rattle.case_judge.specs.Judging.{isBus, isAfter, pastBuses, verdict}
+use Rattle.case_judge.specs.Judging.{isBus, isAfter, pastBuses, judged}
 use Rattle.case_read.specs.Reading.{readLines, readText, readCase}
 use Rattle.report_lines.specs.Printing.{refusedText}
-use Rattle.report_day.specs.Day.{Day, stepsText}
+use Rattle.report_day.specs.Day.{DayPrinted, stepsText}
 use Rattle.report_day.proofs.Days.{day-unique}
 use Rattle.step_text.specs.Steps.{stepInRange, stepLines, readSteps, stepsIn, stepsFrom}
 use Rattle.list_follow.specs.declared.Replayed.{Replayed}
@@ -38,7 +38,7 @@ use Rattle.estimator.specs.Answers.{Said}
 use Rattle.estimator_reply.specs.Results.{resultOf, leftBy, Answered}
 use Rattle.estimator_reply.specs.declared.Answer.{Answer}
 use Rattle.estimator_reply.specs.declared.Answer.the-variants.{Set, Refused, Unread}
-use Rattle.report_plan.specs.Plan.{Plan, found, none as no-plan}
+use Rattle.report_plan.specs.Plan.{PlanPrinted, found, none as no-plan}
 use Rattle.plan_input.specs.Asking.{planFields, budgetOf, planLines, readPlan}
 use Rattle.report_plan.proofs.Unique.{plan-unique}
 use Rattle.tables.proofs.Rows.{_&_, _then_, stop}
@@ -52,7 +52,7 @@ use Rattle.tables.specs.Tables.{AllRight, block}
 use Rattle.tables.specs.Drawings.{set}
 use Rattle.tables.specs.CaseTexts.{input, bareInput}
 use Rattle.tables.specs.Reports.{output}
-use Rattle.tables.specs.Steps.{derivation}
+use Rattle.tables.specs.Steps.{derivationSteps}
 use Rattle.tables.specs.Programs as tables
 
 -- ---- the two programs
@@ -61,9 +61,10 @@ use Rattle.tables.specs.Programs as tables
 other : (i : ℕ) (s t : List ℕ) → s ≡ t → (getD s i 0 ≡ getD t i 0 → ⊥) → ⊥
 other i s t e ne = ne (ap (λ (x : List ℕ). getD x i 0) e)
 
-pub days-right : AllRight tables.days
-unfolding readCase readText readLines verdict isBus isAfter pastBuses recordOf wordOf lineFields busFields markOf one none split same
-    isDigit takes numberFrom numberOf held.hold held.wordOf add setOf stepsText stepText refusedText join digits ones onesIn
+pub days-right : AllRight tables.dayPrintedTable
+unfolding readCase readText readLines judged isBus isAfter pastBuses recordOf recordWordOf lineFields busFields markOf ifOneField ifNoField
+    split same
+    isDigit takesDigit numberFrom numeralOf held.hold held.wordOf add setOf stepsText stepText refusedText join digits ones onesIn
 days-right =
     day
     & day-none
@@ -73,18 +74,18 @@ days-right =
     & (λ h. other 0 _ _ (day-unique (block input) _ _ day h) (λ e. omega arith))
     & tt
   where
-    day : Day (block input) (block output)
+    day : DayPrinted (block input) (block output)
     day = record {
       observed = set (1 ∷ 2 ∷ 3 ∷ 4 ∷ 7 ∷ []);
       least = known .at3 .least;
-      steps = derivation;
+      steps = derivationSteps;
       derived = is-derivation;
       unconfirmed = set (3 ∷ []);
       verdict = confirming.itself;
       is = refl;
     }
 
-    day-none : Day (block bareInput) (bytes "observed\t0\t7\nxv\tyes\nend\n")
+    day-none : DayPrinted (block bareInput) (bytes "observed\t0\t7\nxv\tyes\nend\n")
     day-none = record {
       observed = set [];
       least = known .none .least;
@@ -95,9 +96,10 @@ days-right =
       is = refl;
     }
 
-pub plans-right : AllRight tables.plans
-unfolding readPlan planLines budgetOf planFields readCase readText readLines verdict isBus isAfter pastBuses recordOf wordOf lineFields
-    busFields markOf one none split same isDigit takes numberFrom numberOf held.hold held.wordOf add setOf refusedText members linesText
+pub plans-right : AllRight tables.planPrintedTable
+unfolding readPlan planLines budgetOf planFields readCase readText readLines judged isBus isAfter pastBuses recordOf recordWordOf lineFields
+    busFields markOf ifOneField ifNoField split same isDigit takesDigit numberFrom numeralOf held.hold held.wordOf add setOf refusedText
+    members linesText
     recordText join digits ones onesIn
 plans-right =
     found (set (1 ∷ 4 ∷ [])) (omega arith, (fewest-some (known-places .fewest2), tt)) (known-places .fewest2) refl
@@ -108,7 +110,7 @@ plans-right =
     & refl
     & tt
   where
-    over : Plan (block ("plan 9" ∷ bareInput)) (bytes "refused\t10\t1\n")
+    over : PlanPrinted (block ("plan 9" ∷ bareInput)) (bytes "refused\t10\t1\n")
     over = no-plan (OverBudget 1) (stop (λ h. omega arith) (itself _)) refl
 
 -- ---- step texts
@@ -118,9 +120,10 @@ not-unread : (a : Replayed) (q : Refusal) → replayed.Unread q ≡ textAnswer a
 not-unread (listed.Reached s f) q e = let z : _≡_ {A = ℕ} 0 1 = cc in omega arith
 not-unread (listed.Refused r) q e = let z : _≡_ {A = ℕ} 0 1 = cc in omega arith
 
-pub replays-right : AllRight tables.replays
-unfolding readSteps stepLines stepInRange stepsFrom stepsIn stepLineOf stepWordOf letterOf reasonFields stepFields one none split same isBus
-    isDigit takes numberFrom numberOf
+pub replays-right : AllRight tables.textReplayTable
+unfolding readSteps stepLines stepInRange stepsFrom stepsIn stepLineOf stepWordOf letterOf reasonFields stepFields ifOneField ifNoField
+    split same isBus
+    isDigit takesDigit numberFrom numeralOf
 replays-right =
     (listed.Reached _ true, replies.replays-right .0, refl)
     & refl
@@ -131,9 +134,10 @@ replays-right =
     & (listed.Refused _, stop invalid (itself _), refl)
     & tt
 
-pub readings-right : AllRight tables.readings
-unfolding readSteps stepLines stepInRange stepsFrom stepsIn stepLineOf stepWordOf letterOf reasonFields stepFields one none split same isBus
-    isDigit takes numberFrom numberOf
+pub readings-right : AllRight tables.stepsReadTable
+unfolding readSteps stepLines stepInRange stepsFrom stepsIn stepLineOf stepWordOf letterOf reasonFields stepFields ifOneField ifNoField
+    split same isBus
+    isDigit takesDigit numberFrom numeralOf
 readings-right =
     (refl, refl)
     & (refl, refl)
@@ -144,7 +148,7 @@ readings-right =
 
 -- ---- bytes lent
 
-pub prints-right : AllRight tables.prints
+pub prints-right : AllRight tables.printTable
 unfolding refusedText join digits
 prints-right =
     record { text = bytes "refused\t2\t1\n"; asked = refl; room = omega arith; count = refl; written = refl }
@@ -165,9 +169,10 @@ gives lent a p = record { answer = a; is = p; replied = record { result = refl; 
 says : {R : Type 0} {promise : R → Type 0} {of : R → Answer} (reply : R) → promise reply → Said promise of (of reply)
 says reply p = record { reply = reply; meets = p; is = refl }
 
-pub calls-right : AllRight tables.calls
-unfolding readCase readText readLines verdict isBus isAfter pastBuses recordOf wordOf lineFields busFields markOf one none split same
-    isDigit takes numberFrom numberOf held.hold held.wordOf add setOf readSteps stepLines stepInRange stepsFrom stepsIn stepLineOf
+pub calls-right : AllRight tables.estimatorTable
+unfolding readCase readText readLines judged isBus isAfter pastBuses recordOf recordWordOf lineFields busFields markOf ifOneField ifNoField
+    split same
+    isDigit takesDigit numberFrom numeralOf held.hold held.wordOf add setOf readSteps stepLines stepInRange stepsFrom stepsIn stepLineOf
     stepWordOf letterOf reasonFields stepFields byteOf
 calls-right =
     gives tables.lent (Set 79) (says (observed.Set 79) (replies.sets-right .0))

@@ -9,13 +9,13 @@ use Rattle.busset.specs.Held as held
 use Rattle.step.specs.Records.{noStep}
 use Rattle.step.specs.declared.Step.{Step}
 use Rattle.text_field.specs.Split.{split, join, same, lineFeed}
-use Rattle.text_field.specs.Number.{isDigit, takes, numberFrom, numberOf, digits}
-use Rattle.case_line.specs.Fields.{markOf, one, none}
-use Rattle.case_line.specs.Record.{wordOf, lineFields, busFields, recordOf, recordText}
+use Rattle.text_field.specs.Number.{isDigit, takesDigit, numberFrom, numeralOf, digits}
+use Rattle.case_line.specs.Fields.{markOf, ifOneField, ifNoField}
+use Rattle.case_line.specs.Record.{recordWordOf, lineFields, busFields, recordOf, recordText}
 use Rattle.step_line.specs.StepLine.{letterOf, stepWordOf, reasonFields, stepFields, stepLineOf, stepText}
 use Rattle.grid.specs.Cases.{neighbours}
 use Rattle.case_inverse.proofs.Grammars.{reads-read, not-got, read-reads}
-use Rattle.case_judge.specs.Judging.{isBus, isAfter, pastBuses, verdict}
+use Rattle.case_judge.specs.Judging.{isBus, isAfter, pastBuses, judged}
 use Rattle.case_read.specs.Reading.{start, readLines, readText, readCase}
 use Rattle.case_line.specs.CaseText.{busRecords, members, lineRecords, linesText}
 use Rattle.step_text.specs.Steps.{stepInRange, stepLines, readSteps, stepsIn, stepsFrom}
@@ -32,17 +32,19 @@ use Rattle.tables.specs.Reports as reports
 -- ---- case texts
 
 pub cases-right : case.CasesRight
-unfolding readCase readText readLines verdict isBus isAfter pastBuses recordOf wordOf lineFields busFields markOf one none split same
-    isDigit takes numberFrom numberOf held.hold held.wordOf add setOf
+unfolding readCase readText readLines judged isBus isAfter pastBuses recordOf recordWordOf lineFields busFields markOf ifOneField ifNoField
+    split same
+    isDigit takesDigit numberFrom numeralOf held.hold held.wordOf add setOf
 cases-right = refl
 
-pub texts-right : case.TextsRight
+pub texts-right : case.CaseTextsRight
 unfolding busRecords members lineRecords linesText recordText join digits neighbours setOf
 texts-right = refl
 
-pub allowed-right : AllRight case.allowed
-unfolding readLines verdict isBus isAfter pastBuses recordOf wordOf lineFields busFields markOf one none split join same isDigit takes
-    numberFrom numberOf held.hold held.wordOf add setOf
+pub allowed-right : AllRight case.grammarTable
+unfolding readLines judged isBus isAfter pastBuses recordOf recordWordOf lineFields busFields markOf ifOneField ifNoField split join same
+    isDigit takesDigit
+    numberFrom numeralOf held.hold held.wordOf add setOf
 allowed-right =
     read-reads (split lineFeed (block case.oneInput) .rest) start 1 (split lineFeed (block case.oneInput) .first) case.oneCase refl
     & (λ h. not-got _ (reads-read start _ _ 1 (omega arith) h))
@@ -53,50 +55,56 @@ pub wired-right : case.WiredRight
 unfolding held.hold held.wordOf add setOf
 wired-right = refl
 
-pub whole-right : case.WholeRight
-unfolding readCase readText readLines verdict isBus isAfter pastBuses recordOf wordOf lineFields busFields markOf one none split same
-    isDigit takes numberFrom numberOf
+pub whole-right : case.WholeTextsRight
+unfolding readCase readText readLines judged isBus isAfter pastBuses recordOf recordWordOf lineFields busFields markOf ifOneField ifNoField
+    split same
+    isDigit takesDigit numberFrom numeralOf
 whole-right = refl
 
-pub later-right : case.LaterRight
-unfolding readCase readText readLines verdict isBus isAfter pastBuses recordOf wordOf lineFields busFields markOf one none split same
-    isDigit takes numberFrom numberOf
+pub later-right : case.LaterLinesRight
+unfolding readCase readText readLines judged isBus isAfter pastBuses recordOf recordWordOf lineFields busFields markOf ifOneField ifNoField
+    split same
+    isDigit takesDigit numberFrom numeralOf
 later-right = refl
 
-pub case-limits-right : case.LimitsRight
-unfolding readCase readText readLines verdict recordOf wordOf split same
+pub case-limits-right : case.CaseLimitsRight
+unfolding readCase readText readLines judged recordOf recordWordOf split same
 case-limits-right = refl
 
-pub verdicts-right : case.VerdictsRight
-unfolding verdict isBus isAfter pastBuses
+pub verdicts-right : case.JudgementsRight
+unfolding judged isBus isAfter pastBuses
 verdicts-right = refl
 
 -- ---- step texts
 
-pub ranges-right : steps.RangesRight
+pub ranges-right : steps.StepRangesRight
 unfolding stepInRange isBus
 ranges-right = refl
 
-pub readings-right : steps.ReadingsRight
-unfolding readSteps stepLines stepInRange isBus stepLineOf stepWordOf letterOf reasonFields stepFields one none split same isDigit takes
-    numberFrom numberOf
+pub readings-right : steps.ReadStepsRight
+unfolding readSteps stepLines stepInRange isBus stepLineOf stepWordOf letterOf reasonFields stepFields ifOneField ifNoField split same
+    isDigit takesDigit
+    numberFrom numeralOf
 readings-right = refl
 
 pub beyond-right : steps.BeyondRight
-unfolding stepLines stepInRange isBus stepLineOf stepWordOf letterOf reasonFields stepFields one none split same isDigit takes numberFrom
-    numberOf
+unfolding stepLines stepInRange isBus stepLineOf stepWordOf letterOf reasonFields stepFields ifOneField ifNoField split same isDigit
+    takesDigit numberFrom
+    numeralOf
 beyond-right = refl
 
-pub step-limits-right : steps.LimitsRight
+pub step-limits-right : steps.StepLimitsRight
 unfolding readSteps stepLines stepLineOf stepWordOf split same
 step-limits-right = refl
 
-pub lists-right : steps.ListsRight
-unfolding stepsFrom stepsIn stepLineOf stepWordOf letterOf reasonFields stepFields one none split same isDigit takes numberFrom numberOf
+pub lists-right : steps.StepsOfRight
+unfolding stepsFrom stepsIn stepLineOf stepWordOf letterOf reasonFields stepFields ifOneField ifNoField split same isDigit takesDigit
+    numberFrom numeralOf
 lists-right = refl
 
-pub found-right : AllRight steps.found
-unfolding stepsFrom stepsIn stepLineOf stepWordOf letterOf reasonFields stepFields one none split same isDigit takes numberFrom numberOf
+pub found-right : AllRight steps.stepAtTable
+unfolding stepsFrom stepsIn stepLineOf stepWordOf letterOf reasonFields stepFields ifOneField ifNoField split same isDigit takesDigit
+    numberFrom numeralOf
 found-right = (
   record { bus = record { some = omega arith; most = omega arith }; reason = tt },
   (
@@ -116,47 +124,49 @@ found-right = (
 pub rooms-right : steps.RoomsRight
 rooms-right = refl
 
-pub lefts-right : steps.LeftsRight
+pub lefts-right : steps.LeavesRight
 lefts-right = refl
 
 -- ---- what is printed
 
-pub refusals-right : reports.RefusalsRight
+pub refusals-right : reports.RefusedTextsRight
 unfolding refusedText join digits
 refusals-right = refl
 
-pub lines-right : reports.LinesRight
+pub lines-right : reports.LineTextsRight
 unfolding lineText recordText join digits
 lines-right = refl
 
-pub days-right : reports.DaysRight
+pub days-right : reports.DayTextsRight
 unfolding stepsText stepText join digits
 days-right = refl
 
-pub xv-right : reports.VerdictsRight
+pub xv-right : reports.VerdictFieldsRight
 unfolding digits
 xv-right = refl
 
 -- ---- the planning program
 
 pub budgets-right : reports.BudgetsRight
-unfolding budgetOf planFields split same isDigit takes numberFrom numberOf
+unfolding budgetOf planFields split same isDigit takesDigit numberFrom numeralOf
 budgets-right = refl
 
 pub inputs-right : reports.InputsRight
-unfolding readPlan planLines budgetOf planFields readLines verdict isBus isAfter pastBuses recordOf wordOf lineFields busFields markOf one
-    none split same isDigit takes numberFrom numberOf
+unfolding readPlan planLines budgetOf planFields readLines judged isBus isAfter pastBuses recordOf recordWordOf lineFields busFields markOf
+    ifOneField
+    ifNoField split same isDigit takesDigit numberFrom numeralOf
 inputs-right = refl
 
 pub asked-right : reports.AskedRight
-unfolding readPlan planLines budgetOf planFields readLines verdict isBus isAfter pastBuses recordOf wordOf lineFields busFields markOf one
-    none split same isDigit takes numberFrom numberOf held.hold held.wordOf add setOf
+unfolding readPlan planLines budgetOf planFields readLines judged isBus isAfter pastBuses recordOf recordWordOf lineFields busFields markOf
+    ifOneField
+    ifNoField split same isDigit takesDigit numberFrom numeralOf held.hold held.wordOf add setOf
 asked-right = refl
 
-pub plan-limits-right : reports.LimitsRight
-unfolding readPlan planLines budgetOf planFields readLines verdict recordOf wordOf split same
+pub plan-limits-right : reports.PlanLimitsRight
+unfolding readPlan planLines budgetOf planFields readLines judged recordOf recordWordOf split same
 plan-limits-right = refl
 
-pub plans-right : reports.PlansRight
+pub plans-right : reports.PlanTextsRight
 unfolding members linesText recordText join digits setOf ones onesIn
 plans-right = refl

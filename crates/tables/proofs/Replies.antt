@@ -16,7 +16,7 @@ use Rattle.case_line.specs.Record.{recordText}
 use Rattle.rules.specs.Grids.{total}
 use Rattle.rules.specs.Steps.{ByUnit, Names, Finished}
 use Rattle.rules.specs.Figures.{figure}
-use Rattle.rules.specs.Choosing.{Greedy}
+use Rattle.rules.specs.Choosing.{GreedyList}
 use Rattle.rules.proofs.Choices.{greedy-unique}
 use Rattle.rules.proofs.Derivations.{derived-accepted}
 use Rattle.rules.proofs.Leasts.{least-unique}
@@ -28,9 +28,9 @@ use Rattle.grid.specs.Cases.{neighbours, Valid}
 use Rattle.refusals.specs.Refusals.{Failed, numberOf}
 use Rattle.refusals.proofs.Orders.{itself, failed-or-passed, failed-unique}
 use Rattle.tables.proofs.Drawn.{withinTest, rowTest, validTest, valid-passes}
-use Rattle.case_line.specs.Fields.{none}
+use Rattle.case_line.specs.Fields.{ifNoField}
 use Rattle.step_line.specs.StepLine.{stepWordOf, stepLineOf}
-use Rattle.step_text.specs.Taking.{countOf}
+use Rattle.step_text.specs.Taking.{countRead}
 use Rattle.step_text.specs.Steps.{stepLines, readSteps}
 use Rattle.case_read.specs.Reading.{readLines, readText, readCase}
 use Rattle.case_line.specs.CaseText.{busRecords, members, lineRecords, linesText}
@@ -46,11 +46,11 @@ use Rattle.tables.proofs.Confirming as confirming
 use Rattle.tables.proofs.Placing.{known-places}
 use Rattle.tables.specs.Tables.{AllRight}
 use Rattle.tables.specs.Drawings.{set, own, near, zeroAt, sevenGrid, value}
-use Rattle.tables.specs.Steps.{derivation}
+use Rattle.tables.specs.Steps.{derivationSteps}
 use Rattle.tables.specs.Replies as tables
 
 -- the bad case value has no bus
-pub invalid : Valid tables.bad → ⊥
+pub invalid : Valid tables.badCase → ⊥
 invalid v = omega (arith, v .buses .some)
 
 -- b is a bus 1 to n, and a step names such
@@ -69,7 +69,7 @@ named23 = record { bus = bus 7 2 refl; reason = bus 7 3 refl }
 
 -- ---- one question
 
-pub figures-right : AllRight tables.figures
+pub figures-right : AllRight tables.figureReplyTable
 unfolding figure meet less lack upTo neighbours setOf ones onesIn
 figures-right =
     ((known .at2 .valid, ((bus 7 2 refl, bus 7 1 refl), (refl, tt))), refl)
@@ -83,7 +83,7 @@ figures-right =
     & (λ h. omega (arith, h .0 .1 .1 .0))
     & tt
 
-pub tests-right : AllRight tables.tests
+pub tests-right : AllRight tables.stepReplyTable
 unfolding reasonTest allowedTest gap upTo neighbours lack setOf ones onesIn
 tests-right =
     (v, (named23, (refl, (record { unit = refl; joined = refl }, tt))))
@@ -95,20 +95,20 @@ tests-right =
     & v then stop (λ h. omega (arith, h .bus .most)) (itself _)
     & tt
   where
-    v : Valid (tables.case (3 ∷ []))
+    v : Valid (tables.sevenCase (3 ∷ []))
     v = known .at3 .valid
 
 -- ---- lists
 
 -- the list 1 by Z 2 is refused at step 1
-refused-9 : Failed (replayChecks (tables.case (3 ∷ [])) (zeroAt 1 2 ∷ own 8 ∷ [])) (ReasonFails 1)
+refused-9 : Failed (replayChecks (tables.sevenCase (3 ∷ [])) (zeroAt 1 2 ∷ own 8 ∷ [])) (ReasonFails 1)
 unfolding setOf
 refused-9 = known .at3 .valid then omega arith then named12 then refl then stop (λ h. omega (arith, h .observed)) (itself _)
 
-pub replays-right : AllRight tables.replays
+pub replays-right : AllRight tables.replayReplyTable
 unfolding reasonTest allowedTest gap neighbours lack add setOf ones onesIn
 replays-right = (
-  (v, (omega arith, accepted-checks (tables.case (3 ∷ [])) (v .proper) 1 empty derivation (derived-accepted is-derivation .0))),
+  (v, (omega arith, accepted-checks (tables.sevenCase (3 ∷ [])) (v .proper) 1 empty derivationSteps (derived-accepted is-derivation .0))),
   refl,
   decides-yes (derived-accepted is-derivation .1),
 )
@@ -128,17 +128,18 @@ replays-right = (
     & refused-9
     & (λ h. omega (
       arith,
-      ap numberOf (failed-unique (replayChecks (tables.case (3 ∷ [])) (zeroAt 1 2 ∷ own 8 ∷ [])) (ReasonFails 1) (NoSuchBus 2) refused-9 h),
+      ap numberOf
+          (failed-unique (replayChecks (tables.sevenCase (3 ∷ [])) (zeroAt 1 2 ∷ own 8 ∷ [])) (ReasonFails 1) (NoSuchBus 2) refused-9 h),
     ))
     & tt
   where
-    v : Valid (tables.case (3 ∷ []))
+    v : Valid (tables.sevenCase (3 ∷ []))
     v = known .at3 .valid
 
     none-allowed : Finished (sevenGrid []) (set [])
     none-allowed = closed-finished (sevenGrid []) (set []) (known .none .least .closed)
 
-pub weaves-right : AllRight tables.weaves
+pub weaves-right : AllRight tables.weaveReplyTable
 unfolding neighbours add setOf
 weaves-right = (
   (
@@ -173,7 +174,7 @@ weaves-right = (
     )
     & tt
   where
-    v : Valid (tables.case (3 ∷ []))
+    v : Valid (tables.sevenCase (3 ∷ []))
     v = known .at3 .valid
 
     by3 : ByUnit (sevenGrid [] .neighbours) (set (3 ∷ [])) 2 3
@@ -181,25 +182,26 @@ weaves-right = (
 
 -- ---- whole cases
 
-pub sets-right : AllRight tables.sets
+pub sets-right : AllRight tables.caseReplyTable
 unfolding setOf
 sets-right =
     ((known .at3 .valid, tt), known .at3 .least)
     & (λ h. omega (arith, least-unique (sevenGrid (3 ∷ [])) _ _ (known .at3 .least) (h .1)))
     & stop invalid (itself _)
-    & (λ h. failed-or-passed (observedChecks (tables.case (3 ∷ []))) InvalidCase h (known .at3 .valid, tt))
-    & ((known .at3 .valid, tt), record { steps = derivation; derived = is-derivation; is = refl })
+    & (λ h. failed-or-passed (observedChecks (tables.sevenCase (3 ∷ []))) InvalidCase h (known .at3 .valid, tt))
+    & ((known .at3 .valid, tt), record { steps = derivationSteps; derived = is-derivation; is = refl })
     & (stop invalid (itself _), refl)
     & ((known .at3 .valid, tt), confirming.itself)
     & stop invalid (itself _)
     & tt
 
 -- what greedy adds has room
-roomy : (budget k : ℕ) (xs : List ℕ) → Greedy (sevenGrid []) budget xs → length xs ≤ k → (ys : List ℕ) → Greedy (sevenGrid []) budget ys
+roomy : (budget k : ℕ) (xs : List ℕ) → GreedyList (sevenGrid []) budget xs → length xs ≤ k → (ys : List ℕ)
+    → GreedyList (sevenGrid []) budget ys
     → length ys ≤ k
 roomy budget k xs g l ys h = omega (arith, ap length (greedy-unique (sevenGrid []) budget xs ys g h))
 
-pub greedies-right : AllRight tables.greedies
+pub greedies-right : AllRight tables.greedyReplyTable
 greedies-right = (
   (v, (omega arith, (roomy 2 3 (3 ∷ 4 ∷ []) (known-places .greedy2) (omega arith), tt))),
   record { list = 3 ∷ 4 ∷ []; greedy = known-places .greedy2; count = refl; written = refl },
@@ -211,31 +213,32 @@ greedies-right = (
     & ((v, (omega arith, (roomy 0 0 [] tt (omega arith), tt))), record { list = []; greedy = tt; count = refl; written = refl })
     & tt
   where
-    v : Valid (tables.case [])
+    v : Valid (tables.sevenCase [])
     v = known .none .valid
 
-pub fewests-right : AllRight tables.fewests
+pub fewests-right : AllRight tables.fewestReplyTable
 fewests-right =
     ((v, (omega arith, (fewest-some (known-places .fewest2), tt))), known-places .fewest2)
     & stop invalid (itself _)
     & over
     & v then omega arith then stop (known-places .fewest1) (itself _)
-    & (λ h. omega (arith, ap numberOf (failed-unique (fewestChecks (tables.case []) 9) (OverBudget 0) NoCover over h)))
+    & (λ h. omega (arith, ap numberOf (failed-unique (fewestChecks (tables.sevenCase []) 9) (OverBudget 0) NoCover over h)))
     & tt
   where
-    v : Valid (tables.case [])
+    v : Valid (tables.sevenCase [])
     v = known .none .valid
 
-    over : Failed (fewestChecks (tables.case []) 9) (OverBudget 0)
+    over : Failed (fewestChecks (tables.sevenCase []) 9) (OverBudget 0)
     over = v then stop (λ h. omega arith) (itself _)
 
-pub texts-right : AllRight tables.texts
-unfolding readCase readText readLines readSteps stepLines stepLineOf stepWordOf none split same validTest withinTest rowTest gap total upTo
+pub texts-right : AllRight tables.textReplyTable
+unfolding readCase readText readLines readSteps stepLines stepLineOf stepWordOf ifNoField split same validTest withinTest rowTest gap total
+    upTo
     busRecords members lineRecords linesText recordText join digits neighbours setOf ones onesIn
 texts-right =
     refl
     & refl
-    & (λ h. omega (arith, ap countOf h))
+    & (λ h. omega (arith, ap countRead h))
     & (stop invalid (itself _), refl)
     & (v then stop (λ h. omega arith) (itself _), refl)
     & (λ h. omega (arith, ap (λ (xs : List ℕ). getD xs 0 0) (h .1)))

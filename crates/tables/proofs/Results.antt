@@ -1,7 +1,7 @@
 -- The tables of what a C program gets: each is computed.
 use mathlib.Core.Path.{refl}
 use Rattle.busset.specs.Bytes.{byteOf}
-use Rattle.tables.specs.Results.{CodesRight, ResultsRight, BytesRight, LeftsRight}
+use Rattle.tables.specs.Results.{CodesRight, ResultsRight, SetBytesRight, LeftByRight}
 
 pub codes-right : CodesRight
 codes-right = refl
@@ -9,10 +9,10 @@ codes-right = refl
 pub results-right : ResultsRight
 results-right = refl
 
-pub bytes-right : BytesRight
+pub bytes-right : SetBytesRight
 unfolding byteOf
 bytes-right = refl
 
-pub lefts-right : LeftsRight
+pub lefts-right : LeftByRight
 unfolding byteOf
 lefts-right = refl

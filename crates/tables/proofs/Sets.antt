@@ -62,7 +62,7 @@ sizes-right = refl
 
 -- ---- what is said of sets
 
-pub said-right : AllRight sets.said
+pub said-right : AllRight sets.setTable
 unfolding setOf add less lack ones onesIn
 said-right =
     record { some = omega arith; most = omega arith }

@@ -16,14 +16,14 @@ use Rattle.rules.specs.Grids.{Grid, Proper, total}
 use Rattle.rules.specs.Observation.{ObservedSet}
 use Rattle.rules.specs.Steps.{reached}
 use Rattle.rules.specs.Confirming.{Confirm, joined, share, Unconfirmed, UnconfirmedSet}
-use Rattle.rules.specs.Placing.{withUnits, Full, Free, SomePlan, Fewest}
+use Rattle.rules.specs.Placing.{withUnits, Full, Free, SomeAddition, FewestSites}
 use Rattle.rules.specs.Choosing as choosing
-use Rattle.rules.specs.Choosing.{Greedy}
+use Rattle.rules.specs.Choosing.{GreedyList}
 use Rattle.tables.proofs.Tests.{total-none, total-pass, gap, gap-none, given, given-passes, holdsTest, leastTest, least-passes}
 use Rattle.rules.proofs.Leasts.{least-unique}
 use Rattle.rules.proofs.Covering.{covers-full, full-covers}
 use Rattle.place_light.specs.Ways.{NoWay, FirstWay}
-use Rattle.place_light.proofs.Searching.{way-none, no-way-none, no-way-left, first-take, passed-lowest, passed-no, passed-first, NoFewer, no-fewer-none, no-fewer-more, first-fewest, no-plan}
+use Rattle.place_light.proofs.Searching.{way-none, no-way-none, no-way-left, first-take, passed-lowest, passed-no, passed-first, NoFewer, no-fewer-none, no-fewer-more, first-fewest, no-addition}
 
 -- ---- what helps to compute
 
@@ -194,7 +194,7 @@ greedyTest g (suc k) [] = noneTest g
 greedyTest g (suc k) (x ∷ xs) = bestTest g x + greedyTest (withUnits g (add (g .units) x)) k xs
 
 -- a site that is no better than most makes at most so many buses observed
-no-better : (g : Grid) (most y t : ℕ) → Proper g → noBetter g most y ≡ 0 → choosing.With g y t → size t ≤ most
+no-better : (g : Grid) (most y t : ℕ) → Proper g → noBetter g most y ≡ 0 → choosing.WithSite g y t → size t ≤ most
 unfolding noBetter
 no-better g most y t v e w =
     let f = given-some (bit (g .sites) y - bit (g .units) y)
@@ -203,7 +203,7 @@ no-better g most y t v e w =
     let l = seen-least (withUnits g (add (g .units) y)) (proper-with y v (w .free .site)) (omega arith) in
     omega (arith, ap size (least-unique (withUnits g (add (g .units) y)) t (seen (withUnits g (add (g .units) y))) (w .observed) l))
 
-pub greedy-passes : (g : Grid) (k : ℕ) (xs : List ℕ) → Proper g → greedyTest g k xs ≡ 0 → Greedy g k xs
+pub greedy-passes : (g : Grid) (k : ℕ) (xs : List ℕ) → Proper g → greedyTest g k xs ≡ 0 → GreedyList g k xs
 unfolding greedyTest bestTest noneTest
 greedy-passes g zero [] v e = tt
 greedy-passes g zero (x ∷ xs) v e = absurd (omega arith)
@@ -237,46 +237,46 @@ greedy-passes g (suc k) (x ∷ xs) v e =
 -- ---- the fewest
 
 -- the buses of s above x
-unfoldable pub after : ℕ → ℕ → ℕ
-after x s = lack s (upTo x s)
+unfoldable pub above : ℕ → ℕ → ℕ
+above x s = lack s (upTo x s)
 
-after-in : (x s b : ℕ) → x < b → bit (after x s) b ≡ bit s b
-unfolding after
+after-in : (x s b : ℕ) → x < b → bit (above x s) b ≡ bit s b
+unfolding above
 after-in x s b l = omega (arith, lack-at s (upTo x s) b, upTo-out x s b l)
 
-after-out : (x s b : ℕ) → b ≤ x → Out (after x s) b
-unfolding after
+after-out : (x s b : ℕ) → b ≤ x → Out (above x s) b
+unfolding above
 after-out x s b l = omega (arith, lack-at s (upTo x s) b, upTo-in x s b l)
 
-after-skip : (x s : ℕ) → Out s (suc x) → after x s ≡ after (suc x) s
-after-skip x s o = ext (after x s) (after (suc x) s) (λ b. ⊎-elim
+after-skip : (x s : ℕ) → Out s (suc x) → above x s ≡ above (suc x) s
+after-skip x s o = ext (above x s) (above (suc x) s) (λ b. ⊎-elim
     (λ (l : b < suc x). after-out x s b (omega arith) ∙ sym (after-out (suc x) s b (omega arith)))
     (λ (l : suc x ≤ b). ⊎-elim
     (λ (m : suc x < b). after-in x s b (omega arith) ∙ sym (after-in (suc x) s b m))
     (λ (m : b ≤ suc x). let e : b ≡ suc x = omega arith in
-    subst⁻¹ (λ (c : ℕ). bit (after x s) c ≡ bit (after (suc x) s) c) e
+    subst⁻¹ (λ (c : ℕ). bit (above x s) c ≡ bit (above (suc x) s) c) e
     (after-in x s (suc x) (omega arith) ∙ o ∙ sym (after-out (suc x) s (suc x) (omega arith))))
     (below-or (suc x) b))
     (below-or b (suc x)))
 
 module _ (x s : ℕ) (h : In s (suc x)) where
-  after-lowest : Lowest (suc x) (after x s) (suc x)
+  after-lowest : Lowest (suc x) (above x s) (suc x)
   after-lowest = record {
     has = after-in x s (suc x) (omega arith) ∙ h;
     below = λ a l. after-out x s a (omega arith);
     bus = record { some = omega arith; most = omega arith };
   }
 
-  after-without : Without (after x s) (suc x) (after (suc x) s)
+  after-without : Without (above x s) (suc x) (above (suc x) s)
   after-without = record {
     here = after-out (suc x) s (suc x) (omega arith);
     there = there;
     fewer =
-        λ i. one-more (after (suc x) s) (after x s) (suc x) (after-lowest .has) (after-out (suc x) s (suc x) (omega arith))
+        λ i. one-more (above (suc x) s) (above x s) (suc x) (after-lowest .has) (after-out (suc x) s (suc x) (omega arith))
         (λ a ne. sym (there a ne));
   }
     where
-      there : (a : ℕ) → (a ≡ suc x → ⊥) → bit (after (suc x) s) a ≡ bit (after x s) a
+      there : (a : ℕ) → (a ≡ suc x → ⊥) → bit (above (suc x) s) a ≡ bit (above x s) a
       there a ne = ⊎-elim
           (λ (l : a < suc x). after-out (suc x) s a (omega arith) ∙ sym (after-out x s a (omega arith)))
           (λ (l : suc x ≤ a). ⊎-elim (λ (m : suc x < a). after-in (suc x) s a m ∙ sym (after-in x s a (omega arith)))
@@ -294,13 +294,13 @@ SoughtIs g sites k (some m) = FirstWay g sites k m
 SoughtIs g sites k unsure = Unit {0}
 
 -- the answer of the units as they are, from the buses that are lacking and from whether the set is sure
-unfoldable pub judged : ℕ → ℕ → Sought
-judged zero zero = some empty
-judged (suc l) zero = none
-judged l (suc b) = unsure
+unfoldable pub soughtFrom : ℕ → ℕ → Sought
+soughtFrom zero zero = some empty
+soughtFrom (suc l) zero = none
+soughtFrom l (suc b) = unsure
 
 unfoldable pub judge : Grid → Sought
-judge g = judged (total (g .n) (λ b. 1 - bit (seen g) b)) (seenTest g)
+judge g = soughtFrom (total (g .n) (λ b. 1 - bit (seen g) b)) (seenTest g)
 
 -- the answer with x, or else the one without it
 unfoldable pub orElse : ℕ → Sought → Sought → Sought
@@ -330,10 +330,10 @@ lacks-none (suc n) s full =
     )
 
 judge-right : (g : Grid) (sites : ℕ) → Proper g → SoughtIs g sites 0 (judge g)
-unfolding judge judged
+unfolding judge soughtFrom
 judge-right g sites v = go (total (g .n) (λ b. 1 - bit (seen g) b)) (seenTest g) refl refl
   where
-    go : (l b : ℕ) → total (g .n) (λ b. 1 - bit (seen g) b) ≡ l → seenTest g ≡ b → SoughtIs g sites 0 (judged l b)
+    go : (l b : ℕ) → total (g .n) (λ b. 1 - bit (seen g) b) ≡ l → seenTest g ≡ b → SoughtIs g sites 0 (soughtFrom l b)
     go zero zero e d =
         way-none refl refl (full-covers g (seen-least g v d) (λ b h. omega (arith, total-none (g .n) (λ b. 1 - bit (seen g) b) e b h)))
     go (suc l) zero e d =
@@ -346,31 +346,31 @@ less-one k = omega arith
 
 -- one site: the answers with it and without it
 seek-turn : (g : Grid) (free x k d : ℕ) (a b : Sought) → bit free (suc x) ≡ d
-    → (In free (suc x) → SoughtIs (withUnits g (add (g .units) (suc x))) (after (suc x) free) k a)
-    → SoughtIs g (after (suc x) free) (suc k) b → SoughtIs g (after x free) (suc k) (choose (suc x) d a b)
+    → (In free (suc x) → SoughtIs (withUnits g (add (g .units) (suc x))) (above (suc x) free) k a)
+    → SoughtIs g (above (suc x) free) (suc k) b → SoughtIs g (above x free) (suc k) (choose (suc x) d a b)
 unfolding choose orElse
 seek-turn g free x k zero a b e ha hb = subst⁻¹ (λ (s : ℕ). SoughtIs g s (suc k) b) (after-skip x free e) hb
 seek-turn g free x k (suc d) none none e ha hb =
     passed-no (passed-lowest (after-lowest x free (omega arith)) (after-without x free (omega arith)) (omega arith)
-    (subst⁻¹ (NoWay (withUnits g (add (g .units) (suc x))) (after (suc x) free)) (less-one k) (ha (omega arith)))) hb
+    (subst⁻¹ (NoWay (withUnits g (add (g .units) (suc x))) (above (suc x) free)) (less-one k) (ha (omega arith)))) hb
 seek-turn g free x k (suc d) none (some m) e ha hb =
     passed-first (passed-lowest (after-lowest x free (omega arith)) (after-without x free (omega arith)) (omega arith)
-    (subst⁻¹ (NoWay (withUnits g (add (g .units) (suc x))) (after (suc x) free)) (less-one k) (ha (omega arith)))) hb
+    (subst⁻¹ (NoWay (withUnits g (add (g .units) (suc x))) (above (suc x) free)) (less-one k) (ha (omega arith)))) hb
 seek-turn g free x k (suc d) none unsure e ha hb = tt
 seek-turn g free x k (suc d) (some m) b e ha hb =
     first-take (after-lowest x free (omega arith)) (after-without x free (omega arith)) (omega arith)
-    (subst⁻¹ (λ (j : ℕ). FirstWay (withUnits g (add (g .units) (suc x))) (after (suc x) free) j m) (less-one k) (ha (omega arith)))
+    (subst⁻¹ (λ (j : ℕ). FirstWay (withUnits g (add (g .units) (suc x))) (above (suc x) free) j m) (less-one k) (ha (omega arith)))
 seek-turn g free x k (suc d) unsure b e ha hb = tt
 
 seek-right : (g : Grid) (free f x k : ℕ) → Proper g → Within (g .n) free → Sub free (g .sites) → g .n ≤ x + f
-    → SoughtIs g (after x free) k (seek g free f x k)
+    → SoughtIs g (above x free) k (seek g free f x k)
 unfolding seek
-seek-right g free f x zero v w s l = judge-right g (after x free) v
-seek-right g free zero x (suc k) v w s l = no-way-left (empty-of (after x free) gone) (omega arith)
+seek-right g free f x zero v w s l = judge-right g (above x free) v
+seek-right g free zero x (suc k) v w s l = no-way-left (empty-of (above x free) gone) (omega arith)
   where
-    gone : (b : ℕ) → Out (after x free) b
+    gone : (b : ℕ) → Out (above x free) b
     gone b =
-        ⊎-elim (λ (m : x < b). out-of (after x free) b (λ h. let bus = w b (sym (after-in x free b m) ∙ h) .most in omega arith))
+        ⊎-elim (λ (m : x < b). out-of (above x free) b (λ h. let bus = w b (sym (after-in x free b m) ∙ h) .most in omega arith))
         (λ (m : b ≤ x). after-out x free b m) (below-or x b)
 seek-right g free (suc f) x (suc k) v w s l =
     seek-turn g free x k (bit free (suc x)) (seek (withUnits g (add (g .units) (suc x))) free f (suc x) k) (seek g free f (suc x) (suc k)) refl
@@ -380,8 +380,8 @@ seek-right g free (suc f) x (suc k) v w s l =
 -- ---- size after size
 
 abbrev pub PlanIs : Grid → ℕ → Sought → Type 0
-PlanIs g budget none = SomePlan g budget → ⊥
-PlanIs g budget (some m) = Fewest g budget m
+PlanIs g budget none = SomeAddition g budget → ⊥
+PlanIs g budget (some m) = FewestSites g budget m
 PlanIs g budget unsure = Unit {0}
 
 unfoldable pub firstOf : Sought → Sought → Sought
@@ -395,9 +395,9 @@ smallest g free zero k = none
 smallest g free (suc j) k = firstOf (seek g free (g .n) 0 k) (smallest g free j (k + 1))
 
 module _ (g : Grid) (v : Proper g) (free : ℕ) (m : Minus (g .sites) (g .units) free) where
-  whole : after 0 free ≡ free
+  whole : above 0 free ≡ free
   whole =
-      ext (after 0 free) free (λ b. ⊎-elim (λ (l : 0 < b). after-in 0 free b l) (λ (l : b ≤ 0). let e : b ≡ 0 = omega arith in
+      ext (above 0 free) free (λ b. ⊎-elim (λ (l : 0 < b). after-in 0 free b l) (λ (l : b ≤ 0). let e : b ≡ 0 = omega arith in
       after-out 0 free b l ∙ sym (out-of free b (λ h. let bus = v .sites b (omega (arith, m .at b)) .some in omega arith)))
       (below-or 0 b))
 
@@ -414,7 +414,7 @@ module _ (g : Grid) (v : Proper g) (free : ℕ) (m : Minus (g .sites) (g .units)
 
   smallest-right : (budget j k : ℕ) → j + k ≡ budget + 1 → NoFewer g free k → PlanIs g budget (smallest g free j k)
   unfolding smallest
-  smallest-right budget zero k e h = no-plan m (omega arith) h
+  smallest-right budget zero k e h = no-addition m (omega arith) h
   smallest-right budget (suc j) k e h =
       chosen budget k (seek g free (g .n) 0 k) (smallest g free j (k + 1)) (omega arith) h (sized k)
       (λ n. smallest-right budget j (k + 1) (omega arith) (no-fewer-more h n))

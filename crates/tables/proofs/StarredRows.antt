@@ -18,15 +18,16 @@ use Rattle.rules.specs.Figures.{figure}
 use Rattle.tables.proofs.Tests.{gap, gap-none, isOne, given, subTest, holdsTest, acceptedTest}
 use Rattle.tables.proofs.Tests.{closedTest, leastTest, least-passes, holds-tests}
 use Rattle.tables.proofs.Sought.{Sought, pick, reasonFor, reasonAt, stepFor, passFrom, extended, derive, confirmTest}
-use Rattle.tables.proofs.Sought.{aloneTest, unconfirmedTest, noBetter, bestTest, noneTest, greedyTest, after, none}
-use Rattle.tables.proofs.Sought.{some, unsure, judged, judge, orElse, choose, seek, firstOf, smallest}
+use Rattle.tables.proofs.Sought.{aloneTest, unconfirmedTest, noBetter, bestTest, noneTest, greedyTest, above, none}
+use Rattle.tables.proofs.Sought.{some, unsure, soughtFrom, judge, orElse, choose, seek, firstOf, smallest}
 use Rattle.refusals.proofs.Orders.{itself}
 use Rattle.grid.specs.Cases.{neighbours, gridOf, Valid}
 use Rattle.tables.proofs.Drawn.{withinTest, rowTest, validTest, valid-passes}
 use Rattle.observe_calls.specs.Replies.{stated}
-use Rattle.tables.proofs.StarredSites.{grid, free, verdict-right, greedy-right, fewest-right, uncovered-right}
-use Rattle.tables.specs.Starred.{wordOf, caseOf, Row, observes, figures, fails, unconfirmed}
-use Rattle.tables.specs.Starred.{adds, fewestIs, uncovered, Right, AllRight, table}
+use Rattle.tables.specs.Drawings.{drawnGrid}
+use Rattle.tables.proofs.StarredSites.{free, verdict-right, greedy-right, fewest-right, uncovered-right}
+use Rattle.tables.specs.Starred.{setWord, drawnCase, StarredRow, observes, figures, fails, unconfirmed}
+use Rattle.tables.specs.Starred.{adds, fewestIs, uncovered, StarredRight, AllStarredRight, starredTable}
 
 -- how far two integers are apart
 abbrev gapZ : ℤ → ℤ → ℕ
@@ -95,30 +96,30 @@ names-pass n x e = record { bus = bus-passes n (x .bus) (omega arith); reason = 
 -- ---- a row
 
 -- the test of a row; xs is the list that derives the set
-unfoldable wrong : Row → List Step → ℕ
-wrong (observes d bs) xs = validTest (caseOf d) + leastTest (gridOf (caseOf d)) xs (setOf (wordOf bs))
+unfoldable wrong : StarredRow → List Step → ℕ
+wrong (observes d bs) xs = validTest (drawnCase d) + leastTest (gridOf (drawnCase d)) xs (setOf (setWord bs))
 wrong (figures d bs i j z) xs =
-    validTest (caseOf d) + busTest (d .n) i + busTest (d .n) j + (1 - bit (neighbours (caseOf d .nbr) i) j)
-    + gapZ (figure (neighbours (caseOf d .nbr)) (stated (caseOf d) (wordOf bs)) i j) z
-wrong (fails d x) xs = validTest (caseOf d) + namesTest (d .n) x + (1 - holdsTest (gridOf (caseOf d)) empty (x .bus) (x .reason))
-wrong (unconfirmed d bs) xs = validTest (caseOf d) + withinTest (d .n) (wordOf bs) + unconfirmedTest (grid d) (setOf (wordOf bs))
-wrong (adds d budget ss) xs = validTest (caseOf d) + (budget - 64) + greedyTest (grid d) budget ss
+    validTest (drawnCase d) + busTest (d .n) i + busTest (d .n) j + (1 - bit (neighbours (drawnCase d .nbr) i) j)
+    + gapZ (figure (neighbours (drawnCase d .nbr)) (stated (drawnCase d) (setWord bs)) i j) z
+wrong (fails d x) xs = validTest (drawnCase d) + namesTest (d .n) x + (1 - holdsTest (gridOf (drawnCase d)) empty (x .bus) (x .reason))
+wrong (unconfirmed d bs) xs = validTest (drawnCase d) + withinTest (d .n) (setWord bs) + unconfirmedTest (drawnGrid d) (setOf (setWord bs))
+wrong (adds d budget ss) xs = validTest (drawnCase d) + (budget - 64) + greedyTest (drawnGrid d) budget ss
 wrong (fewestIs d budget bs) xs =
-    validTest (caseOf d) + (budget - 8) + gapSought (smallest (grid d) (free d) (budget + 1) 0) (some (setOf (wordOf bs)))
-wrong (uncovered d budget) xs = validTest (caseOf d) + (budget - 8) + gapSought (smallest (grid d) (free d) (budget + 1) 0) none
+    validTest (drawnCase d) + (budget - 8) + gapSought (smallest (drawnGrid d) (free d) (budget + 1) 0) (some (setOf (setWord bs)))
+wrong (uncovered d budget) xs = validTest (drawnCase d) + (budget - 8) + gapSought (smallest (drawnGrid d) (free d) (budget + 1) 0) none
 
-row-right : (r : Row) (xs : List Step) → wrong r xs ≡ 0 → Right r
+row-right : (r : StarredRow) (xs : List Step) → wrong r xs ≡ 0 → StarredRight r
 unfolding wrong
 row-right (observes d bs) xs e =
-    let v : Valid (caseOf d) = valid-passes (caseOf d) (omega arith) in
-    ((v, tt), least-passes (gridOf (caseOf d)) xs (setOf (wordOf bs)) (v .proper) (omega arith))
+    let v : Valid (drawnCase d) = valid-passes (drawnCase d) (omega arith) in
+    ((v, tt), least-passes (gridOf (drawnCase d)) xs (setOf (setWord bs)) (v .proper) (omega arith))
 row-right (figures d bs i j z) xs e =
     let n = d .n in (
-      (valid-passes (caseOf d) (omega arith), ((bus-passes n i (omega arith), bus-passes n j (omega arith)), (omega arith, tt))),
-      sym (gapZ-none (figure (neighbours (caseOf d .nbr)) (stated (caseOf d) (wordOf bs)) i j) z (omega arith)),
+      (valid-passes (drawnCase d) (omega arith), ((bus-passes n i (omega arith), bus-passes n j (omega arith)), (omega arith, tt))),
+      sym (gapZ-none (figure (neighbours (drawnCase d .nbr)) (stated (drawnCase d) (setWord bs)) i j) z (omega arith)),
     )
 row-right (fails d x) xs e =
-    let v : Valid (caseOf d) = valid-passes (caseOf d) (omega arith) in
+    let v : Valid (drawnCase d) = valid-passes (drawnCase d) (omega arith) in
     inr (
       v,
       inr (
@@ -128,7 +129,7 @@ row-right (fails d x) xs e =
           inr (
             bit-zero (x .bus),
             inl (
-              λ h. omega (arith, holds-tests (gridOf (caseOf d)) empty (x .bus) (v .proper) (x .reason) h),
+              λ h. omega (arith, holds-tests (gridOf (drawnCase d)) empty (x .bus) (v .proper) (x .reason) h),
               itself _,
             ),
           ),
@@ -139,18 +140,18 @@ row-right (unconfirmed d bs) xs e = verdict-right d bs e
 row-right (adds d budget ss) xs e = greedy-right d budget ss e
 row-right (fewestIs d budget bs) xs e =
     fewest-right d budget bs (omega arith)
-    (gapSought-none (smallest (grid d) (free d) (budget + 1) 0) (some (setOf (wordOf bs))) (omega arith))
+    (gapSought-none (smallest (drawnGrid d) (free d) (budget + 1) 0) (some (setOf (setWord bs))) (omega arith))
 row-right (uncovered d budget) xs e =
-    uncovered-right d budget (omega arith) (gapSought-none (smallest (grid d) (free d) (budget + 1) 0) none (omega arith))
+    uncovered-right d budget (omega arith) (gapSought-none (smallest (drawnGrid d) (free d) (budget + 1) 0) none (omega arith))
 
 -- ---- the table
 
-unfoldable allWrong : List Row → List (List Step) → ℕ
+unfoldable allWrong : List StarredRow → List (List Step) → ℕ
 allWrong [] xss = 0
 allWrong (r ∷ rs) [] = 1
 allWrong (r ∷ rs) (xs ∷ xss) = wrong r xs + allWrong rs xss
 
-all-right : (rs : List Row) (xss : List (List Step)) → allWrong rs xss ≡ 0 → AllRight rs
+all-right : (rs : List StarredRow) (xss : List (List Step)) → allWrong rs xss ≡ 0 → AllStarredRight rs
 unfolding allWrong
 all-right [] xss e = tt
 all-right (r ∷ rs) [] e = absurd (omega arith)
@@ -188,9 +189,9 @@ derivations =
     ∷ []
 
 -- every row of the table is right
-pub table-right : AllRight table
+pub table-right : AllStarredRight starredTable
 unfolding allWrong wrong gapSought busTest reasonTest namesTest validTest withinTest rowTest leastTest acceptedTest holdsTest closedTest
     subTest isOne gap given total neighbours setOf figure upTo less lack meet add ones onesIn pick reasonFor reasonAt stepFor passFrom
-    extended derive confirmTest aloneTest unconfirmedTest noBetter bestTest noneTest greedyTest after judged judge orElse
+    extended derive confirmTest aloneTest unconfirmedTest noBetter bestTest noneTest greedyTest above soughtFrom judge orElse
     choose seek firstOf smallest
-table-right = all-right table derivations refl
+table-right = all-right starredTable derivations refl

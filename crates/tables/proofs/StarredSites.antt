@@ -20,43 +20,42 @@ use Rattle.place_calls.specs.declared.Verdict.the-variants as verdict
 use Rattle.place_calls.specs.declared.Greedy.the-variants as greedy
 use Rattle.place_calls.specs.declared.Fewest.the-variants as fewest
 use Rattle.place_calls.specs.Replies.{VerdictReply, GreedyReply, FewestReply}
-use Rattle.tables.specs.Starred.{Drawing, wordOf, caseOf}
+use Rattle.tables.specs.Starred.{Drawing, setWord, drawnCase}
+use Rattle.tables.specs.Drawings.{drawnGrid}
 
 -- ---- a row, from its test
 
-abbrev pub grid : Drawing → Grid
-grid d = gridOf (caseOf d)
-
 -- the sites where a new unit may go
 abbrev pub free : Drawing → ℕ
-free d = lack (grid d .sites) (grid d .units)
+free d = lack (drawnGrid d .sites) (drawnGrid d .units)
 
 fits : (n w : ℕ) → withinTest n w ≡ 0 → w < 2 ^ n
 unfolding withinTest
 fits n w e = omega arith
 
 pub verdict-right : (d : Drawing) (bs : List ℕ)
-    → validTest (caseOf d) + withinTest (d .n) (wordOf bs) + unconfirmedTest (grid d) (setOf (wordOf bs)) ≡ 0
-    → VerdictReply (caseOf d) (verdict.Unconfirmed (wordOf bs))
+    → validTest (drawnCase d) + withinTest (d .n) (setWord bs) + unconfirmedTest (drawnGrid d) (setOf (setWord bs)) ≡ 0
+    → VerdictReply (drawnCase d) (verdict.Unconfirmed (setWord bs))
 verdict-right d bs e =
-    let v : Valid (caseOf d) = valid-passes (caseOf d) (omega arith) in (
+    let v : Valid (drawnCase d) = valid-passes (drawnCase d) (omega arith) in (
       (v, tt),
-      unconfirmed-passes (grid d) (v .proper) (setOf (wordOf bs))
-          (λ b h. set-bus (d .n) b (fits (d .n) (wordOf bs) (omega arith)) h) (omega arith),
+      unconfirmed-passes (drawnGrid d) (v .proper) (setOf (setWord bs))
+          (λ b h. set-bus (d .n) b (fits (d .n) (setWord bs) (omega arith)) h) (omega arith),
     )
 
-pub greedy-right : (d : Drawing) (budget : ℕ) (xs : List ℕ) → validTest (caseOf d) + (budget - 64) + greedyTest (grid d) budget xs ≡ 0
+pub greedy-right : (d : Drawing) (budget : ℕ) (xs : List ℕ)
+    → validTest (drawnCase d) + (budget - 64) + greedyTest (drawnGrid d) budget xs ≡ 0
     → (entry : List ℕ) → length xs ≤ length entry
-    → GreedyReply (caseOf d) budget entry (xs ++ drop (length xs) entry) (greedy.Added (length xs))
+    → GreedyReply (drawnCase d) budget entry (xs ++ drop (length xs) entry) (greedy.Added (length xs))
 greedy-right d budget xs e entry room =
-    let v : Valid (caseOf d) = valid-passes (caseOf d) (omega arith) in
-    let added = greedy-passes (grid d) budget xs (v .proper) (omega arith) in (
+    let v : Valid (drawnCase d) = valid-passes (drawnCase d) (omega arith) in
+    let added = greedy-passes (drawnGrid d) budget xs (v .proper) (omega arith) in (
       (
         v,
         (
           omega arith,
           (
-            (λ ys h. subst (λ (zs : List ℕ). length zs ≤ length entry) (greedy-unique (grid d) budget xs ys added h) room),
+            (λ ys h. subst (λ (zs : List ℕ). length zs ≤ length entry) (greedy-unique (drawnGrid d) budget xs ys added h) room),
             tt,
           ),
         ),
@@ -64,25 +63,26 @@ greedy-right d budget xs e entry room =
       record { list = xs; greedy = added; count = refl; written = refl },
     )
 
-pub fewest-right : (d : Drawing) (budget : ℕ) (bs : List ℕ) → validTest (caseOf d) + (budget - 8) ≡ 0
-    → smallest (grid d) (free d) (budget + 1) 0 ≡ some (setOf (wordOf bs))
-    → FewestReply (caseOf d) budget (fewest.Sites (wordOf bs))
+pub fewest-right : (d : Drawing) (budget : ℕ) (bs : List ℕ) → validTest (drawnCase d) + (budget - 8) ≡ 0
+    → smallest (drawnGrid d) (free d) (budget + 1) 0 ≡ some (setOf (setWord bs))
+    → FewestReply (drawnCase d) budget (fewest.Sites (setWord bs))
 fewest-right d budget bs e found =
-    let v : Valid (caseOf d) = valid-passes (caseOf d) (omega arith) in
-    let f = fewest-passes (grid d) (v .proper) (free d) (record { at = lack-at (grid d .sites) (grid d .units) }) budget
-    (some (setOf (wordOf bs))) found in
+    let v : Valid (drawnCase d) = valid-passes (drawnCase d) (omega arith) in
+    let f = fewest-passes (drawnGrid d) (v .proper) (free d) (record { at = lack-at (drawnGrid d .sites) (drawnGrid d .units) }) budget
+    (some (setOf (setWord bs))) found in
     ((v, (omega arith, (fewest-some f, tt))), f)
 
-pub uncovered-right : (d : Drawing) (budget : ℕ) → validTest (caseOf d) + (budget - 8) ≡ 0
-    → smallest (grid d) (free d) (budget + 1) 0 ≡ none → FewestReply (caseOf d) budget (fewest.Refused NoCover)
+pub uncovered-right : (d : Drawing) (budget : ℕ) → validTest (drawnCase d) + (budget - 8) ≡ 0
+    → smallest (drawnGrid d) (free d) (budget + 1) 0 ≡ none → FewestReply (drawnCase d) budget (fewest.Refused NoCover)
 uncovered-right d budget e found =
-    let v : Valid (caseOf d) = valid-passes (caseOf d) (omega arith) in
+    let v : Valid (drawnCase d) = valid-passes (drawnCase d) (omega arith) in
     inr (
       v,
       inr (
         omega arith,
         inl (
-          fewest-passes (grid d) (v .proper) (free d) (record { at = lack-at (grid d .sites) (grid d .units) }) budget none found,
+          fewest-passes (drawnGrid d) (v .proper) (free d)
+              (record { at = lack-at (drawnGrid d .sites) (drawnGrid d .units) }) budget none found,
           itself _,
         ),
       ),

@@ -22,34 +22,34 @@ use Rattle.tables.proofs.Computed.{known}
 use Rattle.tables.proofs.Deriving.{reasonTest, allowedTest, allowed-passes, noUnit, noZero, noReason}
 use Rattle.tables.proofs.Deriving.{noSooner, nextTest, next-passes, derivedTest, derived-passes}
 use Rattle.tables.specs.Tables.{AllRight}
-use Rattle.tables.specs.Drawings.{set, own, near, zeroAt, grid, sevenGrid, sweep, ring}
+use Rattle.tables.specs.Drawings.{set, own, near, zeroAt, drawnGrid, sevenGrid, sweep, ring}
 use Rattle.tables.specs.Steps as steps
 use Rattle.tables.specs.Derivation as derivation
 
 -- ---- computed
 
-pub reaches-right : steps.ReachesRight
+pub reaches-right : steps.ReachedRight
 unfolding add setOf
 reaches-right = refl
 
-pub values-right : steps.ValuesRight
+pub values-right : steps.ListOfRight
 values-right = refl
 
-pub listings-right : steps.ListingsRight
+pub listings-right : steps.ListedStepsRight
 listings-right = refl
 
-pub writings-right : steps.WritingsRight
+pub writings-right : steps.WrittenIntoRight
 writings-right = refl
 
-pub puttings-right : steps.PuttingsRight
+pub puttings-right : steps.PutFirstRight
 puttings-right = refl
 
-pub places-right : steps.PlacesRight
+pub places-right : steps.NthOfRight
 places-right = refl
 
 -- ---- one step
 
-pub reasons-right : AllRight steps.reasons
+pub reasons-right : AllRight steps.reasonTable
 unfolding reasonTest allowedTest gap neighbours lack setOf ones onesIn
 reasons-right =
     refl
@@ -67,7 +67,7 @@ reasons-right =
     & refl
     & tt
 
-pub allowed-right : AllRight steps.allowed
+pub allowed-right : AllRight steps.allowedTable
 unfolding reasonTest allowedTest gap neighbours lack setOf ones onesIn
 allowed-right =
     allowed-passes (sevenGrid (3 ∷ [])) (set []) (near 2 3) refl
@@ -78,7 +78,7 @@ allowed-right =
     & allowed-passes (sevenGrid (3 ∷ 4 ∷ [])) (set []) (near 3 4) refl
     & tt
 
-pub names-right : AllRight steps.names
+pub names-right : AllRight steps.namesTable
 names-right =
     record { bus = record { some = omega arith; most = omega arith }; reason = tt }
     & (λ h. omega (arith, h .bus .most))
@@ -96,17 +96,17 @@ names-right =
 -- ---- lists
 
 -- document 01's derivation
-pub is-derivation : Derivation (sevenGrid (3 ∷ [])) steps.derivation
+pub is-derivation : Derivation (sevenGrid (3 ∷ [])) steps.derivationSteps
 unfolding derivedTest nextTest noSooner noReason noUnit noZero allowedTest reasonTest holdsTest subTest given gap total neighbours add lack
     less setOf ones onesIn
-is-derivation = derived-passes (sevenGrid (3 ∷ [])) (known .at3 .valid .proper) (set []) steps.derivation refl
+is-derivation = derived-passes (sevenGrid (3 ∷ [])) (known .at3 .valid .proper) (set []) steps.derivationSteps refl
 
 -- and that of no units
 pub no-steps : Derivation (sevenGrid []) []
 unfolding derivedTest noReason noUnit noZero holdsTest subTest given total neighbours less lack setOf
 no-steps = derived-passes (sevenGrid []) (known .none .valid .proper) (set []) [] refl
 
-pub accepted-right : AllRight steps.accepted
+pub accepted-right : AllRight steps.acceptedTable
 unfolding reasonTest allowedTest gap neighbours lack add setOf ones onesIn
 accepted-right =
     derived-accepted is-derivation .0
@@ -117,7 +117,7 @@ accepted-right =
     & (allowed-passes (sevenGrid (3 ∷ [])) (set (2 ∷ 3 ∷ [])) (zeroAt 1 2) refl, tt)
     & tt
 
-pub finished-right : AllRight steps.finished
+pub finished-right : AllRight steps.finishedTable
 unfolding reasonTest allowedTest gap neighbours lack setOf ones onesIn
 finished-right =
     closed-finished (sevenGrid (3 ∷ [])) (set (1 ∷ 2 ∷ 3 ∷ 4 ∷ 7 ∷ [])) (known .at3 .least .closed)
@@ -130,7 +130,7 @@ finished-right =
 
 -- ---- the derivation
 
-pub before-right : AllRight derivation.before
+pub before-right : AllRight derivation.takenFirstTable
 before-right =
     tt
     & (λ h. h)
@@ -144,7 +144,7 @@ before-right =
     & omega arith
     & tt
 
-pub next-right : AllRight derivation.next
+pub next-right : AllRight derivation.nextStepTable
 unfolding nextTest noSooner noReason noUnit noZero allowedTest reasonTest holdsTest subTest given gap total neighbours lack less setOf ones
     onesIn
 next-right =
@@ -156,10 +156,10 @@ next-right =
     & (λ h. h .first (own 1) (allowed-passes (sevenGrid (1 ∷ 2 ∷ [])) (set []) (own 1) refl) refl)
     & next-passes (sevenGrid (1 ∷ 3 ∷ [])) (known .at13 .valid .proper) (set (1 ∷ [])) (near 2 1) refl
     & (λ h. omega (arith, h .first (near 2 1) (allowed-passes (sevenGrid (1 ∷ 3 ∷ [])) (set (1 ∷ [])) (near 2 1) refl) refl))
-    & next-passes (grid (ring (3 ∷ 4 ∷ []))) (known .ring34 .valid .proper) (set (2 ∷ 3 ∷ 4 ∷ [])) (near 1 3) refl
-    & (λ h. h .first (near 1 3) (allowed-passes (grid (ring (3 ∷ 4 ∷ []))) (set (2 ∷ 3 ∷ 4 ∷ [])) (near 1 3) refl) refl)
-    & next-passes (grid (ring (4 ∷ []))) (known .ring4 .valid .proper) (set (2 ∷ 3 ∷ 4 ∷ [])) (zeroAt 1 2) refl
-    & (λ h. omega (arith, h .first (zeroAt 1 2) (allowed-passes (grid (ring (4 ∷ []))) (set (2 ∷ 3 ∷ 4 ∷ [])) (zeroAt 1 2) refl) refl))
+    & next-passes (drawnGrid (ring (3 ∷ 4 ∷ []))) (known .ring34 .valid .proper) (set (2 ∷ 3 ∷ 4 ∷ [])) (near 1 3) refl
+    & (λ h. h .first (near 1 3) (allowed-passes (drawnGrid (ring (3 ∷ 4 ∷ []))) (set (2 ∷ 3 ∷ 4 ∷ [])) (near 1 3) refl) refl)
+    & next-passes (drawnGrid (ring (4 ∷ []))) (known .ring4 .valid .proper) (set (2 ∷ 3 ∷ 4 ∷ [])) (zeroAt 1 2) refl
+    & (λ h. omega (arith, h .first (zeroAt 1 2) (allowed-passes (drawnGrid (ring (4 ∷ []))) (set (2 ∷ 3 ∷ 4 ∷ [])) (zeroAt 1 2) refl) refl))
     & (λ h. omega (arith, h .allowed .holds))
     & tt
 
@@ -168,7 +168,7 @@ other : (g : Grid) (i : ℕ) (xs ys : List Step) → Derivation g xs
     → (length xs ≡ length ys → getD xs i noStep .bus ≡ getD ys i noStep .bus → ⊥) → Derivation g ys → ⊥
 other g i xs ys d ne h = let e = derived-unique d ys h in ne (ap length e) (ap (λ (zs : List Step). getD zs i noStep .bus) e)
 
-pub derivations-right : AllRight derivation.derivations
+pub derivations-right : AllRight derivation.derivationTable
 unfolding derivedTest nextTest noSooner noReason noUnit noZero allowedTest reasonTest holdsTest subTest given gap total neighbours add lack
     less setOf ones onesIn
 derivations-right =
@@ -179,10 +179,11 @@ derivations-right =
     & other (sevenGrid (3 ∷ [])) 0 _ _ is-derivation (λ l e. omega arith)
     & no-steps
     & sweeping
-    & other (grid sweep) 0 _ _ sweeping (λ l e. omega arith)
-    & record { steps = steps.derivation; derived = is-derivation; is = refl }
+    & other (drawnGrid sweep) 0 _ _ sweeping (λ l e. omega arith)
+    & record { steps = steps.derivationSteps; derived = is-derivation; is = refl }
     & (λ h. omega (arith, ap (λ (l : StepList). l .n) (h .is), ap length (derived-unique is-derivation (h .steps) (h .derived))))
     & tt
   where
-    sweeping : Derivation (grid sweep) (near 3 4 ∷ own 4 ∷ zeroAt 2 3 ∷ zeroAt 1 2 ∷ [])
-    sweeping = derived-passes (grid sweep) (known .swept .valid .proper) (set []) (near 3 4 ∷ own 4 ∷ zeroAt 2 3 ∷ zeroAt 1 2 ∷ []) refl
+    sweeping : Derivation (drawnGrid sweep) (near 3 4 ∷ own 4 ∷ zeroAt 2 3 ∷ zeroAt 1 2 ∷ [])
+    sweeping =
+        derived-passes (drawnGrid sweep) (known .swept .valid .proper) (set []) (near 3 4 ∷ own 4 ∷ zeroAt 2 3 ∷ zeroAt 1 2 ∷ []) refl

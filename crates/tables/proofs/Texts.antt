@@ -3,9 +3,9 @@ use mathlib.Core.Path.{refl, ap}
 use native.Mathlib.Omega.{arith}
 use lib.ListN.{length}
 use Rattle.text_field.specs.Split.{split, join, after, same, Pieces}
-use Rattle.text_field.specs.Number.{isDigit, takes, numberFrom, numberOf, digits}
-use Rattle.case_line.specs.Fields.{markOf, one, none}
-use Rattle.case_line.specs.Record.{wordOf, lineFields, busFields, recordOf, recordText}
+use Rattle.text_field.specs.Number.{isDigit, takesDigit, numberFrom, numeralOf, digits}
+use Rattle.case_line.specs.Fields.{markOf, ifOneField, ifNoField}
+use Rattle.case_line.specs.Record.{recordWordOf, lineFields, busFields, recordOf, recordText}
 use Rattle.step_line.specs.StepLine.{letterOf, stepWordOf, reasonFields, stepFields, stepLineOf, stepText}
 use Rattle.tables.proofs.Rows.{_&_}
 use Rattle.tables.specs.Tables.{AllRight}
@@ -26,7 +26,7 @@ pub sames-right : fields.SamesRight
 unfolding same
 sames-right = refl
 
-pub ends-right : AllRight fields.ends
+pub ends-right : AllRight fields.pieceEndTable
 unfolding split after
 ends-right =
     record { low = omega arith; high = omega arith; cut = refl }
@@ -38,7 +38,7 @@ ends-right =
     & tt
 
 pub numbers-right : fields.NumbersRight
-unfolding isDigit takes numberFrom numberOf
+unfolding isDigit takesDigit numberFrom numeralOf
 numbers-right = refl
 
 pub numerals-right : fields.NumeralsRight
@@ -56,20 +56,20 @@ unfolding markOf
 sites-right = refl
 
 pub records-right : records.RecordsRight
-unfolding recordOf wordOf lineFields busFields markOf one none split same isDigit takes numberFrom numberOf
+unfolding recordOf recordWordOf lineFields busFields markOf ifOneField ifNoField split same isDigit takesDigit numberFrom numeralOf
 records-right = refl
 
-pub record-lines-right : records.RecordLinesRight
+pub record-lines-right : records.RecordTextsRight
 unfolding recordText join digits
 record-lines-right = refl
 
-pub formed-right : AllRight records.formed
+pub formed-right : AllRight records.formedTable
 formed-right =
     omega arith & (λ h. omega arith) & omega arith & (λ h. omega arith) & (omega arith, omega arith) & (λ h. omega arith) & omega
     arith & tt & (λ h. h) & tt
 
 pub step-lines-right : records.StepLinesRight
-unfolding stepLineOf stepWordOf letterOf reasonFields stepFields one none split same isDigit takes numberFrom numberOf
+unfolding stepLineOf stepWordOf letterOf reasonFields stepFields ifOneField ifNoField split same isDigit takesDigit numberFrom numeralOf
 step-lines-right = refl
 
 pub step-texts-right : records.StepTextsRight

@@ -15,7 +15,7 @@ use Rattle.step.specs.declared.Step.{Step}
 use Rattle.rules.specs.Grids.{total}
 use Rattle.rules.specs.Steps.{Names, reached, Accepted}
 use Rattle.basics.specs.Lists.{Each}
-use Rattle.rules.specs.Weaving.{Taken, here, there, Shuffle, none, next}
+use Rattle.rules.specs.Weaving.{TakenFromOne, here, there, Shuffle, none, next}
 use Rattle.rules.specs.Figures.{figure}
 use Rattle.tables.proofs.Tests.{gap}
 use Rattle.rules.proofs.Shuffles.{weaving-shuffles}
@@ -23,7 +23,7 @@ use Rattle.grid.specs.Cases.{neighbours, gridOf}
 use Rattle.tables.proofs.Drawn.{withinTest, rowTest, validTest, valid-passes}
 use Rattle.list_follow.specs.declared.Wove.the-variants as wove
 use Rattle.demands.proofs.Demand3.{demand-3}
-use Rattle.tables.specs.Starred.{wordOf, caseOf, seven}
+use Rattle.tables.specs.Starred.{setWord, drawnCase, seven}
 use Rattle.tables.proofs.Crowded.{ones-in}
 use Rattle.tables.proofs.Computed.{known}
 use Rattle.tables.proofs.Rows.{_&_}
@@ -51,7 +51,7 @@ pub stated-right : figures.StatedRight
 unfolding upTo setOf
 stated-right = refl
 
-pub runs-right : AllRight figures.runs
+pub runs-right : AllRight figures.figureRunTable
 runs-right =
     record { low = leZ-yes tt; high = leZ-yes tt }
     & (λ h. h .low .le)
@@ -79,13 +79,13 @@ star-ends : (figure (gridOf figures.star .neighbours) (set []) 1 2 ≡ negsuc 61
 unfolding meet less lack neighbours setOf onesIn
 star-ends = (star-figure (set []) (lit≤ tt), star-figure (setOf (2 ^ 64 - 1)) (lit≤ tt))
 
-pub ends-right : AllRight figures.ends
+pub ends-right : AllRight figures.figureEndTable
 unfolding validTest withinTest rowTest gap total upTo neighbours setOf ones onesIn
 ends-right = valid-passes figures.star refl & star-ends .0 & star-ends .1 & tt
 
 -- ---- weaving
 
-pub weavable-right : AllRight weaving.weavable
+pub weavable-right : AllRight weaving.weavableTable
 unfolding add neighbours setOf
 weavable-right =
     ((λ o. record { unit = refl; joined = refl }), ((λ o. refl), tt))
@@ -98,7 +98,7 @@ weavable-right =
 
 -- ---- shuffles
 
-pub some-right : AllRight weaving.some
+pub some-right : AllRight weaving.eachSomeTable
 some-right =
     (omega arith, (omega arith, tt))
     & (λ h. omega (arith, h .1 .0))
@@ -108,7 +108,7 @@ some-right =
     & tt
 
 -- no step is taken where there are no lists
-no-lists : {x : Step} {yss : List (List Step)} → Taken x [] yss → ⊥
+no-lists : {x : Step} {yss : List (List Step)} → TakenFromOne x [] yss → ⊥
 no-lists = elim [ ]
 
 lacking : Shuffle weaving.desks (near 2 3 ∷ own 3 ∷ []) → ⊥
@@ -117,7 +117,7 @@ lacking (next here (next (there here) (none e))) = omega (arith, ap length (e .0
 lacking (next here (next (there (there t)) s)) = no-lists t
 lacking (next (there (there t)) s) = no-lists t
 
-new : {yss : List (List Step)} → Taken (near 4 3) weaving.desks yss → ⊥
+new : {yss : List (List Step)} → TakenFromOne (near 4 3) weaving.desks yss → ⊥
 new (there (there t)) = no-lists t
 
 order : Shuffle weaving.desks (own 3 ∷ own 3 ∷ near 2 3 ∷ []) → ⊥
@@ -134,7 +134,7 @@ done = none {xss = [] ∷ [] ∷ []} (refl, (refl, tt))
 shuffled : Shuffle weaving.desks (own 3 ∷ near 2 3 ∷ own 3 ∷ [])
 shuffled = next (there here) (next here (next here done))
 
-pub shuffles-right : AllRight weaving.shuffles
+pub shuffles-right : AllRight weaving.shuffleTable
 shuffles-right =
     next here (next here (next (there here) done))
     & shuffled
@@ -156,7 +156,7 @@ accepted = (
   ((allowed-passes (sevenGrid (3 ∷ [])) (set []) (own 3) refl, tt), tt),
 )
 
-pub demand-right : AllRight weaving.demand
+pub demand-right : AllRight weaving.wovenShuffleTable
 unfolding add
 demand-right =
     weaving-shuffles (sevenGrid (3 ∷ [])) weaving.desks (own 3 ∷ near 2 3 ∷ own 3 ∷ []) accepted shuffled
@@ -166,18 +166,18 @@ demand-right =
     (h .only 4 refl))
     & tt
 
-pub calls-right : AllRight weaving.calls
+pub calls-right : AllRight weaving.demand3Table
 unfolding neighbours add setOf
 calls-right =
-    demand-3 .weaves (caseOf (seven (3 ∷ []))) weaving.desks weaving.sent
-    (own 7 ∷ own 8 ∷ own 9 ∷ []) (own 3 ∷ near 2 3 ∷ own 9 ∷ []) (wove.Written 2 (wordOf (2 ∷ 3 ∷ [])))
+    demand-3 .weaves (drawnCase (seven (3 ∷ []))) weaving.desks weaving.sent
+    (own 7 ∷ own 8 ∷ own 9 ∷ []) (own 3 ∷ near 2 3 ∷ own 9 ∷ []) (wove.Written 2 (setWord (2 ∷ 3 ∷ [])))
     (record { valid = known .at3 .valid; alone = accepted; shuffled = shuffled; few = omega arith; room = omega arith })
     ((known .at3 .valid, (omega arith, (named3, ((λ o. refl), (named23, ((λ o. record { unit = refl; joined = refl }), (named3, ((λ o. refl), (omega arith, tt))))))))), refl, refl, refl)
     & (λ h. let e = h .answers in let z : _≡_ {A = ℕ} 0 1 = cc in omega arith)
     & (λ h. omega (arith, ap (λ (xs : List Step). getD xs 0 noStep .bus) (h .records)))
     & (λ h. let e = h .answers in let c : _≡_ {A = ℕ} 3 (h .count) = cc in omega (arith, c, h .counted))
     & (λ h. let e = h .answers in
-    let s : _≡_ {A = ℕ} (wordOf (3 ∷ [])) (h .set) = cc in
+    let s : _≡_ {A = ℕ} (setWord (3 ∷ [])) (h .set) = cc in
     omega (arith, ap (λ (w : ℕ). bit (setOf w) 2) s, ap (λ (t : ℕ). bit t 2) (h .reaches)))
     & tt
   where

@@ -9,7 +9,7 @@ use Rattle.case_line.specs.declared.Record.the-variants.{Grid, Line, Pmu, End, 
 use Rattle.grid.specs.declared.Case.{Case}
 use Rattle.refusals.specs.declared.Refusal.the-variants.{TextTooLong, WrongForm, OutOfRange, OutOfOrder}
 use Rattle.case_build.specs.Building.{withLine}
-use Rattle.case_judge.specs.Judging.{verdict}
+use Rattle.case_judge.specs.Judging.{judged}
 use Rattle.case_read.specs.Reading.{start, readCase, got}
 use Rattle.case_inverse.specs.Grammar as grammar
 use Rattle.case_line.specs.CaseText.{caseText}
@@ -17,9 +17,9 @@ use Rattle.case_read.specs.declared.CaseRead.{CaseRead}
 use Rattle.case_judge.specs.declared.Place.{Place}
 use Rattle.case_read.specs.declared.ReadAnswer.{ReadAnswer}
 use Rattle.case_read.specs.declared.ReadAnswer.the-variants.{Read, Refused}
-use Rattle.case_judge.specs.declared.Verdict.{Verdict}
-use Rattle.case_judge.specs.declared.Verdict.the-variants.{Next, Last, Form, Range, Order}
-use Rattle.tables.specs.Starred.{caseOf, seven, path}
+use Rattle.case_judge.specs.declared.Judgement.{Judgement}
+use Rattle.case_judge.specs.declared.Judgement.the-variants.{Next, Last, Form, Range, Order}
+use Rattle.tables.specs.Starred.{drawnCase, seven, path}
 use Rattle.tables.specs.Tables.{Right, Reads, Row, holds, fails, block}
 use Rattle.tables.specs.Drawings.{value}
 
@@ -65,11 +65,11 @@ abbrev pub oneCase : Case
 oneCase = value 1 [] (1 ∷ []) [] (1 ∷ [])
 
 -- texts, and the case that each gives
-abbrev pub cases : List (List ℕ × CaseRead)
-cases =
-    (block input, got (caseOf (seven (3 ∷ []))))
-    ∷ (block bareInput, got (caseOf (seven [])))
-    ∷ (block pathInput, got (caseOf path))
+abbrev pub caseTable : List (List ℕ × CaseRead)
+caseTable =
+    (block input, got (drawnCase (seven (3 ∷ []))))
+    ∷ (block bareInput, got (drawnCase (seven [])))
+    ∷ (block pathInput, got (drawnCase path))
     ∷ (block oneInput, got oneCase)
     -- a refusal has no case beside it
     ∷ (bytes "", record { answer = Refused (WrongForm 1); case = value 0 [] [] [] [] })
@@ -77,37 +77,37 @@ cases =
 
 -- every row is right
 abbrev pub CasesRight : Type 0
-CasesRight = Right readCase cases
+CasesRight = Right readCase caseTable
 
 -- cases, and the text of each
-abbrev pub texts : List (Case × List ℕ)
-texts = (caseOf (seven (3 ∷ [])), block input) ∷ (caseOf path, block pathInput) ∷ (oneCase, block oneInput) ∷ []
+abbrev pub caseTextTable : List (Case × List ℕ)
+caseTextTable = (drawnCase (seven (3 ∷ [])), block input) ∷ (drawnCase path, block pathInput) ∷ (oneCase, block oneInput) ∷ []
 
 -- every row is right
-abbrev pub TextsRight : Type 0
-TextsRight = Right caseText texts
+abbrev pub CaseTextsRight : Type 0
+CaseTextsRight = Right caseText caseTextTable
 
 -- the texts that the order of records allows from the start on, and texts that it does not
-abbrev pub allowed : List Row
-allowed =
-    holds (grammar.Reads start (block oneInput) oneCase)
-    ∷ fails (grammar.Reads start (bytes "end\n") (value 0 [] [] [] []))
-    ∷ fails (grammar.Reads start (block ("grid 1" ∷ "pmu 1" ∷ "bus 1 Z N" ∷ "end" ∷ [])) oneCase)
+abbrev pub grammarTable : List Row
+grammarTable =
+    holds (grammar.ReadsAs start (block oneInput) oneCase)
+    ∷ fails (grammar.ReadsAs start (bytes "end\n") (value 0 [] [] [] []))
+    ∷ fails (grammar.ReadsAs start (block ("grid 1" ∷ "pmu 1" ∷ "bus 1 Z N" ∷ "end" ∷ [])) oneCase)
     ∷ []
 
 -- a line of three buses, and the rows with it: each end has the other
-abbrev pub wired : List ((ℕ × ℕ) × List ℕ)
-wired = ((1, 3), 4 ∷ 0 ∷ 1 ∷ []) ∷ ((1, 2), 2 ∷ 1 ∷ 0 ∷ []) ∷ []
+abbrev pub wiredTable : List ((ℕ × ℕ) × List ℕ)
+wiredTable = ((1, 3), 4 ∷ 0 ∷ 1 ∷ []) ∷ ((1, 2), 2 ∷ 1 ∷ 0 ∷ []) ∷ []
 
 -- every row is right
 abbrev pub WiredRight : Type 0
-WiredRight = Right (λ q. withLine (0 ∷ 0 ∷ 0 ∷ []) (q .0) (q .1)) wired
+WiredRight = Right (λ q. withLine (0 ∷ 0 ∷ 0 ∷ []) (q .0) (q .1)) wiredTable
 
 -- ---- refusals
 
 -- texts from line 1 on
-abbrev pub whole : List (String × ReadAnswer)
-whole =
+abbrev pub wholeTextTable : List (String × ReadAnswer)
+wholeTextTable =
     ("grid\t1\nbus\t1\tI\tY\nend\n", Read)
     -- a lacking record, at the line where it should stand
     ∷ ("", Refused (WrongForm 1))
@@ -135,12 +135,12 @@ whole =
     ∷ []
 
 -- every row is right
-abbrev pub WholeRight : Type 0
-WholeRight = Reads (λ s. readCase s .answer) whole
+abbrev pub WholeTextsRight : Type 0
+WholeTextsRight = Reads (λ s. readCase s .answer) wholeTextTable
 
 -- how a text goes on after the seven-bus grid's `grid` and every `bus`, from line 9 on
-abbrev pub later : List (String × ReadAnswer)
-later =
+abbrev pub laterLineTable : List (String × ReadAnswer)
+laterLineTable =
     ("end\n", Read)
     ∷ ("line\t1\t2\nend\n", Read)
     ∷ ("pmu\t3\nend\n", Read)
@@ -175,16 +175,16 @@ later =
     ∷ []
 
 -- every row is right
-abbrev pub LaterRight : Type 0
-LaterRight = Right (λ s. readCase (block sevenBuses ++ bytes s) .answer) later
+abbrev pub LaterLinesRight : Type 0
+LaterLinesRight = Right (λ s. readCase (block sevenBuses ++ bytes s) .answer) laterLineTable
 
 -- line feeds alone: 8,192 of them are 2 at line 1, one more is 1
-abbrev pub limits : List (ℕ × ReadAnswer)
-limits = (8192, Refused (WrongForm 1)) ∷ (8193, Refused TextTooLong) ∷ []
+abbrev pub caseLimitTable : List (ℕ × ReadAnswer)
+caseLimitTable = (8192, Refused (WrongForm 1)) ∷ (8193, Refused TextTooLong) ∷ []
 
 -- every row is right
-abbrev pub LimitsRight : Type 0
-LimitsRight = Right (λ k. readCase (replicate k lineFeed) .answer) limits
+abbrev pub CaseLimitsRight : Type 0
+CaseLimitsRight = Right (λ k. readCase (replicate k lineFeed) .answer) caseLimitTable
 
 -- ---- the 257th line
 
@@ -193,8 +193,8 @@ abbrev pub lined : ℕ → Place
 lined k = record { n = 64; bus = 64; a = 5; b = 9; lines = k; unit = 0 }
 
 -- records that stand there, and what is said of each: a 257th line is 3, also with a above b; a bad form is 2
-abbrev pub verdicts : List ((ℕ × Record) × Verdict)
-verdicts =
+abbrev pub judgementTable : List ((ℕ × Record) × Judgement)
+judgementTable =
     ((255, Line 6 7), Next)
     ∷ ((256, Line 6 7), Range)
     ∷ ((256, Line 7 6), Range)
@@ -206,5 +206,5 @@ verdicts =
     ∷ []
 
 -- every row is right
-abbrev pub VerdictsRight : Type 0
-VerdictsRight = Right (λ q. verdict (lined (q .0)) (q .1)) verdicts
+abbrev pub JudgementsRight : Type 0
+JudgementsRight = Right (λ q. judged (lined (q .0)) (q .1)) judgementTable

@@ -7,12 +7,12 @@ use Rattle.rules.specs.Derivation.{TakenFirst, NextIs, Derivation}
 use Rattle.list_value.specs.Lists.{listOf}
 use Rattle.list_derive.specs.Deriving.{Derives}
 use Rattle.tables.specs.Tables.{Row, holds, fails}
-use Rattle.tables.specs.Drawings.{set, own, near, zeroAt, grid, sevenGrid, sweep, ring}
-use Rattle.tables.specs.Steps.{derivation}
+use Rattle.tables.specs.Drawings.{set, own, near, zeroAt, drawnGrid, sevenGrid, sweep, ring}
+use Rattle.tables.specs.Steps.{derivationSteps}
 
 -- which reason is taken first: O, else N with the lowest p, else Z with the lowest w
-abbrev pub before : List Row
-before =
+abbrev pub takenFirstTable : List Row
+takenFirstTable =
     holds (TakenFirst OwnUnit (NeighbourOf 1))
     ∷ fails (TakenFirst (NeighbourOf 1) OwnUnit)
     ∷ holds (TakenFirst (NeighbourOf 1) (NeighbourOf 3))
@@ -26,8 +26,8 @@ before =
     ∷ []
 
 -- which step is next where these buses are observed
-abbrev pub next : List Row
-next =
+abbrev pub nextStepTable : List Row
+nextStepTable =
     -- the lowest bus that any rule reaches, also where a higher one has a unit
     holds (NextIs (sevenGrid (3 ∷ [])) (set []) (near 2 3))
     ∷ fails (NextIs (sevenGrid (3 ∷ [])) (set []) (own 3))
@@ -41,28 +41,28 @@ next =
     ∷ holds (NextIs (sevenGrid (1 ∷ 3 ∷ [])) (set (1 ∷ [])) (near 2 1))
     ∷ fails (NextIs (sevenGrid (1 ∷ 3 ∷ [])) (set (1 ∷ [])) (near 2 3))
     -- N before Z
-    ∷ holds (NextIs (grid (ring (3 ∷ 4 ∷ []))) (set (2 ∷ 3 ∷ 4 ∷ [])) (near 1 3))
-    ∷ fails (NextIs (grid (ring (3 ∷ 4 ∷ []))) (set (2 ∷ 3 ∷ 4 ∷ [])) (zeroAt 1 2))
+    ∷ holds (NextIs (drawnGrid (ring (3 ∷ 4 ∷ []))) (set (2 ∷ 3 ∷ 4 ∷ [])) (near 1 3))
+    ∷ fails (NextIs (drawnGrid (ring (3 ∷ 4 ∷ []))) (set (2 ∷ 3 ∷ 4 ∷ [])) (zeroAt 1 2))
     -- Z with the lowest w
-    ∷ holds (NextIs (grid (ring (4 ∷ []))) (set (2 ∷ 3 ∷ 4 ∷ [])) (zeroAt 1 2))
-    ∷ fails (NextIs (grid (ring (4 ∷ []))) (set (2 ∷ 3 ∷ 4 ∷ [])) (zeroAt 1 3))
+    ∷ holds (NextIs (drawnGrid (ring (4 ∷ []))) (set (2 ∷ 3 ∷ 4 ∷ [])) (zeroAt 1 2))
+    ∷ fails (NextIs (drawnGrid (ring (4 ∷ []))) (set (2 ∷ 3 ∷ 4 ∷ [])) (zeroAt 1 3))
     -- the step is allowed
     ∷ fails (NextIs (sevenGrid (3 ∷ [])) (set []) (own 1))
     ∷ []
 
 -- the derivation, and lists that are not it
-abbrev pub derivations : List Row
-derivations =
-    holds (Derivation (sevenGrid (3 ∷ [])) derivation)
+abbrev pub derivationTable : List Row
+derivationTable =
+    holds (Derivation (sevenGrid (3 ∷ [])) derivationSteps)
     -- it is exactly document 01's five steps
-    ∷ holds ((xs : List Step) → Derivation (sevenGrid (3 ∷ [])) xs → xs ≡ derivation)
+    ∷ holds ((xs : List Step) → Derivation (sevenGrid (3 ∷ [])) xs → xs ≡ derivationSteps)
     ∷ fails (Derivation (sevenGrid (3 ∷ [])) (own 3 ∷ near 2 3 ∷ zeroAt 1 2 ∷ near 4 3 ∷ near 7 3 ∷ []))
     ∷ fails (Derivation (sevenGrid (3 ∷ [])) (near 2 3 ∷ own 3 ∷ near 4 3 ∷ near 7 3 ∷ zeroAt 1 2 ∷ []))
     -- it is not finished
     ∷ fails (Derivation (sevenGrid (3 ∷ [])) (near 2 3 ∷ own 3 ∷ zeroAt 1 2 ∷ near 4 3 ∷ []))
     ∷ holds (Derivation (sevenGrid []) [])
-    ∷ holds (Derivation (grid sweep) (near 3 4 ∷ own 4 ∷ zeroAt 2 3 ∷ zeroAt 1 2 ∷ []))
-    ∷ fails (Derivation (grid sweep) (own 4 ∷ near 3 4 ∷ zeroAt 2 3 ∷ zeroAt 1 2 ∷ []))
-    ∷ holds (Derives (sevenGrid (3 ∷ [])) (listOf derivation))
+    ∷ holds (Derivation (drawnGrid sweep) (near 3 4 ∷ own 4 ∷ zeroAt 2 3 ∷ zeroAt 1 2 ∷ []))
+    ∷ fails (Derivation (drawnGrid sweep) (own 4 ∷ near 3 4 ∷ zeroAt 2 3 ∷ zeroAt 1 2 ∷ []))
+    ∷ holds (Derives (sevenGrid (3 ∷ [])) (listOf derivationSteps))
     ∷ fails (Derives (sevenGrid (3 ∷ [])) (listOf []))
     ∷ []

@@ -8,11 +8,11 @@ use Rattle.step.specs.declared.Step.{Step}
 use Rattle.rules.specs.Grids.{Grid}
 use Rattle.grid.specs.declared.Case.{Case}
 use Rattle.grid.specs.Cases.{gridOf}
-use Rattle.tables.specs.Starred.{Drawing, wordOf, caseOf, seven, path}
+use Rattle.tables.specs.Starred.{Drawing, setWord, drawnCase, seven, path}
 
 -- the set of the buses of a list without repeats
 abbrev pub set : List ℕ → ℕ
-set bs = setOf (wordOf bs)
+set bs = setOf (setWord bs)
 
 -- `step b O`
 abbrev pub own : ℕ → Step
@@ -30,19 +30,19 @@ zeroAt b w = record { bus = b; reason = ZeroInjection w }
 abbrev pub value : ℕ → List (List ℕ) → List ℕ → List ℕ → List ℕ → Case
 value n rows zeros sites units = record {
   n = n;
-  nbr = map wordOf rows ++ replicate (64 - length rows) 0;
-  zero = wordOf zeros;
-  site = wordOf sites;
-  units = wordOf units;
+  nbr = map setWord rows ++ replicate (64 - length rows) 0;
+  zero = setWord zeros;
+  site = setWord sites;
+  units = setWord units;
 }
 
 -- the grid that a drawing says
-abbrev pub grid : Drawing → Grid
-grid d = gridOf (caseOf d)
+abbrev pub drawnGrid : Drawing → Grid
+drawnGrid d = gridOf (drawnCase d)
 
 -- document 01's seven-bus grid with these units
 abbrev pub sevenGrid : List ℕ → Grid
-sevenGrid units = grid (seven units)
+sevenGrid units = drawnGrid (seven units)
 
 -- document 01's path 1-2-3-4-5, where only 3 is Z, with these units
 abbrev pub pathWith : List ℕ → Drawing

@@ -3,8 +3,8 @@ use mathlib.Core.Bool.{Bool, true, false}
 use mathlib.Core.List.{List, [], _∷_}
 use Prim.Native.Nat.{ℕ}
 use Prim.Native.String.{String}
-use Rattle.text_field.specs.Split.{split, join, pieces, same, bytes, tab, PieceEnd}
-use Rattle.text_field.specs.Number.{numberOf, numberText}
+use Rattle.text_field.specs.Split.{split, join, allPieces, same, bytes, tab, PieceEnd}
+use Rattle.text_field.specs.Number.{numeralOf, numberText}
 use Rattle.text_field.specs.declared.Numeral.{Numeral}
 use Rattle.text_field.specs.declared.Numeral.the-variants.{Is, Wrong}
 use Rattle.tables.specs.Tables.{Right, Reads, Writes, Row, holds, fails}
@@ -12,8 +12,8 @@ use Rattle.tables.specs.Tables.{Right, Reads, Writes, Row, holds, fails}
 -- ---- cut at tabs
 
 -- lines, and their fields: a leading, doubled or trailing tab makes an empty one
-abbrev pub cuts : List (String × List (List ℕ))
-cuts =
+abbrev pub cutTable : List (String × List (List ℕ))
+cutTable =
     ("", bytes "" ∷ [])
     ∷ ("end", bytes "end" ∷ [])
     ∷ ("grid\t7", bytes "grid" ∷ bytes "7" ∷ [])
@@ -26,11 +26,11 @@ cuts =
 
 -- every row is right
 abbrev pub CutsRight : Type 0
-CutsRight = Reads (λ l. pieces (split tab l)) cuts
+CutsRight = Reads (λ l. allPieces (split tab l)) cutTable
 
 -- a line's fields put together again
-abbrev pub joins : List (List (List ℕ) × String)
-joins =
+abbrev pub joinTable : List (List (List ℕ) × String)
+joinTable =
     (bytes "7" ∷ [], "grid\t7")
     ∷ ([], "grid")
     ∷ (bytes "" ∷ bytes "7" ∷ [], "grid\t\t7")
@@ -38,19 +38,20 @@ joins =
 
 -- every row is right
 abbrev pub JoinsRight : Type 0
-JoinsRight = Writes (join tab (bytes "grid")) joins
+JoinsRight = Writes (join tab (bytes "grid")) joinTable
 
 -- whether two texts are the same
-abbrev pub sames : List ((String × String) × Bool)
-sames = (("plan", "plan"), true) ∷ (("plan", "pla"), false) ∷ (("pla", "plan"), false) ∷ (("Plan", "plan"), false) ∷ (("", ""), true) ∷ []
+abbrev pub sameTable : List ((String × String) × Bool)
+sameTable =
+    (("plan", "plan"), true) ∷ (("plan", "pla"), false) ∷ (("pla", "plan"), false) ∷ (("Plan", "plan"), false) ∷ (("", ""), true) ∷ []
 
 -- every row is right
 abbrev pub SamesRight : Type 0
-SamesRight = Right (λ q. same (bytes (q .0)) (bytes (q .1))) sames
+SamesRight = Right (λ q. same (bytes (q .0)) (bytes (q .1))) sameTable
 
 -- where a field of `grid\t7` that starts at an index ends
-abbrev pub ends : List Row
-ends =
+abbrev pub pieceEndTable : List Row
+pieceEndTable =
     holds (PieceEnd tab (bytes "grid\t7") 0 4)
     ∷ holds (PieceEnd tab (bytes "grid\t7") 5 6)
     ∷ holds (PieceEnd tab (bytes "grid\t7") 6 6)
@@ -62,8 +63,8 @@ ends =
 -- ---- numbers
 
 -- fields, and the number that each is
-abbrev pub numbers : List (String × Numeral)
-numbers =
+abbrev pub numberTable : List (String × Numeral)
+numberTable =
     ("0", Is 0)
     ∷ ("7", Is 7)
     ∷ ("64", Is 64)
@@ -84,12 +85,12 @@ numbers =
 
 -- every row is right
 abbrev pub NumbersRight : Type 0
-NumbersRight = Reads numberOf numbers
+NumbersRight = Reads numeralOf numberTable
 
 -- numbers, and their texts
-abbrev pub numerals : List (ℕ × String)
-numerals = (0, "0") ∷ (7, "7") ∷ (10, "10") ∷ (64, "64") ∷ (100, "100") ∷ (1025, "1025") ∷ (9999, "9999") ∷ []
+abbrev pub numeralTable : List (ℕ × String)
+numeralTable = (0, "0") ∷ (7, "7") ∷ (10, "10") ∷ (64, "64") ∷ (100, "100") ∷ (1025, "1025") ∷ (9999, "9999") ∷ []
 
 -- every row is right
 abbrev pub NumeralsRight : Type 0
-NumeralsRight = Writes numberText numerals
+NumeralsRight = Writes numberText numeralTable

@@ -8,14 +8,14 @@ use Rattle.busset.specs.Sets.{setOf}
 use Rattle.rules.specs.Figures.{figure, Runs}
 use Rattle.grid.specs.declared.Case.{Case}
 use Rattle.grid.specs.Cases.{gridOf, Valid}
-use Rattle.tables.specs.Starred.{wordOf, caseOf, seven}
+use Rattle.tables.specs.Starred.{setWord, drawnCase, seven}
 use Rattle.observe_calls.specs.Replies.{stated}
 use Rattle.tables.specs.Tables.{Right, Row, holds, fails}
 use Rattle.tables.specs.Drawings.{set, sevenGrid}
 
 -- the observed buses, i and j, and the figure of i towards j in the seven-bus grid; negsuc k is -(k + 1)
-abbrev pub figures : List ((List ℕ × ℕ × ℕ) × ℤ)
-figures =
+abbrev pub figureTable : List ((List ℕ × ℕ × ℕ) × ℤ)
+figureTable =
     -- document 01's, with a unit at 2
     ((1 ∷ 2 ∷ 3 ∷ [], 3, 7), pos 0)
     ∷ ((1 ∷ 2 ∷ 3 ∷ [], 3, 2), negsuc 0)
@@ -35,23 +35,23 @@ figures =
 
 -- every row is right
 abbrev pub FiguresRight : Type 0
-FiguresRight = Right (λ q. figure (sevenGrid [] .neighbours) (set (q .0)) (q .1) (q .2)) figures
+FiguresRight = Right (λ q. figure (sevenGrid [] .neighbours) (set (q .0)) (q .1) (q .2)) figureTable
 
 -- 64 buses, of which 1 is joined to every other
 abbrev pub star : Case
 star = record { n = 64; nbr = (2 ^ 64 - 2) ∷ replicate 63 1; zero = 0; site = 0; units = 0 }
 
 -- its figures of 1 towards 2 where no bus is observed, and where all are: the lowest and the highest that there are
-abbrev pub ends : List Row
-ends =
+abbrev pub figureEndTable : List Row
+figureEndTable =
     holds (Valid star)
     ∷ holds (figure (gridOf star .neighbours) (set []) 1 2 ≡ negsuc 61)
     ∷ holds (figure (gridOf star .neighbours) (setOf (2 ^ 64 - 1)) 1 2 ≡ pos 1)
     ∷ []
 
 -- where the figure runs: from -62 to 1
-abbrev pub runs : List Row
-runs =
+abbrev pub figureRunTable : List Row
+figureRunTable =
     holds (Runs 62 (negsuc 61))
     ∷ fails (Runs 62 (negsuc 62))
     ∷ holds (Runs 62 (pos 1))
@@ -59,9 +59,9 @@ runs =
     ∷ []
 
 -- stated sets on the seven buses, and what counts: buses above n are ignored
-abbrev pub statedSets : List (List ℕ × ℕ)
-statedSets = (1 ∷ 7 ∷ [], set (1 ∷ 7 ∷ [])) ∷ (1 ∷ 8 ∷ 64 ∷ [], set (1 ∷ [])) ∷ (8 ∷ [], set []) ∷ []
+abbrev pub statedSetTable : List (List ℕ × ℕ)
+statedSetTable = (1 ∷ 7 ∷ [], set (1 ∷ 7 ∷ [])) ∷ (1 ∷ 8 ∷ 64 ∷ [], set (1 ∷ [])) ∷ (8 ∷ [], set []) ∷ []
 
 -- every row is right
 abbrev pub StatedRight : Type 0
-StatedRight = Right (λ bs. stated (caseOf (seven [])) (wordOf bs)) statedSets
+StatedRight = Right (λ bs. stated (drawnCase (seven [])) (setWord bs)) statedSetTable

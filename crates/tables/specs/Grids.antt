@@ -8,15 +8,15 @@ use Rattle.busset.specs.Sets.{width}
 use Rattle.rules.specs.Grids.{Line, Proper, total, lineCount}
 use Rattle.grid.specs.declared.Case.{Case}
 use Rattle.grid.specs.Cases.{mostBuses, mostLines, mostSteps, mostBudget, mostGreedyBudget, neighbours, gridOf, LinesAt, Lines, Valid, mostBytes, mostStepBytes}
-use Rattle.tables.specs.Starred.{caseOf, seven, path}
+use Rattle.tables.specs.Starred.{drawnCase, seven, path}
 use Rattle.tables.specs.Tables.{Right, Row, holds, fails}
-use Rattle.tables.specs.Drawings.{set, value, sevenGrid, grid}
+use Rattle.tables.specs.Drawings.{set, value, sevenGrid, drawnGrid}
 
 -- ---- document 01's numbers
 
 -- each limit, and its number
-abbrev pub limits : List (ℕ × ℕ)
-limits =
+abbrev pub limitTable : List (ℕ × ℕ)
+limitTable =
     (mostBuses, 64)
     ∷ (width, 64)
     ∷ (mostLines, 256)
@@ -29,13 +29,13 @@ limits =
 
 -- every row is right
 abbrev pub LimitsRight : Type 0
-LimitsRight = Right (λ k. k) limits
+LimitsRight = Right (λ k. k) limitTable
 
 -- ---- the grid that a case value says
 
 -- the neighbours of a number in the seven-bus grid
-abbrev pub neighboursOf : List (ℕ × ℕ)
-neighboursOf =
+abbrev pub neighbourTable : List (ℕ × ℕ)
+neighbourTable =
     (1, set (2 ∷ []))
     ∷ (2, set (1 ∷ 3 ∷ []))
     ∷ (3, set (2 ∷ 4 ∷ 7 ∷ []))
@@ -50,11 +50,11 @@ neighboursOf =
 
 -- every row is right
 abbrev pub NeighboursRight : Type 0
-NeighboursRight = Right (neighbours (caseOf (seven []) .nbr)) neighboursOf
+NeighboursRight = Right (neighbours (drawnCase (seven []) .nbr)) neighbourTable
 
 -- the seven-bus grid with a unit at 3: n, the neighbours of 3, the Z buses, the Y sites and the units
-abbrev pub parts : List (ℕ × ℕ)
-parts =
+abbrev pub gridPartTable : List (ℕ × ℕ)
+gridPartTable =
     (sevenGrid (3 ∷ []) .n, 7)
     ∷ (sevenGrid (3 ∷ []) .neighbours 3, set (2 ∷ 4 ∷ 7 ∷ []))
     ∷ (sevenGrid (3 ∷ []) .zeros, set (2 ∷ 3 ∷ 5 ∷ []))
@@ -63,22 +63,22 @@ parts =
     ∷ []
 
 -- every row is right
-abbrev pub PartsRight : Type 0
-PartsRight = Right (λ k. k) parts
+abbrev pub GridPartsRight : Type 0
+GridPartsRight = Right (λ k. k) gridPartTable
 
 -- sums over the buses 1 to n, and how many lines a grid has
-abbrev pub sums : List (ℕ × ℕ)
-sums =
+abbrev pub sumTable : List (ℕ × ℕ)
+sumTable =
     (total 0 (λ b. b), 0)
     ∷ (total 4 (λ b. b), 10)
     ∷ (lineCount 7 (sevenGrid [] .neighbours), 6)
-    ∷ (lineCount 5 (grid path .neighbours), 4)
+    ∷ (lineCount 5 (drawnGrid path .neighbours), 4)
     ∷ (lineCount 3 (λ b. set []), 0)
     ∷ []
 
 -- every row is right
 abbrev pub SumsRight : Type 0
-SumsRight = Right (λ k. k) sums
+SumsRight = Right (λ k. k) sumTable
 
 -- ---- lines
 
@@ -103,31 +103,31 @@ abbrev pub high : List (List ℕ)
 high = [] ∷ [] ∷ (4 ∷ []) ∷ (3 ∷ []) ∷ []
 
 -- the neighbours where these are the rows
-abbrev pub near : List (List ℕ) → ℕ → ℕ
-near rows = neighbours (value 2 rows [] [] [] .nbr)
+abbrev pub neighboursIn : List (List ℕ) → ℕ → ℕ
+neighboursIn rows = neighbours (value 2 rows [] [] [] .nbr)
 
 -- what is a line, and what is none
-abbrev pub lines : List Row
-lines =
-    holds (Line 2 (near pair) 1 2)
-    ∷ fails (Line 2 (near oneSided) 1 2)
-    ∷ fails (Line 2 (near looped) 1 1)
-    ∷ fails (Line 2 (near far) 1 3)
-    ∷ holds (Line 3 (near far) 1 3)
-    ∷ holds (LinesAt 2 (near pair) 1)
-    ∷ holds (LinesAt 2 (near pair) 3)
-    ∷ fails (LinesAt 2 (near oneSided) 1)
-    ∷ holds (Lines 2 (near pair))
-    ∷ fails (Lines 2 (near far))
+abbrev pub lineTable : List Row
+lineTable =
+    holds (Line 2 (neighboursIn pair) 1 2)
+    ∷ fails (Line 2 (neighboursIn oneSided) 1 2)
+    ∷ fails (Line 2 (neighboursIn looped) 1 1)
+    ∷ fails (Line 2 (neighboursIn far) 1 3)
+    ∷ holds (Line 3 (neighboursIn far) 1 3)
+    ∷ holds (LinesAt 2 (neighboursIn pair) 1)
+    ∷ holds (LinesAt 2 (neighboursIn pair) 3)
+    ∷ fails (LinesAt 2 (neighboursIn oneSided) 1)
+    ∷ holds (Lines 2 (neighboursIn pair))
+    ∷ fails (Lines 2 (neighboursIn far))
     ∷ []
 
 -- ---- which case values are valid
 
 -- what 5 does not refuse, and for each clause of it a value that it refuses
-abbrev pub valid : List Row
-valid =
-    holds (Valid (caseOf (seven (3 ∷ []))))
-    ∷ holds (Valid (caseOf path))
+abbrev pub validTable : List Row
+validTable =
+    holds (Valid (drawnCase (seven (3 ∷ []))))
+    ∷ holds (Valid (drawnCase path))
     ∷ holds (Valid (value 1 [] [] [] []))
     ∷ holds (Valid (value 64 [] [] [] (64 ∷ [])))
     ∷ holds (Valid (value 2 pair (1 ∷ []) (1 ∷ 2 ∷ []) (2 ∷ [])))
@@ -158,12 +158,12 @@ abbrev pub crowd : ℕ → Case
 crowd k = record { n = 24; nbr = crowdRows k 1 23 ++ (2 ^ k - 1) ∷ replicate 40 0; zero = 0; site = 0; units = 0 }
 
 -- 256 lines, and 257
-abbrev pub most : List Row
-most = holds (Valid (crowd 3)) ∷ fails (Valid (crowd 4)) ∷ []
+abbrev pub mostLinesTable : List Row
+mostLinesTable = holds (Valid (crowd 3)) ∷ fails (Valid (crowd 4)) ∷ []
 
 -- the same of a grid: every line is one, and every Z bus, Y site and unit is at a bus 1 to n
-abbrev pub proper : List Row
-proper =
+abbrev pub properTable : List Row
+properTable =
     holds (Proper (sevenGrid (3 ∷ [])))
     ∷ fails (Proper (gridOf (value 2 oneSided [] [] [])))
     ∷ fails (Proper (gridOf (value 2 pair [] [] (3 ∷ []))))

@@ -1,16 +1,16 @@
 -- Placing units: additions that cover, which comes first, the fewest, and greedy.
 use mathlib.Core.List.{List, [], _∷_}
 use Prim.Native.Nat.{ℕ, _≤_}
-use Rattle.rules.specs.Placing.{Full, Covers, Free, Rising, placed, Plan, Before, Earlier, Fewest, SomePlan}
-use Rattle.rules.specs.Choosing.{With, Best, NoneAdds, Greedy}
+use Rattle.rules.specs.Placing.{Full, Covers, Free, Rising, placed, Addition, Before, Earlier, FewestSites, SomeAddition}
+use Rattle.rules.specs.Choosing.{WithSite, Best, NoneAdds, GreedyList}
 use Rattle.tables.specs.Tables.{Right, Row, holds, fails}
-use Rattle.tables.specs.Drawings.{set, grid, sevenGrid, apart, barred, trio, hub}
+use Rattle.tables.specs.Drawings.{set, drawnGrid, sevenGrid, apart, barred, trio, hub}
 
 -- ---- additions
 
 -- where a new unit may go: a Y site without a unit
-abbrev pub free : List Row
-free =
+abbrev pub freeTable : List Row
+freeTable =
     holds (Free (sevenGrid (4 ∷ [])) 1)
     ∷ fails (Free (sevenGrid (4 ∷ [])) 4)
     -- bus 1 has site N
@@ -21,8 +21,8 @@ free =
     ∷ []
 
 -- rising lists of numbers up to 7
-abbrev pub rising : List Row
-rising =
+abbrev pub risingTable : List Row
+risingTable =
     holds (Rising (λ x. x ≤ 7) 0 (1 ∷ 4 ∷ 7 ∷ []))
     ∷ holds (Rising (λ x. x ≤ 7) 0 [])
     ∷ fails (Rising (λ x. x ≤ 7) 0 (4 ∷ 1 ∷ []))
@@ -32,20 +32,20 @@ rising =
     ∷ []
 
 -- a set and a list of sites, and the set with them
-abbrev pub placings : List ((ℕ × List ℕ) × ℕ)
-placings =
+abbrev pub placedTable : List ((ℕ × List ℕ) × ℕ)
+placedTable =
     ((set [], 1 ∷ 4 ∷ []), set (1 ∷ 4 ∷ []))
     ∷ ((set (3 ∷ []), 1 ∷ 4 ∷ []), set (1 ∷ 3 ∷ 4 ∷ []))
     ∷ ((set (3 ∷ []), []), set (3 ∷ []))
     ∷ []
 
 -- every row is right
-abbrev pub PlacingsRight : Type 0
-PlacingsRight = Right (λ q. placed (q .0) (q .1)) placings
+abbrev pub PlacedRight : Type 0
+PlacedRight = Right (λ q. placed (q .0) (q .1)) placedTable
 
 -- all buses, and units that make all of them observed
-abbrev pub covers : List Row
-covers =
+abbrev pub coversTable : List Row
+coversTable =
     holds (Full 7 (set (1 ∷ 2 ∷ 3 ∷ 4 ∷ 5 ∷ 6 ∷ 7 ∷ [])))
     ∷ fails (Full 7 (set (1 ∷ 2 ∷ 3 ∷ 4 ∷ 5 ∷ 7 ∷ [])))
     ∷ holds (Covers (sevenGrid []) (set (1 ∷ 4 ∷ [])))
@@ -55,29 +55,29 @@ covers =
     ∷ []
 
 -- additions within a budget that make all seven buses observed
-abbrev pub plan : List Row
-plan =
-    holds (Plan (sevenGrid []) 2 (1 ∷ 4 ∷ []))
-    ∷ holds (Plan (sevenGrid []) 8 (1 ∷ 4 ∷ []))
-    ∷ holds (Plan (sevenGrid []) 2 (3 ∷ 4 ∷ []))
+abbrev pub additionTable : List Row
+additionTable =
+    holds (Addition (sevenGrid []) 2 (1 ∷ 4 ∷ []))
+    ∷ holds (Addition (sevenGrid []) 8 (1 ∷ 4 ∷ []))
+    ∷ holds (Addition (sevenGrid []) 2 (3 ∷ 4 ∷ []))
     -- over the budget
-    ∷ fails (Plan (sevenGrid []) 1 (1 ∷ 4 ∷ []))
+    ∷ fails (Addition (sevenGrid []) 1 (1 ∷ 4 ∷ []))
     -- not rising
-    ∷ fails (Plan (sevenGrid []) 2 (4 ∷ 1 ∷ []))
+    ∷ fails (Addition (sevenGrid []) 2 (4 ∷ 1 ∷ []))
     -- not all are observed
-    ∷ fails (Plan (sevenGrid []) 2 (3 ∷ []))
+    ∷ fails (Addition (sevenGrid []) 2 (3 ∷ []))
     -- installed units stay, and the budget counts new ones
-    ∷ holds (Plan (sevenGrid (4 ∷ [])) 1 (1 ∷ []))
-    ∷ fails (Plan (sevenGrid (4 ∷ [])) 2 (1 ∷ 4 ∷ []))
+    ∷ holds (Addition (sevenGrid (4 ∷ [])) 1 (1 ∷ []))
+    ∷ fails (Addition (sevenGrid (4 ∷ [])) 2 (1 ∷ 4 ∷ []))
     -- a site N
-    ∷ fails (Plan (barred []) 1 (1 ∷ []))
+    ∷ fails (Addition (barred []) 1 (1 ∷ []))
     ∷ []
 
 -- ---- which comes first
 
 -- number by number
-abbrev pub before : List Row
-before =
+abbrev pub beforeTable : List Row
+beforeTable =
     holds (Before (1 ∷ 4 ∷ []) (2 ∷ 3 ∷ []))
     ∷ fails (Before (2 ∷ 3 ∷ []) (1 ∷ 4 ∷ []))
     ∷ holds (Before (1 ∷ 3 ∷ []) (1 ∷ 4 ∷ []))
@@ -86,8 +86,8 @@ before =
     ∷ []
 
 -- by number of sites first, then number by number
-abbrev pub earlier : List Row
-earlier =
+abbrev pub earlierTable : List Row
+earlierTable =
     holds (Earlier (1 ∷ []) (1 ∷ 4 ∷ []))
     ∷ fails (Earlier (1 ∷ 4 ∷ []) (1 ∷ []))
     ∷ holds (Earlier (4 ∷ []) (1 ∷ 2 ∷ 3 ∷ []))
@@ -100,49 +100,49 @@ earlier =
 -- ---- the fewest
 
 -- within a budget, the fewest, or none
-abbrev pub fewest : List Row
-fewest =
-    holds (Fewest (sevenGrid []) 2 (set (1 ∷ 4 ∷ [])))
-    ∷ holds (Fewest (sevenGrid []) 3 (set (1 ∷ 4 ∷ [])))
+abbrev pub fewestSitesTable : List Row
+fewestSitesTable =
+    holds (FewestSites (sevenGrid []) 2 (set (1 ∷ 4 ∷ [])))
+    ∷ holds (FewestSites (sevenGrid []) 3 (set (1 ∷ 4 ∷ [])))
     -- greedy's, which covers too, and comes later
-    ∷ fails (Fewest (sevenGrid []) 2 (set (3 ∷ 4 ∷ [])))
+    ∷ fails (FewestSites (sevenGrid []) 2 (set (3 ∷ 4 ∷ [])))
     -- the budget is not to be spent
-    ∷ fails (Fewest (sevenGrid []) 3 (set (1 ∷ 2 ∷ 4 ∷ [])))
-    ∷ holds (SomePlan (sevenGrid []) 2)
-    ∷ fails (SomePlan (sevenGrid []) 1)
-    ∷ fails (Fewest (sevenGrid []) 1 (set (1 ∷ 4 ∷ [])))
+    ∷ fails (FewestSites (sevenGrid []) 3 (set (1 ∷ 2 ∷ 4 ∷ [])))
+    ∷ holds (SomeAddition (sevenGrid []) 2)
+    ∷ fails (SomeAddition (sevenGrid []) 1)
+    ∷ fails (FewestSites (sevenGrid []) 1 (set (1 ∷ 4 ∷ [])))
     -- one site, though the list 1, 2, 3 covers too and begins lower
-    ∷ holds (Fewest (grid hub) 3 (set (4 ∷ [])))
-    ∷ fails (Fewest (grid hub) 3 (set (1 ∷ 2 ∷ 3 ∷ [])))
+    ∷ holds (FewestSites (drawnGrid hub) 3 (set (4 ∷ [])))
+    ∷ fails (FewestSites (drawnGrid hub) 3 (set (1 ∷ 2 ∷ 3 ∷ [])))
     -- all are observed already
-    ∷ holds (Fewest (sevenGrid (1 ∷ 4 ∷ [])) 0 (set []))
+    ∷ holds (FewestSites (sevenGrid (1 ∷ 4 ∷ [])) 0 (set []))
     -- installed units stay
-    ∷ holds (Fewest (sevenGrid (4 ∷ [])) 1 (set (1 ∷ [])))
+    ∷ holds (FewestSites (sevenGrid (4 ∷ [])) 1 (set (1 ∷ [])))
     -- bus 1 would come first, and has site N
-    ∷ holds (Fewest (barred []) 1 (set (2 ∷ [])))
-    ∷ fails (Fewest (barred []) 1 (set (1 ∷ [])))
+    ∷ holds (FewestSites (barred []) 1 (set (2 ∷ [])))
+    ∷ fails (FewestSites (barred []) 1 (set (1 ∷ [])))
     ∷ []
 
 -- ---- greedy
 
 -- what a new unit makes observed
-abbrev pub with : List Row
-with =
-    holds (With (sevenGrid []) 3 (set (1 ∷ 2 ∷ 3 ∷ 4 ∷ 7 ∷ [])))
-    ∷ fails (With (sevenGrid []) 3 (set (2 ∷ 3 ∷ 4 ∷ 7 ∷ [])))
-    ∷ fails (With (sevenGrid (3 ∷ [])) 3 (set (1 ∷ 2 ∷ 3 ∷ 4 ∷ 7 ∷ [])))
-    ∷ fails (With (barred []) 1 (set (1 ∷ 2 ∷ [])))
+abbrev pub withSiteTable : List Row
+withSiteTable =
+    holds (WithSite (sevenGrid []) 3 (set (1 ∷ 2 ∷ 3 ∷ 4 ∷ 7 ∷ [])))
+    ∷ fails (WithSite (sevenGrid []) 3 (set (2 ∷ 3 ∷ 4 ∷ 7 ∷ [])))
+    ∷ fails (WithSite (sevenGrid (3 ∷ [])) 3 (set (1 ∷ 2 ∷ 3 ∷ 4 ∷ 7 ∷ [])))
+    ∷ fails (WithSite (barred []) 1 (set (1 ∷ 2 ∷ [])))
     ∷ []
 
 -- the site that makes the observed set largest, the lowest number on a tie
-abbrev pub best : List Row
-best =
+abbrev pub bestTable : List Row
+bestTable =
     holds (Best (sevenGrid []) 3)
     ∷ fails (Best (sevenGrid []) 4)
-    ∷ holds (Best (grid (apart [])) 1)
-    ∷ fails (Best (grid (apart [])) 2)
+    ∷ holds (Best (drawnGrid (apart [])) 1)
+    ∷ fails (Best (drawnGrid (apart [])) 2)
     -- also a bus that is observed already
-    ∷ holds (Best (grid (trio (1 ∷ []))) 2)
+    ∷ holds (Best (drawnGrid (trio (1 ∷ []))) 2)
     ∷ holds (Best (barred []) 2)
     -- no site adds a bus
     ∷ fails (Best (sevenGrid (1 ∷ 4 ∷ [])) 2)
@@ -151,19 +151,19 @@ best =
     ∷ []
 
 -- what greedy adds within a budget, in order
-abbrev pub greedy : List Row
-greedy =
-    holds (Greedy (sevenGrid []) 2 (3 ∷ 4 ∷ []))
-    ∷ fails (Greedy (sevenGrid []) 2 (4 ∷ 3 ∷ []))
-    ∷ fails (Greedy (sevenGrid []) 2 (1 ∷ 4 ∷ []))
+abbrev pub greedyListTable : List Row
+greedyListTable =
+    holds (GreedyList (sevenGrid []) 2 (3 ∷ 4 ∷ []))
+    ∷ fails (GreedyList (sevenGrid []) 2 (4 ∷ 3 ∷ []))
+    ∷ fails (GreedyList (sevenGrid []) 2 (1 ∷ 4 ∷ []))
     -- it stops when the budget is spent
-    ∷ holds (Greedy (sevenGrid []) 1 (3 ∷ []))
-    ∷ holds (Greedy (sevenGrid []) 0 [])
-    ∷ fails (Greedy (sevenGrid []) 1 (3 ∷ 4 ∷ []))
+    ∷ holds (GreedyList (sevenGrid []) 1 (3 ∷ []))
+    ∷ holds (GreedyList (sevenGrid []) 0 [])
+    ∷ fails (GreedyList (sevenGrid []) 1 (3 ∷ 4 ∷ []))
     -- not before, while a site adds a bus
-    ∷ fails (Greedy (sevenGrid []) 2 (3 ∷ []))
+    ∷ fails (GreedyList (sevenGrid []) 2 (3 ∷ []))
     -- and when no site adds a bus
-    ∷ holds (Greedy (sevenGrid []) 3 (3 ∷ 4 ∷ []))
-    ∷ holds (Greedy (sevenGrid (1 ∷ 4 ∷ [])) 64 [])
-    ∷ fails (Greedy (sevenGrid (1 ∷ 4 ∷ [])) 2 (2 ∷ []))
+    ∷ holds (GreedyList (sevenGrid []) 3 (3 ∷ 4 ∷ []))
+    ∷ holds (GreedyList (sevenGrid (1 ∷ 4 ∷ [])) 64 [])
+    ∷ fails (GreedyList (sevenGrid (1 ∷ 4 ∷ [])) 2 (2 ∷ []))
     ∷ []

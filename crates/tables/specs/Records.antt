@@ -18,26 +18,26 @@ use Rattle.tables.specs.Drawings.{own, near, zeroAt}
 -- ---- letters
 
 -- classes: whether it is Z
-abbrev pub classes : List (String × Mark)
-classes = ("Z", Is true) ∷ ("I", Is false) ∷ ("z", Neither) ∷ ("i", Neither) ∷ ("ZZ", Neither) ∷ ("", Neither) ∷ ("Y", Neither) ∷ []
+abbrev pub classTable : List (String × Mark)
+classTable = ("Z", Is true) ∷ ("I", Is false) ∷ ("z", Neither) ∷ ("i", Neither) ∷ ("ZZ", Neither) ∷ ("", Neither) ∷ ("Y", Neither) ∷ []
 
 -- every row is right
 abbrev pub ClassesRight : Type 0
-ClassesRight = Reads classOf classes
+ClassesRight = Reads classOf classTable
 
 -- sites: whether it is Y
-abbrev pub sites : List (String × Mark)
-sites = ("Y", Is true) ∷ ("N", Is false) ∷ ("y", Neither) ∷ ("n", Neither) ∷ ("YN", Neither) ∷ ("", Neither) ∷ ("Z", Neither) ∷ []
+abbrev pub siteTable : List (String × Mark)
+siteTable = ("Y", Is true) ∷ ("N", Is false) ∷ ("y", Neither) ∷ ("n", Neither) ∷ ("YN", Neither) ∷ ("", Neither) ∷ ("Z", Neither) ∷ []
 
 -- every row is right
 abbrev pub SitesRight : Type 0
-SitesRight = Reads siteOf sites
+SitesRight = Reads siteOf siteTable
 
 -- ---- the lines of a case text
 
 -- lines, and the record that each is
-abbrev pub records : List (String × Record)
-records =
+abbrev pub recordTable : List (String × Record)
+recordTable =
     ("grid\t7", Grid 7)
     ∷ ("grid\t0", Grid 0)
     ∷ ("bus\t1\tI\tY", Bus 1 false true)
@@ -83,11 +83,11 @@ records =
 
 -- every row is right
 abbrev pub RecordsRight : Type 0
-RecordsRight = Reads recordOf records
+RecordsRight = Reads recordOf recordTable
 
 -- records, and the line that each is
-abbrev pub recordLines : List (Record × String)
-recordLines =
+abbrev pub recordTextTable : List (Record × String)
+recordTextTable =
     (Grid 7, "grid\t7")
     ∷ (Bus 1 false true, "bus\t1\tI\tY")
     ∷ (Bus 64 true false, "bus\t64\tZ\tN")
@@ -97,12 +97,12 @@ recordLines =
     ∷ []
 
 -- every row is right
-abbrev pub RecordLinesRight : Type 0
-RecordLinesRight = Writes recordText recordLines
+abbrev pub RecordTextsRight : Type 0
+RecordTextsRight = Writes recordText recordTextTable
 
 -- records that have a text, and records that have none
-abbrev pub formed : List Row
-formed =
+abbrev pub formedTable : List Row
+formedTable =
     holds (Formed (Grid 9999))
     ∷ fails (Formed (Grid 10000))
     ∷ holds (Formed (Bus 9999 true true))
@@ -117,8 +117,8 @@ formed =
 -- ---- the lines of a step text
 
 -- lines, and the step that each is
-abbrev pub stepLines : List (String × StepLine)
-stepLines =
+abbrev pub stepLineTable : List (String × StepLine)
+stepLineTable =
     ("step\t3\tO", line.Step (own 3))
     ∷ ("step\t2\tN\t3", line.Step (near 2 3))
     ∷ ("step\t1\tZ\t2", line.Step (zeroAt 1 2))
@@ -149,12 +149,12 @@ stepLines =
 
 -- every row is right
 abbrev pub StepLinesRight : Type 0
-StepLinesRight = Reads stepLineOf stepLines
+StepLinesRight = Reads stepLineOf stepLineTable
 
 -- steps, and the line that each is
-abbrev pub stepTexts : List (Step × String)
-stepTexts = (near 2 3, "step\t2\tN\t3") ∷ (own 3, "step\t3\tO") ∷ (zeroAt 1 2, "step\t1\tZ\t2") ∷ (own 64, "step\t64\tO") ∷ []
+abbrev pub stepTextTable : List (Step × String)
+stepTextTable = (near 2 3, "step\t2\tN\t3") ∷ (own 3, "step\t3\tO") ∷ (zeroAt 1 2, "step\t1\tZ\t2") ∷ (own 64, "step\t64\tO") ∷ []
 
 -- every row is right
 abbrev pub StepTextsRight : Type 0
-StepTextsRight = Writes stepText stepTexts
+StepTextsRight = Writes stepText stepTextTable

@@ -5,12 +5,12 @@ use Rattle.refusals.specs.declared.Refusal.{Refusal}
 use Rattle.refusals.specs.declared.Refusal.the-variants.{TextTooLong, WrongForm, OutOfRange, OutOfOrder, InvalidCase, NoRoom}
 use Rattle.refusals.specs.declared.Refusal.the-variants.{NoSuchBus, AlreadyObserved, ReasonFails}
 use Rattle.refusals.specs.declared.Refusal.the-variants.{OverBudget, NoCover, TooManySteps, NotJoined}
-use Rattle.refusals.specs.Refusals.{numberOf, placeOf, Is, check, Passed, Failed}
+use Rattle.refusals.specs.Refusals.{numberOf, placeOf, Is, checkThat, Passed, Failed}
 use Rattle.tables.specs.Tables.{Right, Row, holds, fails}
 
 -- document 01's table: refusals, and the number and place of each
-abbrev pub table : List (Refusal × (ℕ × ℕ))
-table =
+abbrev pub refusalTable : List (Refusal × (ℕ × ℕ))
+refusalTable =
     (TextTooLong, (1, 0))
     ∷ (WrongForm 5, (2, 5))
     ∷ (OutOfRange 5, (3, 5))
@@ -30,22 +30,22 @@ table =
     ∷ []
 
 -- every row is right
-abbrev pub TableRight : Type 0
-TableRight = Right (λ r. (numberOf r, placeOf r)) table
+abbrev pub RefusalTableRight : Type 0
+RefusalTableRight = Right (λ r. (numberOf r, placeOf r)) refusalTable
 
 -- checks that pass, and the first that fails
-abbrev pub checked : List Row
-checked =
+abbrev pub checkTable : List Row
+checkTable =
     holds (Is 2 5 (WrongForm 5))
     ∷ fails (Is 3 5 (WrongForm 5))
     ∷ fails (Is 2 4 (WrongForm 5))
     ∷ holds (Passed [])
-    ∷ holds (Passed (check (1 ≤ 2) 5 0 ∷ check (2 ≤ 2) 10 0 ∷ []))
-    ∷ fails (Passed (check (1 ≤ 2) 5 0 ∷ check (3 ≤ 2) 10 0 ∷ []))
-    ∷ holds (Failed (check (3 ≤ 2) 5 0 ∷ check (3 ≤ 2) 10 0 ∷ []) InvalidCase)
-    ∷ fails (Failed (check (3 ≤ 2) 5 0 ∷ check (3 ≤ 2) 10 0 ∷ []) (OverBudget 0))
-    ∷ holds (Failed (check (1 ≤ 2) 5 0 ∷ check (3 ≤ 2) 10 0 ∷ []) (OverBudget 0))
-    ∷ fails (Failed (check (1 ≤ 2) 5 0 ∷ check (3 ≤ 2) 10 0 ∷ []) (OverBudget 1))
-    ∷ fails (Failed (check (1 ≤ 2) 5 0 ∷ check (2 ≤ 2) 10 0 ∷ []) (OverBudget 0))
+    ∷ holds (Passed (checkThat (1 ≤ 2) 5 0 ∷ checkThat (2 ≤ 2) 10 0 ∷ []))
+    ∷ fails (Passed (checkThat (1 ≤ 2) 5 0 ∷ checkThat (3 ≤ 2) 10 0 ∷ []))
+    ∷ holds (Failed (checkThat (3 ≤ 2) 5 0 ∷ checkThat (3 ≤ 2) 10 0 ∷ []) InvalidCase)
+    ∷ fails (Failed (checkThat (3 ≤ 2) 5 0 ∷ checkThat (3 ≤ 2) 10 0 ∷ []) (OverBudget 0))
+    ∷ holds (Failed (checkThat (1 ≤ 2) 5 0 ∷ checkThat (3 ≤ 2) 10 0 ∷ []) (OverBudget 0))
+    ∷ fails (Failed (checkThat (1 ≤ 2) 5 0 ∷ checkThat (3 ≤ 2) 10 0 ∷ []) (OverBudget 1))
+    ∷ fails (Failed (checkThat (1 ≤ 2) 5 0 ∷ checkThat (2 ≤ 2) 10 0 ∷ []) (OverBudget 0))
     ∷ fails (Failed [] InvalidCase)
     ∷ []

@@ -26,134 +26,134 @@ use Rattle.list_derive.specs.declared.DerivationAnswer.the-variants as derived
 use Rattle.place_calls.specs.declared.Verdict.the-variants as verdict
 use Rattle.place_calls.specs.declared.Greedy.the-variants as greedy
 use Rattle.place_calls.specs.declared.Fewest.the-variants as fewest
-use Rattle.tables.specs.Starred.{wordOf, caseOf, seven}
+use Rattle.tables.specs.Starred.{setWord, drawnCase, seven}
 use Rattle.tables.specs.Tables.{Row, holds, fails}
 use Rattle.tables.specs.Drawings.{own, near, zeroAt, value}
-use Rattle.tables.specs.Steps.{derivation}
+use Rattle.tables.specs.Steps.{derivationSteps}
 
 -- the seven buses with these units
-abbrev pub case : List ℕ → Case
-case units = caseOf (seven units)
+abbrev pub sevenCase : List ℕ → Case
+sevenCase units = drawnCase (seven units)
 
 -- a case value that 5 refuses
-abbrev pub bad : Case
-bad = value 0 [] [] [] []
+abbrev pub badCase : Case
+badCase = value 0 [] [] [] []
 
 -- ---- one question
 
 -- the firing figure of i towards j where these buses are stated: 5, 7, 13
-abbrev pub figures : List Row
-figures =
-    holds (FigureReply (case (2 ∷ [])) (wordOf (1 ∷ 2 ∷ 3 ∷ 8 ∷ [])) 2 1 (figured.Figure (pos 1)))
-    ∷ fails (FigureReply (case (2 ∷ [])) (wordOf (1 ∷ 2 ∷ 3 ∷ [])) 3 7 (figured.Figure (pos 1)))
-    ∷ holds (FigureReply bad 0 9 9 (figured.Refused InvalidCase))
-    ∷ holds (FigureReply (case []) 0 9 9 (figured.Refused (NoSuchBus 0)))
-    ∷ holds (FigureReply (case []) 0 0 1 (figured.Refused (NoSuchBus 0)))
-    ∷ holds (FigureReply (case []) 0 1 8 (figured.Refused (NoSuchBus 0)))
-    ∷ holds (FigureReply (case []) 0 1 3 (figured.Refused NotJoined))
+abbrev pub figureReplyTable : List Row
+figureReplyTable =
+    holds (FigureReply (sevenCase (2 ∷ [])) (setWord (1 ∷ 2 ∷ 3 ∷ 8 ∷ [])) 2 1 (figured.Figure (pos 1)))
+    ∷ fails (FigureReply (sevenCase (2 ∷ [])) (setWord (1 ∷ 2 ∷ 3 ∷ [])) 3 7 (figured.Figure (pos 1)))
+    ∷ holds (FigureReply badCase 0 9 9 (figured.Refused InvalidCase))
+    ∷ holds (FigureReply (sevenCase []) 0 9 9 (figured.Refused (NoSuchBus 0)))
+    ∷ holds (FigureReply (sevenCase []) 0 0 1 (figured.Refused (NoSuchBus 0)))
+    ∷ holds (FigureReply (sevenCase []) 0 1 8 (figured.Refused (NoSuchBus 0)))
+    ∷ holds (FigureReply (sevenCase []) 0 1 3 (figured.Refused NotJoined))
     -- a bus is not joined to itself
-    ∷ holds (FigureReply (case []) 0 3 3 (figured.Refused NotJoined))
-    ∷ fails (FigureReply (case []) 0 3 3 (figured.Figure (pos 1)))
+    ∷ holds (FigureReply (sevenCase []) 0 3 3 (figured.Refused NotJoined))
+    ∷ fails (FigureReply (sevenCase []) 0 3 3 (figured.Figure (pos 1)))
     ∷ []
 
 -- a step tested alone is step 1: 5, 7, 8, 9
-abbrev pub tests : List Row
-tests =
-    holds (StepReply (case (3 ∷ [])) (wordOf []) (near 2 3) tested.Allowed)
-    ∷ holds (StepReply bad (wordOf []) (own 8) (tested.Refused InvalidCase))
-    ∷ holds (StepReply (case (3 ∷ [])) (wordOf []) (near 2 8) (tested.Refused (NoSuchBus 1)))
+abbrev pub stepReplyTable : List Row
+stepReplyTable =
+    holds (StepReply (sevenCase (3 ∷ [])) (setWord []) (near 2 3) tested.Allowed)
+    ∷ holds (StepReply badCase (setWord []) (own 8) (tested.Refused InvalidCase))
+    ∷ holds (StepReply (sevenCase (3 ∷ [])) (setWord []) (near 2 8) (tested.Refused (NoSuchBus 1)))
     -- 7 before 8: the bus is observed, and the reason names bus 0
-    ∷ holds (StepReply (case (3 ∷ [])) (wordOf (2 ∷ [])) (near 2 0) (tested.Refused (NoSuchBus 1)))
+    ∷ holds (StepReply (sevenCase (3 ∷ [])) (setWord (2 ∷ [])) (near 2 0) (tested.Refused (NoSuchBus 1)))
     -- 8 before 9: the bus is observed, and the reason is false
-    ∷ holds (StepReply (case (3 ∷ [])) (wordOf (1 ∷ [])) (zeroAt 1 2) (tested.Refused (AlreadyObserved 1)))
-    ∷ holds (StepReply (case (3 ∷ [])) (wordOf []) (zeroAt 1 2) (tested.Refused (ReasonFails 1)))
+    ∷ holds (StepReply (sevenCase (3 ∷ [])) (setWord (1 ∷ [])) (zeroAt 1 2) (tested.Refused (AlreadyObserved 1)))
+    ∷ holds (StepReply (sevenCase (3 ∷ [])) (setWord []) (zeroAt 1 2) (tested.Refused (ReasonFails 1)))
     -- 7 and not 8, where the bus is stated and above n
-    ∷ holds (StepReply (case (3 ∷ [])) (wordOf (8 ∷ [])) (own 8) (tested.Refused (NoSuchBus 1)))
+    ∷ holds (StepReply (sevenCase (3 ∷ [])) (setWord (8 ∷ [])) (own 8) (tested.Refused (NoSuchBus 1)))
     ∷ []
 
 -- ---- lists
 
 -- replay: 5, 12, then 7, 8, 9 at the first bad step
-abbrev pub replays : List Row
-replays =
-    holds (ReplayReply (case (3 ∷ [])) derivation (replayed.Reached (wordOf (1 ∷ 2 ∷ 3 ∷ 4 ∷ 7 ∷ [])) true))
+abbrev pub replayReplyTable : List Row
+replayReplyTable =
+    holds (ReplayReply (sevenCase (3 ∷ [])) derivationSteps (replayed.Reached (setWord (1 ∷ 2 ∷ 3 ∷ 4 ∷ 7 ∷ [])) true))
     -- an unfinished list is an answer
-    ∷ holds (ReplayReply (case (3 ∷ [])) (near 2 3 ∷ []) (replayed.Reached (wordOf (2 ∷ [])) false))
-    ∷ holds (ReplayReply (case (3 ∷ [])) [] (replayed.Reached (wordOf []) false))
-    ∷ holds (ReplayReply (case []) [] (replayed.Reached (wordOf []) true))
-    ∷ fails (ReplayReply (case []) [] (replayed.Reached (wordOf []) false))
-    ∷ holds (ReplayReply bad (own 9 ∷ []) (replayed.Refused InvalidCase))
+    ∷ holds (ReplayReply (sevenCase (3 ∷ [])) (near 2 3 ∷ []) (replayed.Reached (setWord (2 ∷ [])) false))
+    ∷ holds (ReplayReply (sevenCase (3 ∷ [])) [] (replayed.Reached (setWord []) false))
+    ∷ holds (ReplayReply (sevenCase []) [] (replayed.Reached (setWord []) true))
+    ∷ fails (ReplayReply (sevenCase []) [] (replayed.Reached (setWord []) false))
+    ∷ holds (ReplayReply badCase (own 9 ∷ []) (replayed.Refused InvalidCase))
     -- 12 before any step is looked at
-    ∷ holds (ReplayReply (case (3 ∷ [])) (replicate 1025 (own 9)) (replayed.Refused (TooManySteps 0)))
-    ∷ holds (ReplayReply (case (3 ∷ [])) (near 2 3 ∷ near 2 3 ∷ []) (replayed.Refused (AlreadyObserved 2)))
+    ∷ holds (ReplayReply (sevenCase (3 ∷ [])) (replicate 1025 (own 9)) (replayed.Refused (TooManySteps 0)))
+    ∷ holds (ReplayReply (sevenCase (3 ∷ [])) (near 2 3 ∷ near 2 3 ∷ []) (replayed.Refused (AlreadyObserved 2)))
     -- 7 before 8 in one step
-    ∷ holds (ReplayReply (case (3 ∷ [])) (own 3 ∷ near 3 0 ∷ []) (replayed.Refused (NoSuchBus 2)))
+    ∷ holds (ReplayReply (sevenCase (3 ∷ [])) (own 3 ∷ near 3 0 ∷ []) (replayed.Refused (NoSuchBus 2)))
     -- an earlier 9 before a later 7
-    ∷ holds (ReplayReply (case (3 ∷ [])) (zeroAt 1 2 ∷ own 8 ∷ []) (replayed.Refused (ReasonFails 1)))
-    ∷ fails (ReplayReply (case (3 ∷ [])) (zeroAt 1 2 ∷ own 8 ∷ []) (replayed.Refused (NoSuchBus 2)))
+    ∷ holds (ReplayReply (sevenCase (3 ∷ [])) (zeroAt 1 2 ∷ own 8 ∷ []) (replayed.Refused (ReasonFails 1)))
+    ∷ fails (ReplayReply (sevenCase (3 ∷ [])) (zeroAt 1 2 ∷ own 8 ∷ []) (replayed.Refused (NoSuchBus 2)))
     ∷ []
 
 -- weaving, with the records before and after: 5, 12, then 7, 9 at the first bad step, then 6
-abbrev pub weaves : List Row
-weaves =
+abbrev pub weaveReplyTable : List Row
+weaveReplyTable =
     -- a step for an observed bus is passed over, also where its reason is false; the rest of the records stays
-    holds (WeaveReply (case (3 ∷ [])) (own 3 ∷ near 3 1 ∷ near 2 3 ∷ []) (own 7 ∷ own 8 ∷ own 9 ∷ []) (own 3 ∷ near 2 3 ∷ own 9 ∷ [])
-    (wove.Written 2 (wordOf (2 ∷ 3 ∷ []))))
+    holds (WeaveReply (sevenCase (3 ∷ [])) (own 3 ∷ near 3 1 ∷ near 2 3 ∷ []) (own 7 ∷ own 8 ∷ own 9 ∷ []) (own 3 ∷ near 2 3 ∷ own 9 ∷ [])
+    (wove.Written 2 (setWord (2 ∷ 3 ∷ []))))
     -- but its numbers are checked
-    ∷ holds (WeaveReply (case (3 ∷ [])) (own 3 ∷ near 3 8 ∷ []) (own 7 ∷ []) (own 7 ∷ []) (wove.Refused (NoSuchBus 2)))
-    ∷ holds (WeaveReply (case (3 ∷ [])) (zeroAt 1 2 ∷ []) (own 7 ∷ []) (own 7 ∷ []) (wove.Refused (ReasonFails 1)))
+    ∷ holds (WeaveReply (sevenCase (3 ∷ [])) (own 3 ∷ near 3 8 ∷ []) (own 7 ∷ []) (own 7 ∷ []) (wove.Refused (NoSuchBus 2)))
+    ∷ holds (WeaveReply (sevenCase (3 ∷ [])) (zeroAt 1 2 ∷ []) (own 7 ∷ []) (own 7 ∷ []) (wove.Refused (ReasonFails 1)))
     -- 6 compares what is written with the room
-    ∷ holds (WeaveReply (case (3 ∷ [])) (own 3 ∷ own 3 ∷ own 3 ∷ []) (own 7 ∷ []) (own 3 ∷ []) (wove.Written 1 (wordOf (3 ∷ []))))
-    ∷ holds (WeaveReply (case (3 ∷ [])) (own 3 ∷ near 2 3 ∷ []) (own 7 ∷ []) (own 7 ∷ []) (wove.Refused NoRoom))
+    ∷ holds (WeaveReply (sevenCase (3 ∷ [])) (own 3 ∷ own 3 ∷ own 3 ∷ []) (own 7 ∷ []) (own 3 ∷ []) (wove.Written 1 (setWord (3 ∷ []))))
+    ∷ holds (WeaveReply (sevenCase (3 ∷ [])) (own 3 ∷ near 2 3 ∷ []) (own 7 ∷ []) (own 7 ∷ []) (wove.Refused NoRoom))
     -- a refusal writes nothing
-    ∷ fails (WeaveReply (case (3 ∷ [])) (own 3 ∷ near 2 3 ∷ []) (own 7 ∷ []) (own 3 ∷ []) (wove.Refused NoRoom))
+    ∷ fails (WeaveReply (sevenCase (3 ∷ [])) (own 3 ∷ near 2 3 ∷ []) (own 7 ∷ []) (own 3 ∷ []) (wove.Refused NoRoom))
     -- 6 comes last
-    ∷ holds (WeaveReply (case (3 ∷ [])) (own 3 ∷ near 2 3 ∷ zeroAt 6 5 ∷ []) (own 7 ∷ []) (own 7 ∷ []) (wove.Refused (ReasonFails 3)))
+    ∷ holds (WeaveReply (sevenCase (3 ∷ [])) (own 3 ∷ near 2 3 ∷ zeroAt 6 5 ∷ []) (own 7 ∷ []) (own 7 ∷ []) (wove.Refused (ReasonFails 3)))
     ∷ []
 
 -- ---- whole cases
 
 -- the observed set and the derivation: 5
-abbrev pub sets : List Row
-sets =
-    holds (ObservedReply (case (3 ∷ [])) (observed.Set (wordOf (1 ∷ 2 ∷ 3 ∷ 4 ∷ 7 ∷ []))))
-    ∷ fails (ObservedReply (case (3 ∷ [])) (observed.Set (wordOf (2 ∷ 3 ∷ 4 ∷ 7 ∷ []))))
-    ∷ holds (ObservedReply bad (observed.Refused InvalidCase))
-    ∷ fails (ObservedReply (case (3 ∷ [])) (observed.Refused InvalidCase))
-    ∷ holds (DerivationReply (case (3 ∷ [])) (record { answer = derived.Found; list = listOf derivation }))
-    ∷ holds (DerivationReply bad (record { answer = derived.Refused InvalidCase; list = listOf [] }))
-    ∷ holds (VerdictReply (case (3 ∷ [])) (verdict.Unconfirmed (wordOf (3 ∷ []))))
-    ∷ holds (VerdictReply bad (verdict.Refused InvalidCase))
+abbrev pub caseReplyTable : List Row
+caseReplyTable =
+    holds (ObservedReply (sevenCase (3 ∷ [])) (observed.Set (setWord (1 ∷ 2 ∷ 3 ∷ 4 ∷ 7 ∷ []))))
+    ∷ fails (ObservedReply (sevenCase (3 ∷ [])) (observed.Set (setWord (2 ∷ 3 ∷ 4 ∷ 7 ∷ []))))
+    ∷ holds (ObservedReply badCase (observed.Refused InvalidCase))
+    ∷ fails (ObservedReply (sevenCase (3 ∷ [])) (observed.Refused InvalidCase))
+    ∷ holds (DerivationReply (sevenCase (3 ∷ [])) (record { answer = derived.Found; list = listOf derivationSteps }))
+    ∷ holds (DerivationReply badCase (record { answer = derived.Refused InvalidCase; list = listOf [] }))
+    ∷ holds (VerdictReply (sevenCase (3 ∷ [])) (verdict.Unconfirmed (setWord (3 ∷ []))))
+    ∷ holds (VerdictReply badCase (verdict.Refused InvalidCase))
     ∷ []
 
 -- greedy, with the budget and the room before and after: 5, 10, 6
-abbrev pub greedies : List Row
-greedies =
-    holds (GreedyReply (case []) 2 (7 ∷ 8 ∷ 9 ∷ []) (3 ∷ 4 ∷ 9 ∷ []) (greedy.Added 2))
-    ∷ holds (GreedyReply bad 65 [] [] (greedy.Refused InvalidCase))
-    ∷ holds (GreedyReply (case []) 65 [] [] (greedy.Refused (OverBudget 0)))
-    ∷ holds (GreedyReply (case []) 2 (7 ∷ []) (7 ∷ []) (greedy.Refused NoRoom))
-    ∷ fails (GreedyReply (case []) 2 (7 ∷ []) (3 ∷ []) (greedy.Refused NoRoom))
-    ∷ holds (GreedyReply (case []) 0 [] [] (greedy.Added 0))
+abbrev pub greedyReplyTable : List Row
+greedyReplyTable =
+    holds (GreedyReply (sevenCase []) 2 (7 ∷ 8 ∷ 9 ∷ []) (3 ∷ 4 ∷ 9 ∷ []) (greedy.Added 2))
+    ∷ holds (GreedyReply badCase 65 [] [] (greedy.Refused InvalidCase))
+    ∷ holds (GreedyReply (sevenCase []) 65 [] [] (greedy.Refused (OverBudget 0)))
+    ∷ holds (GreedyReply (sevenCase []) 2 (7 ∷ []) (7 ∷ []) (greedy.Refused NoRoom))
+    ∷ fails (GreedyReply (sevenCase []) 2 (7 ∷ []) (3 ∷ []) (greedy.Refused NoRoom))
+    ∷ holds (GreedyReply (sevenCase []) 0 [] [] (greedy.Added 0))
     ∷ []
 
 -- the fewest with a budget: 5, 10, 11
-abbrev pub fewests : List Row
-fewests =
-    holds (FewestReply (case []) 2 (fewest.Sites (wordOf (1 ∷ 4 ∷ []))))
-    ∷ holds (FewestReply bad 9 (fewest.Refused InvalidCase))
-    ∷ holds (FewestReply (case []) 9 (fewest.Refused (OverBudget 0)))
-    ∷ holds (FewestReply (case []) 1 (fewest.Refused NoCover))
-    ∷ fails (FewestReply (case []) 9 (fewest.Refused NoCover))
+abbrev pub fewestReplyTable : List Row
+fewestReplyTable =
+    holds (FewestReply (sevenCase []) 2 (fewest.Sites (setWord (1 ∷ 4 ∷ []))))
+    ∷ holds (FewestReply badCase 9 (fewest.Refused InvalidCase))
+    ∷ holds (FewestReply (sevenCase []) 9 (fewest.Refused (OverBudget 0)))
+    ∷ holds (FewestReply (sevenCase []) 1 (fewest.Refused NoCover))
+    ∷ fails (FewestReply (sevenCase []) 9 (fewest.Refused NoCover))
     ∷ []
 
 -- texts read; and a case's text written into bytes lent: 5, 6
-abbrev pub texts : List Row
-texts =
+abbrev pub textReplyTable : List Row
+textReplyTable =
     holds (CaseReadReply (bytes "") (refused (WrongForm 1)))
     ∷ holds (StepsCheckedReply (bytes "end\n") (steps.Steps 0))
     ∷ fails (StepsCheckedReply (bytes "end\n") (steps.Steps 1))
-    ∷ holds (CaseWrittenReply bad [] (written.Refused InvalidCase) [])
+    ∷ holds (CaseWrittenReply badCase [] (written.Refused InvalidCase) [])
     ∷ holds (CaseWrittenReply (value 1 [] [] [] []) (7 ∷ []) (written.Refused NoRoom) (7 ∷ []))
     ∷ fails (CaseWrittenReply (value 1 [] [] [] []) (7 ∷ []) (written.Refused NoRoom) (103 ∷ []))
     ∷ holds (CaseWrittenReply (value 1 [] [] [] []) (replicate 23 7) (written.Bytes 21)

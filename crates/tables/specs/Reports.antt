@@ -21,7 +21,7 @@ use Rattle.report_day.specs.Day.{verdictFields, dayText}
 use Rattle.plan_input.specs.Asking.{budgetOf, readPlan}
 use Rattle.report_plan.specs.Plan.{planText}
 use Rattle.plan_input.specs.declared.Asked.{Asked}
-use Rattle.tables.specs.Starred.{wordOf, caseOf, seven}
+use Rattle.tables.specs.Starred.{setWord, drawnCase, seven}
 use Rattle.tables.specs.Tables.{Right, Reads, Writes, block}
 use Rattle.tables.specs.Drawings.{own, near, zeroAt}
 use Rattle.tables.specs.CaseTexts.{input}
@@ -29,8 +29,8 @@ use Rattle.tables.specs.CaseTexts.{input}
 -- ---- refusals
 
 -- refusals, and the one line that is printed
-abbrev pub refusals : List (Refusal × String)
-refusals =
+abbrev pub refusedTextTable : List (Refusal × String)
+refusedTextTable =
     (WrongForm 1, "refused\t2\t1\n")
     ∷ (TextTooLong, "refused\t1\t0\n")
     ∷ (OutOfOrder 257, "refused\t4\t257\n")
@@ -39,16 +39,16 @@ refusals =
     ∷ []
 
 -- every row is right
-abbrev pub RefusalsRight : Type 0
-RefusalsRight = Writes refusedText refusals
+abbrev pub RefusedTextsRight : Type 0
+RefusedTextsRight = Writes refusedText refusedTextTable
 
 -- records, and the line of each, ended by a line feed
-abbrev pub lines : List (Record × String)
-lines = (Pmu 4, "pmu\t4\n") ∷ (End, "end\n") ∷ []
+abbrev pub lineTextTable : List (Record × String)
+lineTextTable = (Pmu 4, "pmu\t4\n") ∷ (End, "end\n") ∷ []
 
 -- every row is right
-abbrev pub LinesRight : Type 0
-LinesRight = Writes lineText lines
+abbrev pub LineTextsRight : Type 0
+LineTextsRight = Writes lineText lineTextTable
 
 -- ---- the day report
 
@@ -57,30 +57,30 @@ abbrev pub output : List String
 output = "observed 5 7" ∷ "step 2 N 3" ∷ "step 3 O" ∷ "step 1 Z 2" ∷ "step 4 N 3" ∷ "step 7 N 3" ∷ "xv no 1" ∷ "end" ∷ []
 
 -- how many of how many buses are observed, the steps, and how many units are unconfirmed; and the report
-abbrev pub days : List ((ℕ × ℕ × List Step × ℕ) × List ℕ)
-days =
+abbrev pub dayTextTable : List ((ℕ × ℕ × List Step × ℕ) × List ℕ)
+dayTextTable =
     ((5, 7, near 2 3 ∷ own 3 ∷ zeroAt 1 2 ∷ near 4 3 ∷ near 7 3 ∷ [], 1), block output)
     ∷ ((0, 7, [], 0), bytes "observed\t0\t7\nxv\tyes\nend\n")
     ∷ ((1, 64, own 64 ∷ [], 12), bytes "observed\t1\t64\nstep\t64\tO\nxv\tno\t12\nend\n")
     ∷ []
 
 -- every row is right
-abbrev pub DaysRight : Type 0
-DaysRight = Right (λ q. dayText (q .0) (q .1) (q .2) (q .3)) days
+abbrev pub DayTextsRight : Type 0
+DayTextsRight = Right (λ q. dayText (q .0) (q .1) (q .2) (q .3)) dayTextTable
 
 -- how many units are unconfirmed, and the fields after `xv`
-abbrev pub verdicts : List (ℕ × List (List ℕ))
-verdicts = (0, bytes "yes" ∷ []) ∷ (1, bytes "no" ∷ bytes "1" ∷ []) ∷ (64, bytes "no" ∷ bytes "64" ∷ []) ∷ []
+abbrev pub verdictFieldTable : List (ℕ × List (List ℕ))
+verdictFieldTable = (0, bytes "yes" ∷ []) ∷ (1, bytes "no" ∷ bytes "1" ∷ []) ∷ (64, bytes "no" ∷ bytes "64" ∷ []) ∷ []
 
 -- every row is right
-abbrev pub VerdictsRight : Type 0
-VerdictsRight = Right verdictFields verdicts
+abbrev pub VerdictFieldsRight : Type 0
+VerdictFieldsRight = Right verdictFields verdictFieldTable
 
 -- ---- the planning program
 
 -- first lines, and the budget that each says
-abbrev pub budgets : List (String × Numeral)
-budgets =
+abbrev pub budgetTable : List (String × Numeral)
+budgetTable =
     ("plan", Is 8)
     ∷ ("plan\t0", Is 0)
     ∷ ("plan\t8", Is 8)
@@ -99,11 +99,11 @@ budgets =
 
 -- every row is right
 abbrev pub BudgetsRight : Type 0
-BudgetsRight = Reads budgetOf budgets
+BudgetsRight = Reads budgetOf budgetTable
 
 -- inputs, and what reading says: the case text's lines count from 2
-abbrev pub inputs : List (List ℕ × ReadAnswer)
-inputs =
+abbrev pub inputTable : List (List ℕ × ReadAnswer)
+inputTable =
     (block ("plan 2" ∷ input), Read)
     ∷ (block ("plan 9" ∷ input), Read)
     ∷ (bytes "", Refused (WrongForm 1))
@@ -118,36 +118,36 @@ inputs =
 
 -- every row is right
 abbrev pub InputsRight : Type 0
-InputsRight = Right (λ s. readPlan s .read .answer) inputs
+InputsRight = Right (λ s. readPlan s .read .answer) inputTable
 
 -- inputs, and all that is asked: the budget and the case; a refusal has neither
-abbrev pub asked : List (List ℕ × Asked)
-asked =
-    (block ("plan 2" ∷ input), record { budget = 2; read = got (caseOf (seven (3 ∷ []))) })
-    ∷ (block ("plan" ∷ input), record { budget = 8; read = got (caseOf (seven (3 ∷ []))) })
+abbrev pub askedTable : List (List ℕ × Asked)
+askedTable =
+    (block ("plan 2" ∷ input), record { budget = 2; read = got (drawnCase (seven (3 ∷ []))) })
+    ∷ (block ("plan" ∷ input), record { budget = 8; read = got (drawnCase (seven (3 ∷ []))) })
     ∷ (bytes "plan\t\n", record { budget = 0; read = refused (WrongForm 1) })
     ∷ []
 
 -- every row is right
 abbrev pub AskedRight : Type 0
-AskedRight = Right readPlan asked
+AskedRight = Right readPlan askedTable
 
 -- the whole input counts: `plan` and line feeds, 8,192 bytes in all, and one more
-abbrev pub limits : List (ℕ × ReadAnswer)
-limits = (8188, Refused (WrongForm 2)) ∷ (8189, Refused TextTooLong) ∷ []
+abbrev pub planLimitTable : List (ℕ × ReadAnswer)
+planLimitTable = (8188, Refused (WrongForm 2)) ∷ (8189, Refused TextTooLong) ∷ []
 
 -- every row is right
-abbrev pub LimitsRight : Type 0
-LimitsRight = Right (λ k. readPlan (bytes "plan" ++ replicate k lineFeed) .read .answer) limits
+abbrev pub PlanLimitsRight : Type 0
+PlanLimitsRight = Right (λ k. readPlan (bytes "plan" ++ replicate k lineFeed) .read .answer) planLimitTable
 
 -- n and the added sites, and what is printed
-abbrev pub plans : List ((ℕ × List ℕ) × String)
-plans =
+abbrev pub planTextTable : List ((ℕ × List ℕ) × String)
+planTextTable =
     ((7, 1 ∷ 4 ∷ []), "fewest\t2\npmu\t1\npmu\t4\nend\n")
     ∷ ((7, []), "fewest\t0\nend\n")
     ∷ ((10, 10 ∷ []), "fewest\t1\npmu\t10\nend\n")
     ∷ []
 
 -- every row is right
-abbrev pub PlansRight : Type 0
-PlansRight = Writes (λ q. planText (q .0) (setOf (wordOf (q .1)))) plans
+abbrev pub PlanTextsRight : Type 0
+PlanTextsRight = Writes (λ q. planText (q .0) (setOf (setWord (q .1)))) planTextTable

@@ -8,22 +8,23 @@ use Rattle.refusals.specs.declared.Refusal.the-variants.{OverBudget, NoCover, T
 use Rattle.estimator_reply.specs.Results.{codeOf, resultOf, leftBy}
 use Rattle.estimator_reply.specs.declared.Answer.{Answer}
 use Rattle.estimator_reply.specs.declared.Answer.the-variants.{Set, Refused, Unread}
-use Rattle.tables.specs.Starred.{wordOf}
+use Rattle.tables.specs.Starred.{setWord}
 use Rattle.tables.specs.Tables.{Right}
 
 -- ---- the result
 
 -- refusals, and 100 times the place plus the number
-abbrev pub codes : List (Refusal × ℕ)
-codes = (WrongForm 5, 502) ∷ (TextTooLong, 1) ∷ (OverBudget 0, 10) ∷ (NoCover, 11) ∷ (ReasonFails 1, 109) ∷ (TooManySteps 1025, 102512) ∷ []
+abbrev pub codeTable : List (Refusal × ℕ)
+codeTable =
+    (WrongForm 5, 502) ∷ (TextTooLong, 1) ∷ (OverBudget 0, 10) ∷ (NoCover, 11) ∷ (ReasonFails 1, 109) ∷ (TooManySteps 1025, 102512) ∷ []
 
 -- every row is right
 abbrev pub CodesRight : Type 0
-CodesRight = Right codeOf codes
+CodesRight = Right codeOf codeTable
 
 -- answers and how many bytes are lent, and the result: 50 is added in reading the step text, and 6 comes last
-abbrev pub results : List ((Answer × ℕ) × ℕ)
-results =
+abbrev pub resultTable : List ((Answer × ℕ) × ℕ)
+resultTable =
     ((Set 5, 8), 0)
     ∷ ((Set 5, 9), 0)
     ∷ ((Set 0, 8), 0)
@@ -40,13 +41,13 @@ results =
 
 -- every row is right
 abbrev pub ResultsRight : Type 0
-ResultsRight = Right (λ q. resultOf (q .0) (q .1)) results
+ResultsRight = Right (λ q. resultOf (q .0) (q .1)) resultTable
 
 -- ---- the bytes
 
 -- sets, and their eight bytes: the lowest bus is in the lowest bit of the first
-abbrev pub bytesOf : List (List ℕ × List ℕ)
-bytesOf =
+abbrev pub setBytesTable : List (List ℕ × List ℕ)
+setBytesTable =
     ([], 0 ∷ 0 ∷ 0 ∷ 0 ∷ 0 ∷ 0 ∷ 0 ∷ 0 ∷ [])
     ∷ (1 ∷ [], 1 ∷ 0 ∷ 0 ∷ 0 ∷ 0 ∷ 0 ∷ 0 ∷ 0 ∷ [])
     ∷ (8 ∷ [], 128 ∷ 0 ∷ 0 ∷ 0 ∷ 0 ∷ 0 ∷ 0 ∷ 0 ∷ [])
@@ -56,12 +57,12 @@ bytesOf =
     ∷ []
 
 -- every row is right
-abbrev pub BytesRight : Type 0
-BytesRight = Right (λ bs. setBytes (wordOf bs)) bytesOf
+abbrev pub SetBytesRight : Type 0
+SetBytesRight = Right (λ bs. setBytes (setWord bs)) setBytesTable
 
 -- answers and the bytes lent, and what these hold afterwards
-abbrev pub lefts : List ((Answer × List ℕ) × List ℕ)
-lefts =
+abbrev pub leftByTable : List ((Answer × List ℕ) × List ℕ)
+leftByTable =
     ((Set 79, 9 ∷ 9 ∷ 9 ∷ 9 ∷ 9 ∷ 9 ∷ 9 ∷ 9 ∷ []), 79 ∷ 0 ∷ 0 ∷ 0 ∷ 0 ∷ 0 ∷ 0 ∷ 0 ∷ [])
     ∷ ((Set 79, 9 ∷ 9 ∷ 9 ∷ 9 ∷ 9 ∷ 9 ∷ 9 ∷ 9 ∷ 5 ∷ 6 ∷ []), 79 ∷ 0 ∷ 0 ∷ 0 ∷ 0 ∷ 0 ∷ 0 ∷ 0 ∷ 5 ∷ 6 ∷ [])
     ∷ ((Set 79, 9 ∷ 9 ∷ 9 ∷ 9 ∷ 9 ∷ 9 ∷ 9 ∷ []), 9 ∷ 9 ∷ 9 ∷ 9 ∷ 9 ∷ 9 ∷ 9 ∷ [])
@@ -70,5 +71,5 @@ lefts =
     ∷ []
 
 -- every row is right
-abbrev pub LeftsRight : Type 0
-LeftsRight = Right (λ q. leftBy (q .0) (q .1)) lefts
+abbrev pub LeftByRight : Type 0
+LeftByRight = Right (λ q. leftBy (q .0) (q .1)) leftByTable

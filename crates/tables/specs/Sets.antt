@@ -13,8 +13,8 @@ use Rattle.tables.specs.Drawings.{set}
 -- ---- a word's set
 
 -- a word and a bus, and the digit there: 1 where the word's set has the bus
-abbrev pub digits : List ((ℕ × ℕ) × ℕ)
-digits =
+abbrev pub digitTable : List ((ℕ × ℕ) × ℕ)
+digitTable =
     ((1, 1), 1)
     ∷ ((1, 2), 0)
     ∷ ((1, 0), 0)
@@ -29,72 +29,72 @@ digits =
 
 -- every row is right
 abbrev pub DigitsRight : Type 0
-DigitsRight = Right (λ q. bit (setOf (q .0)) (q .1)) digits
+DigitsRight = Right (λ q. bit (setOf (q .0)) (q .1)) digitTable
 
 -- a word, and the word that holds its set: the same
-abbrev pub words : List (ℕ × ℕ)
-words = (0, 0) ∷ (1, 1) ∷ (79, 79) ∷ (2 ^ 64 - 1, 2 ^ 64 - 1) ∷ []
+abbrev pub wordTable : List (ℕ × ℕ)
+wordTable = (0, 0) ∷ (1, 1) ∷ (79, 79) ∷ (2 ^ 64 - 1, 2 ^ 64 - 1) ∷ []
 
 -- every row is right
 abbrev pub WordsRight : Type 0
-WordsRight = Right (λ w. held.wordOf (setOf w)) words
+WordsRight = Right (λ w. held.wordOf (setOf w)) wordTable
 
 -- a word and a bus, and the word with it
-abbrev pub holding : List ((ℕ × ℕ) × ℕ)
-holding = ((0, 1), 1) ∷ ((1, 3), 5) ∷ ((5, 3), 5) ∷ ((0, 64), 2 ^ 63) ∷ []
+abbrev pub holdTable : List ((ℕ × ℕ) × ℕ)
+holdTable = ((0, 1), 1) ∷ ((1, 3), 5) ∷ ((5, 3), 5) ∷ ((0, 64), 2 ^ 63) ∷ []
 
 -- every row is right
 abbrev pub HoldingRight : Type 0
-HoldingRight = Right (λ q. held.hold (q .0) (q .1)) holding
+HoldingRight = Right (λ q. held.hold (q .0) (q .1)) holdTable
 
 -- the word 1 with bus 3, or not
-abbrev pub holdingIf : List (Bool × ℕ)
-holdingIf = (true, 5) ∷ (false, 1) ∷ []
+abbrev pub holdIfTable : List (Bool × ℕ)
+holdIfTable = (true, 5) ∷ (false, 1) ∷ []
 
 -- every row is right
 abbrev pub HoldingIfRight : Type 0
-HoldingIfRight = Right (λ t. held.holdIf t 1 3) holdingIf
+HoldingIfRight = Right (λ t. held.holdIf t 1 3) holdIfTable
 
 -- a word and a place from 0, and the byte there, the lowest first
-abbrev pub bytes : List ((ℕ × ℕ) × ℕ)
-bytes = ((79, 0), 79) ∷ ((79, 1), 0) ∷ ((256, 0), 0) ∷ ((256, 1), 1) ∷ ((2 ^ 63, 7), 128) ∷ []
+abbrev pub byteTable : List ((ℕ × ℕ) × ℕ)
+byteTable = ((79, 0), 79) ∷ ((79, 1), 0) ∷ ((256, 0), 0) ∷ ((256, 1), 1) ∷ ((2 ^ 63, 7), 128) ∷ []
 
 -- every row is right
 abbrev pub BytesRight : Type 0
-BytesRight = Right (λ q. byteOf (q .0) (q .1)) bytes
+BytesRight = Right (λ q. byteOf (q .0) (q .1)) byteTable
 
 -- ---- sets made from others
 
 -- a set and a bus, and the set with it
-abbrev pub adds : List ((ℕ × ℕ) × ℕ)
-adds = ((set [], 3), set (3 ∷ [])) ∷ ((set (1 ∷ 2 ∷ []), 3), set (1 ∷ 2 ∷ 3 ∷ [])) ∷ ((set (1 ∷ 3 ∷ []), 3), set (1 ∷ 3 ∷ [])) ∷ []
+abbrev pub addTable : List ((ℕ × ℕ) × ℕ)
+addTable = ((set [], 3), set (3 ∷ [])) ∷ ((set (1 ∷ 2 ∷ []), 3), set (1 ∷ 2 ∷ 3 ∷ [])) ∷ ((set (1 ∷ 3 ∷ []), 3), set (1 ∷ 3 ∷ [])) ∷ []
 
 -- every row is right
 abbrev pub AddsRight : Type 0
-AddsRight = Right (λ q. add (q .0) (q .1)) adds
+AddsRight = Right (λ q. add (q .0) (q .1)) addTable
 
 -- a set and a bus, and the set without it
-abbrev pub lesses : List ((ℕ × ℕ) × ℕ)
-lesses = ((set (1 ∷ 2 ∷ 3 ∷ []), 2), set (1 ∷ 3 ∷ [])) ∷ ((set (1 ∷ 3 ∷ []), 2), set (1 ∷ 3 ∷ [])) ∷ ((set [], 2), set []) ∷ []
+abbrev pub lessTable : List ((ℕ × ℕ) × ℕ)
+lessTable = ((set (1 ∷ 2 ∷ 3 ∷ []), 2), set (1 ∷ 3 ∷ [])) ∷ ((set (1 ∷ 3 ∷ []), 2), set (1 ∷ 3 ∷ [])) ∷ ((set [], 2), set []) ∷ []
 
 -- every row is right
 abbrev pub LessesRight : Type 0
-LessesRight = Right (λ q. less (q .0) (q .1)) lesses
+LessesRight = Right (λ q. less (q .0) (q .1)) lessTable
 
 -- two sets, and the buses in both
-abbrev pub meets : List ((ℕ × ℕ) × ℕ)
-meets =
+abbrev pub meetTable : List ((ℕ × ℕ) × ℕ)
+meetTable =
     ((set (1 ∷ 2 ∷ 3 ∷ []), set (2 ∷ 3 ∷ 4 ∷ [])), set (2 ∷ 3 ∷ []))
     ∷ ((set (1 ∷ []), set (2 ∷ [])), set [])
     ∷ []
 
 -- every row is right
 abbrev pub MeetsRight : Type 0
-MeetsRight = Right (λ q. meet (q .0) (q .1)) meets
+MeetsRight = Right (λ q. meet (q .0) (q .1)) meetTable
 
 -- two sets, and the buses of the first that are not in the second
-abbrev pub lacks : List ((ℕ × ℕ) × ℕ)
-lacks =
+abbrev pub lackTable : List ((ℕ × ℕ) × ℕ)
+lackTable =
     ((set (1 ∷ 2 ∷ 3 ∷ []), set (2 ∷ 3 ∷ 4 ∷ [])), set (1 ∷ []))
     ∷ ((set (1 ∷ []), set (2 ∷ [])), set (1 ∷ []))
     ∷ ((set (2 ∷ []), set (2 ∷ [])), set [])
@@ -102,11 +102,11 @@ lacks =
 
 -- every row is right
 abbrev pub LacksRight : Type 0
-LacksRight = Right (λ q. lack (q .0) (q .1)) lacks
+LacksRight = Right (λ q. lack (q .0) (q .1)) lackTable
 
 -- n and a set, and its buses up to n: those above are ignored
-abbrev pub upTos : List ((ℕ × ℕ) × ℕ)
-upTos =
+abbrev pub upToTable : List ((ℕ × ℕ) × ℕ)
+upToTable =
     ((7, set (1 ∷ 7 ∷ 8 ∷ 64 ∷ [])), set (1 ∷ 7 ∷ []))
     ∷ ((64, set (1 ∷ 64 ∷ [])), set (1 ∷ 64 ∷ []))
     ∷ ((1, set (2 ∷ [])), set [])
@@ -114,21 +114,21 @@ upTos =
 
 -- every row is right
 abbrev pub UpTosRight : Type 0
-UpTosRight = Right (λ q. upTo (q .0) (q .1)) upTos
+UpTosRight = Right (λ q. upTo (q .0) (q .1)) upToTable
 
 -- a set, and how many buses it has
-abbrev pub sizes : List (ℕ × ℕ)
-sizes = (set [], 0) ∷ (set (7 ∷ []), 1) ∷ (set (1 ∷ 2 ∷ 3 ∷ 4 ∷ 7 ∷ []), 5) ∷ []
+abbrev pub sizeTable : List (ℕ × ℕ)
+sizeTable = (set [], 0) ∷ (set (7 ∷ []), 1) ∷ (set (1 ∷ 2 ∷ 3 ∷ 4 ∷ 7 ∷ []), 5) ∷ []
 
 -- every row is right
 abbrev pub SizesRight : Type 0
-SizesRight = Right size sizes
+SizesRight = Right size sizeTable
 
 -- ---- what is said of sets
 
 -- statements of each kind: one that holds, and one that does not
-abbrev pub said : List Row
-said =
+abbrev pub setTable : List Row
+setTable =
     holds (Bus 7 1)
     ∷ holds (Bus 7 7)
     ∷ fails (Bus 7 0)

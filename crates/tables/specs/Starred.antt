@@ -29,14 +29,14 @@ pub record Drawing : Type 0 where
   pub units : List ℕ
 
 -- the word that holds the buses of a list without repeats: bus 1 in the lowest bit
-abbrev pub wordOf : List ℕ → ℕ
-wordOf [] = 0
-wordOf (b ∷ bs) = 2 ^ (b - 1) + wordOf bs
+abbrev pub setWord : List ℕ → ℕ
+setWord [] = 0
+setWord (b ∷ bs) = 2 ^ (b - 1) + setWord bs
 
 -- the row of bus b: the other end of each line that has b at one end
 abbrev pub rowOf : ℕ → List (ℕ × ℕ) → ℕ
 rowOf b [] = 0
-rowOf b (l ∷ ls) = cond (eqb (l .0) b) (wordOf (l .1 ∷ [])) 0 + cond (eqb (l .1) b) (wordOf (l .0 ∷ [])) 0 + rowOf b ls
+rowOf b (l ∷ ls) = cond (eqb (l .0) b) (setWord (l .1 ∷ [])) 0 + cond (eqb (l .1) b) (setWord (l .0 ∷ [])) 0 + rowOf b ls
 
 -- the rows of k buses, from bus b on
 abbrev pub rowsFrom : ℕ → ℕ → List (ℕ × ℕ) → List ℕ
@@ -44,44 +44,45 @@ rowsFrom b zero ls = []
 rowsFrom b (suc k) ls = rowOf b ls ∷ rowsFrom (suc b) k ls
 
 -- the case value of a drawing
-abbrev pub caseOf : Drawing → Case
-caseOf d = record { n = d .n; nbr = rowsFrom 1 64 (d .lines); zero = wordOf (d .zeros); site = 2 ^ d .n - 1; units = wordOf (d .units) }
+abbrev pub drawnCase : Drawing → Case
+drawnCase d =
+    record { n = d .n; nbr = rowsFrom 1 64 (d .lines); zero = setWord (d .zeros); site = 2 ^ d .n - 1; units = setWord (d .units) }
 
 -- ---- a row
 
 -- a question, and its answer
-pub data Row : Type 0 where
+pub data StarredRow : Type 0 where
   -- the buses that are observed
-  observes : Drawing → List ℕ → Row
+  observes : Drawing → List ℕ → StarredRow
   -- the firing figure of bus i towards j where these buses are observed
-  figures : Drawing → List ℕ → ℕ → ℕ → ℤ → Row
+  figures : Drawing → List ℕ → ℕ → ℕ → ℤ → StarredRow
   -- the list of this step alone is refused 9 at step 1
-  fails : Drawing → Step → Row
+  fails : Drawing → Step → StarredRow
   -- the units that no other unit confirms
-  unconfirmed : Drawing → List ℕ → Row
+  unconfirmed : Drawing → List ℕ → StarredRow
   -- what greedy adds with a budget, in the order added, in any room for it
-  adds : Drawing → ℕ → List ℕ → Row
+  adds : Drawing → ℕ → List ℕ → StarredRow
   -- the fewest with a budget
-  fewestIs : Drawing → ℕ → List ℕ → Row
+  fewestIs : Drawing → ℕ → List ℕ → StarredRow
   -- no addition within the budget covers: refusal 11
-  uncovered : Drawing → ℕ → Row
+  uncovered : Drawing → ℕ → StarredRow
 
 -- the row's reply is the one that the call's promise asks
-abbrev pub Right : Row → Type 0
-Right (observes d bs) = ObservedReply (caseOf d) (observed.Set (wordOf bs))
-Right (figures d bs i j z) = FigureReply (caseOf d) (wordOf bs) i j (figured.Figure z)
-Right (fails d x) = ReplayReply (caseOf d) (x ∷ []) (replayed.Refused (ReasonFails 1))
-Right (unconfirmed d bs) = VerdictReply (caseOf d) (verdict.Unconfirmed (wordOf bs))
-Right (adds d budget xs) =
+abbrev pub StarredRight : StarredRow → Type 0
+StarredRight (observes d bs) = ObservedReply (drawnCase d) (observed.Set (setWord bs))
+StarredRight (figures d bs i j z) = FigureReply (drawnCase d) (setWord bs) i j (figured.Figure z)
+StarredRight (fails d x) = ReplayReply (drawnCase d) (x ∷ []) (replayed.Refused (ReasonFails 1))
+StarredRight (unconfirmed d bs) = VerdictReply (drawnCase d) (verdict.Unconfirmed (setWord bs))
+StarredRight (adds d budget xs) =
     (entry : List ℕ) → length xs ≤ length entry
-    → GreedyReply (caseOf d) budget entry (xs ++ drop (length xs) entry) (greedy.Added (length xs))
-Right (fewestIs d budget bs) = FewestReply (caseOf d) budget (fewest.Sites (wordOf bs))
-Right (uncovered d budget) = FewestReply (caseOf d) budget (fewest.Refused NoCover)
+    → GreedyReply (drawnCase d) budget entry (xs ++ drop (length xs) entry) (greedy.Added (length xs))
+StarredRight (fewestIs d budget bs) = FewestReply (drawnCase d) budget (fewest.Sites (setWord bs))
+StarredRight (uncovered d budget) = FewestReply (drawnCase d) budget (fewest.Refused NoCover)
 
 -- and so for every row
-abbrev pub AllRight : List Row → Type 0
-AllRight [] = Unit {0}
-AllRight (r ∷ rs) = Right r × AllRight rs
+abbrev pub AllStarredRight : List StarredRow → Type 0
+AllStarredRight [] = Unit {0}
+AllStarredRight (r ∷ rs) = StarredRight r × AllStarredRight rs
 
 -- ---- the grids
 
@@ -101,8 +102,8 @@ path = record { n = 5; lines = (1, 2) ∷ (2, 3) ∷ (3, 4) ∷ (4, 5) ∷ []; z
 -- ---- the table
 
 -- every starred grid of document 01
-abbrev pub table : List Row
-table =
+abbrev pub starredTable : List StarredRow
+starredTable =
     observes (seven []) []
     ∷ observes (seven (2 ∷ [])) (1 ∷ 2 ∷ 3 ∷ [])
     ∷ figures (seven (2 ∷ [])) (1 ∷ 2 ∷ 3 ∷ []) 3 7 (pos 0)

@@ -21,8 +21,8 @@ use Rattle.tables.specs.Drawings.{own, near, zeroAt}
 -- ---- one step
 
 -- steps, and whether their numbers are 1 to 64
-abbrev pub ranges : List (Step × Bool)
-ranges =
+abbrev pub stepRangeTable : List (Step × Bool)
+stepRangeTable =
     (own 1, true)
     ∷ (own 64, true)
     ∷ (own 0, false)
@@ -35,14 +35,14 @@ ranges =
     ∷ []
 
 -- every row is right
-abbrev pub RangesRight : Type 0
-RangesRight = Right stepInRange ranges
+abbrev pub StepRangesRight : Type 0
+StepRangesRight = Right stepInRange stepRangeTable
 
 -- ---- whole texts
 
 -- texts, and how many steps each has, or its refusal
-abbrev pub readings : List (String × StepsRead)
-readings =
+abbrev pub readStepsTable : List (String × StepsRead)
+readStepsTable =
     ("end\n", Steps 0)
     ∷ ("step\t3\tO\nend\n", Steps 1)
     ∷ ("step\t2\tN\t3\nstep\t3\tO\nend\n", Steps 2)
@@ -68,12 +68,12 @@ readings =
     ∷ []
 
 -- every row is right
-abbrev pub ReadingsRight : Type 0
-ReadingsRight = Reads readSteps readings
+abbrev pub ReadStepsRight : Type 0
+ReadStepsRight = Reads readSteps readStepsTable
 
 -- texts from line 1,025 on, after 1,024 steps: `end` is fine; a step is 12, after 2 and 3
-abbrev pub beyond : List (String × StepsRead)
-beyond =
+abbrev pub beyondTable : List (String × StepsRead)
+beyondTable =
     ("end\n", Steps 1024)
     ∷ ("", Refused (WrongForm 1025))
     ∷ ("step\t1\tO\nend\n", Refused (TooManySteps 1025))
@@ -84,36 +84,36 @@ beyond =
 
 -- every row is right
 abbrev pub BeyondRight : Type 0
-BeyondRight = Reads (λ s. stepLines 1025 (split lineFeed s .first) (split lineFeed s .rest)) beyond
+BeyondRight = Reads (λ s. stepLines 1025 (split lineFeed s .first) (split lineFeed s .rest)) beyondTable
 
 -- line feeds alone: 16,384 of them are 2 at line 1, one more is 1
-abbrev pub limits : List (ℕ × StepsRead)
-limits = (16384, Refused (WrongForm 1)) ∷ (16385, Refused TextTooLong) ∷ []
+abbrev pub stepLimitTable : List (ℕ × StepsRead)
+stepLimitTable = (16384, Refused (WrongForm 1)) ∷ (16385, Refused TextTooLong) ∷ []
 
 -- every row is right
-abbrev pub LimitsRight : Type 0
-LimitsRight = Right (λ k. readSteps (replicate k lineFeed)) limits
+abbrev pub StepLimitsRight : Type 0
+StepLimitsRight = Right (λ k. readSteps (replicate k lineFeed)) stepLimitTable
 
 -- ---- the steps
 
 -- document 01's derivation as a step text
-abbrev pub derivation : List ℕ
-derivation = block ("step 2 N 3" ∷ "step 3 O" ∷ "step 1 Z 2" ∷ "step 4 N 3" ∷ "step 7 N 3" ∷ "end" ∷ [])
+abbrev pub derivationText : List ℕ
+derivationText = block ("step 2 N 3" ∷ "step 3 O" ∷ "step 1 Z 2" ∷ "step 4 N 3" ∷ "step 7 N 3" ∷ "end" ∷ [])
 
 -- texts, and their steps
-abbrev pub lists : List (List ℕ × List Step)
-lists =
-    (derivation, near 2 3 ∷ own 3 ∷ zeroAt 1 2 ∷ near 4 3 ∷ near 7 3 ∷ [])
+abbrev pub stepsOfTable : List (List ℕ × List Step)
+stepsOfTable =
+    (derivationText, near 2 3 ∷ own 3 ∷ zeroAt 1 2 ∷ near 4 3 ∷ near 7 3 ∷ [])
     ∷ (bytes "end\n", [])
     ∷ []
 
 -- every row is right
-abbrev pub ListsRight : Type 0
-ListsRight = Right stepsOf lists
+abbrev pub StepsOfRight : Type 0
+StepsOfRight = Right stepsOf stepsOfTable
 
 -- each step names buses 1 to 64; and the step that starts at an index, with the index of the line after it
-abbrev pub found : List Row
-found =
+abbrev pub stepAtTable : List Row
+stepAtTable =
     holds (Each (Names mostBuses) (own 1 ∷ near 64 1 ∷ []))
     ∷ fails (Each (Names mostBuses) (own 1 ∷ near 64 65 ∷ []))
     ∷ holds (StepAt (bytes "step\t3\tO\nend\n") 0 (At (own 3) 9))
@@ -127,8 +127,8 @@ found =
 -- ---- the records lent
 
 -- how many records are lent, what reading says, and what is said then: 6 comes last
-abbrev pub rooms : List ((ℕ × StepsRead) × StepsRead)
-rooms =
+abbrev pub roomTable : List ((ℕ × StepsRead) × StepsRead)
+roomTable =
     ((5, Steps 5), Steps 5)
     ∷ ((64, Steps 5), Steps 5)
     ∷ ((4, Steps 5), Refused NoRoom)
@@ -138,16 +138,16 @@ rooms =
 
 -- every row is right
 abbrev pub RoomsRight : Type 0
-RoomsRight = Right (λ q. withRoom (q .0) (q .1)) rooms
+RoomsRight = Right (λ q. withRoom (q .0) (q .1)) roomTable
 
 -- what three records hold after the steps 2 N 3, 3 O were read into them, and after a refusal
-abbrev pub lefts : List (StepsRead × List Step)
-lefts =
+abbrev pub leavesTable : List (StepsRead × List Step)
+leavesTable =
     (Steps 2, near 2 3 ∷ own 3 ∷ own 9 ∷ [])
     ∷ (Refused NoRoom, own 7 ∷ own 8 ∷ own 9 ∷ [])
     ∷ (Refused (WrongForm 3), own 7 ∷ own 8 ∷ own 9 ∷ [])
     ∷ []
 
 -- every row is right
-abbrev pub LeftsRight : Type 0
-LeftsRight = Right (λ r. leaves r (near 2 3 ∷ own 3 ∷ []) (own 7 ∷ own 8 ∷ own 9 ∷ [])) lefts
+abbrev pub LeavesRight : Type 0
+LeavesRight = Right (λ r. leaves r (near 2 3 ∷ own 3 ∷ []) (own 7 ∷ own 8 ∷ own 9 ∷ [])) leavesTable

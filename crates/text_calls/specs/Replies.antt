@@ -5,7 +5,7 @@ use Prim.Native.Nat.{ℕ, _≤_}
 use lib.ListN.{length, drop}
 use Rattle.grid.specs.declared.Case.{Case}
 use Rattle.grid.specs.Cases.{Valid}
-use Rattle.refusals.specs.Refusals.{Check, check, Passed, Failed}
+use Rattle.refusals.specs.Refusals.{Check, checkThat, Passed, Failed}
 use Rattle.case_read.specs.Reading.{readCase}
 use Rattle.case_line.specs.CaseText.{caseText}
 use Rattle.case_read.specs.declared.CaseRead.{CaseRead}
@@ -24,7 +24,7 @@ CaseReadReply text r = r ≡ readCase text
 
 -- the case is valid, or 5; its text has room, or 6
 abbrev pub writeChecks : Case → List ℕ → List Check
-writeChecks c lent = check (Valid c) 5 0 ∷ check (length (caseText c) ≤ length lent) 6 0 ∷ []
+writeChecks c lent = checkThat (Valid c) 5 0 ∷ checkThat (length (caseText c) ≤ length lent) 6 0 ∷ []
 
 -- the bytes after the text stay as they were; a refusal leaves every byte
 abbrev pub CaseWrittenReply : Case → List ℕ → Written → List ℕ → Type 0

@@ -10,24 +10,24 @@ use lib.Dec.{eqb}
 use native.Mathlib.Nat.{sub-self}
 use lib.ListN.{length, getD, take, drop, length-drop, take-append-drop, drop-of-length-le}
 use lib.Seq.{drop-cons, drop-drop, take-suc, take-all, getD-drop}
-use Rattle.text_field.specs.Split.{Pieces, pieces, split, part, after, PieceEnd, same, join}
+use Rattle.text_field.specs.Split.{Pieces, allPieces, split, part, after, PieceEnd, same, join}
 use Rattle.text_field.proofs.Tested.{both}
 
 -- c does not stand in s
-abbrev pub Free : ℕ → List ℕ → Type 0
-Free c [] = Unit {0}
-Free c (x ∷ s) = (x ≡ c → ⊥) × Free c s
+abbrev pub FreeOf : ℕ → List ℕ → Type 0
+FreeOf c [] = Unit {0}
+FreeOf c (x ∷ s) = (x ≡ c → ⊥) × FreeOf c s
 
-pub free-append : (c : ℕ) (s t : List ℕ) → Free c s → Free c t → Free c (s ++ t)
+pub free-append : (c : ℕ) (s t : List ℕ) → FreeOf c s → FreeOf c t → FreeOf c (s ++ t)
 free-append c [] t f g = g
 free-append c (x ∷ s) t f g = (f .0, free-append c s t (f .1) g)
 
-pub split-cut : (c : ℕ) (s t : List ℕ) → Free c s → split c (s ++ c ∷ t) ≡ record { first = s; rest = pieces (split c t) }
+pub split-cut : (c : ℕ) (s t : List ℕ) → FreeOf c s → split c (s ++ c ∷ t) ≡ record { first = s; rest = allPieces (split c t) }
 unfolding split
 split-cut c [] t f = rw (eq-eqb c c refl)
 split-cut c (x ∷ s) t f = rw (ne-eqb x c (f .0), split-cut c s t (f .1))
 
-pub split-last : (c : ℕ) (s : List ℕ) → Free c s → split c s ≡ record { first = s; rest = [] }
+pub split-last : (c : ℕ) (s : List ℕ) → FreeOf c s → split c s ≡ record { first = s; rest = [] }
 unfolding split
 split-last c [] f = refl
 split-last c (x ∷ s) f = rw (ne-eqb x c (f .0), split-last c s (f .1))
@@ -46,15 +46,15 @@ parted s a e h =
     sym (take-append-drop (e - a) (drop a s)) ∙ ap (λ (t : List ℕ). part s a e ++ t) (drop-drop (e - a) a s ∙ ap (λ (k : ℕ). drop k s) j)
 
 -- no c stands in s from index a up to index i
-pub record Passed (c : ℕ) (s : List ℕ) (a i : ℕ) : Type 0 where
+pub record FreeUpTo (c : ℕ) (s : List ℕ) (a i : ℕ) : Type 0 where
   pub low : a ≤ i
   pub high : i ≤ length s
-  pub free : Free c (part s a i)
+  pub free : FreeOf c (part s a i)
 
-pub passed-none : {c : ℕ} {s : List ℕ} {a : ℕ} → a ≤ length s → Passed c s a a
+pub passed-none : {c : ℕ} {s : List ℕ} {a : ℕ} → a ≤ length s → FreeUpTo c s a a
 passed-none h = record { low = omega arith; high = h; free = rw sub-self tt }
 
-pub passed-more : {c : ℕ} {s : List ℕ} {a i : ℕ} → Passed c s a i → i < length s → (getD s i 0 ≡ c → ⊥) → Passed c s a (i + 1)
+pub passed-more : {c : ℕ} {s : List ℕ} {a i : ℕ} → FreeUpTo c s a i → i < length s → (getD s i 0 ≡ c → ⊥) → FreeUpTo c s a (i + 1)
 passed-more {c} {s} {a} {i} p k n =
     record {
       low = omega arith;
@@ -62,7 +62,7 @@ passed-more {c} {s} {a} {i} p k n =
       free = rw (part-more s a i (p .low) k) (free-append c (part s a i) (getD s i 0 ∷ []) (p .free) (n, tt));
     }
 
-pub passed-at : {c : ℕ} {s : List ℕ} {a e : ℕ} → Passed c s a e → e < length s → getD s e 0 ≡ c → PieceEnd c s a e
+pub passed-at : {c : ℕ} {s : List ℕ} {a e : ℕ} → FreeUpTo c s a e → e < length s → getD s e 0 ≡ c → PieceEnd c s a e
 unfolding after
 passed-at {c} {s} {a} {e} p k g =
     record {
@@ -75,7 +75,7 @@ passed-at {c} {s} {a} {e} p k g =
           ∙ rw (lt-ltb e (length s) k);
     }
 
-pub passed-all : {c : ℕ} {s : List ℕ} {a e : ℕ} → Passed c s a e → length s ≤ e → PieceEnd c s a e
+pub passed-all : {c : ℕ} {s : List ℕ} {a e : ℕ} → FreeUpTo c s a e → length s ≤ e → PieceEnd c s a e
 unfolding after
 passed-all {c} {s} {a} {e} p l =
     record {
@@ -96,7 +96,7 @@ rest-few c [] = omega arith
 rest-few c (x ∷ s) = go (eqb x c) (split c s) (rest-few c s)
   where
     go : (b : Bool) (p : Pieces) → length (p .rest) ≤ length s →
-        length (cond {A = Pieces} b (record { first = []; rest = pieces p }) (record { first = x ∷ p .first; rest = p .rest }) .rest)
+        length (cond {A = Pieces} b (record { first = []; rest = allPieces p }) (record { first = x ∷ p .first; rest = p .rest }) .rest)
         ≤ suc (length s)
     go true p h = omega arith
     go false p h = omega arith
@@ -107,7 +107,7 @@ pub after-none : (c : ℕ) (s : List ℕ) (e : ℕ) → length s ≤ e → after
 unfolding after
 after-none c s e h = rw (le-ltb e (length s) h)
 
-pub after-some : (c : ℕ) (s : List ℕ) (e : ℕ) → e < length s → after c s e ≡ pieces (split c (drop (suc e) s))
+pub after-some : (c : ℕ) (s : List ℕ) (e : ℕ) → e < length s → after c s e ≡ allPieces (split c (drop (suc e) s))
 unfolding after
 after-some c s e h = rw (lt-ltb e (length s) h)
 
@@ -185,16 +185,16 @@ join-split c (x ∷ s) = joined c x s (eqb x c) refl (join-split c s)
 -- c stands in none of the pieces
 abbrev pub AllFree : ℕ → List (List ℕ) → Type 0
 AllFree c [] = Unit {0}
-AllFree c (p ∷ ps) = Free c p × AllFree c ps
+AllFree c (p ∷ ps) = FreeOf c p × AllFree c ps
 
-pub split-join : (c : ℕ) (p : List ℕ) (ps : List (List ℕ)) → Free c p → AllFree c ps
+pub split-join : (c : ℕ) (p : List ℕ) (ps : List (List ℕ)) → FreeOf c p → AllFree c ps
     → split c (join c p ps) ≡ record { first = p; rest = ps }
 unfolding join
 split-join c p [] f g = split-last c p f
 split-join c p (q ∷ ps) f g =
-    split-cut c p (join c q ps) f ∙ ap (λ (x : Pieces). record { first = p; rest = pieces x }) (split-join c q ps (g .0) (g .1))
+    split-cut c p (join c q ps) f ∙ ap (λ (x : Pieces). record { first = p; rest = allPieces x }) (split-join c q ps (g .0) (g .1))
 
-pub free-join : (c d : ℕ) (p : List ℕ) (ps : List (List ℕ)) → (d ≡ c → ⊥) → Free c p → AllFree c ps → Free c (join d p ps)
+pub free-join : (c d : ℕ) (p : List ℕ) (ps : List (List ℕ)) → (d ≡ c → ⊥) → FreeOf c p → AllFree c ps → FreeOf c (join d p ps)
 unfolding join
 free-join c d p [] n f g = f
 free-join c d p (q ∷ ps) n f g = free-append c p (d ∷ join d q ps) f (n, free-join c d q ps n (g .0) (g .1))

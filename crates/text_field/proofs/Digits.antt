@@ -8,18 +8,18 @@ use native.Mathlib.Omega.{arith}
 use borrow.Author.Tests.{le-leb, lt-ltb, le-ltb, ltb-true, ltb-false}
 use lib.Dec.{ltb}
 use lib.ListN.{length, length-append}
-use Rattle.text_field.specs.Number.{isDigit, takes, numberFrom, numberOf, digits, numberText}
+use Rattle.text_field.specs.Number.{isDigit, takesDigit, numberFrom, numeralOf, digits, numberText}
 use Rattle.text_field.specs.declared.Numeral.{Numeral}
 use Rattle.text_field.specs.declared.Numeral.the-variants.{Is, Wrong}
-use Rattle.text_field.proofs.Numbers.{Digit, Taken, digit-of, taken-of}
-use Rattle.text_field.proofs.Cutting.{Free, free-append}
+use Rattle.text_field.proofs.Numbers.{Digit, DigitTaken, digit-of, taken-of}
+use Rattle.text_field.proofs.Cutting.{FreeOf, free-append}
 
 digit-is : {d : ℕ} → Digit d → isDigit d ≡ true
 unfolding isDigit
 digit-is {d} h = rw (le-leb 48 d (h .low), le-leb d 57 (h .high))
 
-takes-is : {v d : ℕ} → Taken v d → takes v d ≡ true
-unfolding takes
+takes-is : {v d : ℕ} → DigitTaken v d → takesDigit v d ≡ true
+unfolding takesDigit
 takes-is {v} {d} h = rw (digit-is (h .digit), lt-ltb 0 v (h .some), lt-ltb v 1000 (h .small))
 
 -- the two ways a number's text is made
@@ -79,60 +79,60 @@ tested : (b : Bool) (x : Numeral) (n : ℕ) → cond b x Wrong ≡ Is n → (b �
 tested true x n e = (refl, e)
 tested false x n e = let z : _≡_ {A = ℕ} 0 1 = cc in absurd (omega arith)
 
-from-cons : (v d n : ℕ) (s : List ℕ) → numberFrom v (d ∷ s) ≡ Is n → (takes v d ≡ true) × (numberFrom (v * 10 + (d - 48)) s ≡ Is n)
+from-cons : (v d n : ℕ) (s : List ℕ) → numberFrom v (d ∷ s) ≡ Is n → (takesDigit v d ≡ true) × (numberFrom (v * 10 + (d - 48)) s ≡ Is n)
 unfolding numberFrom
-from-cons v d n s e = tested (takes v d) _ n e
+from-cons v d n s e = tested (takesDigit v d) _ n e
 
-of-cons : (d n : ℕ) (s : List ℕ) → numberOf (d ∷ s) ≡ Is n → (isDigit d ≡ true) × (numberFrom (d - 48) s ≡ Is n)
-unfolding numberOf
+of-cons : (d n : ℕ) (s : List ℕ) → numeralOf (d ∷ s) ≡ Is n → (isDigit d ≡ true) × (numberFrom (d - 48) s ≡ Is n)
+unfolding numeralOf
 of-cons d n s e = tested (isDigit d) _ n e
 
-of-nil : (n : ℕ) → numberOf [] ≡ Is n → ⊥
-unfolding numberOf
+of-nil : (n : ℕ) → numeralOf [] ≡ Is n → ⊥
+unfolding numeralOf
 of-nil n e = let z : _≡_ {A = ℕ} 0 1 = cc in omega arith
 
 -- ---- written, then read
 
-from-snoc : (v w d : ℕ) (s : List ℕ) → numberFrom v s ≡ Is w → Taken w d → numberFrom v (s ++ d ∷ []) ≡ Is (w * 10 + (d - 48))
+from-snoc : (v w d : ℕ) (s : List ℕ) → numberFrom v s ≡ Is w → DigitTaken w d → numberFrom v (s ++ d ∷ []) ≡ Is (w * 10 + (d - 48))
 unfolding numberFrom
 from-snoc v w d [] e t = let f : v ≡ w = cc in rw (f, takes-is t)
 from-snoc v w d (x ∷ s) e t = let p = from-cons v x w s e in rw (p .0) (from-snoc (v * 10 + (x - 48)) w d s (p .1) t)
 
-of-snoc : (w d : ℕ) (s : List ℕ) → numberOf s ≡ Is w → Taken w d → numberOf (s ++ d ∷ []) ≡ Is (w * 10 + (d - 48))
-unfolding numberOf
+of-snoc : (w d : ℕ) (s : List ℕ) → numeralOf s ≡ Is w → DigitTaken w d → numeralOf (s ++ d ∷ []) ≡ Is (w * 10 + (d - 48))
+unfolding numeralOf
 of-snoc w d [] e t = absurd (of-nil w e)
 of-snoc w d (x ∷ s) e t = let p = of-cons x w s e in rw (p .0) (from-snoc (x - 48) w d s (p .1) t)
 
-read-digit : (n : ℕ) → n < 10 → numberOf (numberText n) ≡ Is n
-unfolding numberOf numberFrom
+read-digit : (n : ℕ) → n < 10 → numeralOf (numberText n) ≡ Is n
+unfolding numeralOf numberFrom
 read-digit n h =
     let e : (48 + n) - 48 ≡ n = omega arith in
     let d : Digit (48 + n) = record { low = omega arith; high = omega arith } in
     rw (text-few n h, digit-is d, e)
 
-pub read-number : (n : ℕ) → n < 10000 → numberOf (numberText n) ≡ Is n
-read-number = by-digits (λ n. numberOf (numberText n) ≡ Is n) read-digit more
+pub read-number : (n : ℕ) → n < 10000 → numeralOf (numberText n) ≡ Is n
+read-number = by-digits (λ n. numeralOf (numberText n) ≡ Is n) read-digit more
   where
-    more : (n : ℕ) → 10 ≤ n → n < 10000 → numberOf (numberText (n / 10)) ≡ Is (n / 10) → numberOf (numberText n) ≡ Is n
+    more : (n : ℕ) → 10 ≤ n → n < 10000 → numeralOf (numberText (n / 10)) ≡ Is (n / 10) → numeralOf (numberText n) ≡ Is n
     more n h l p =
-        let t : Taken (n / 10) (48 + n % 10) =
+        let t : DigitTaken (n / 10) (48 + n % 10) =
         record { digit = record { low = omega arith; high = omega arith }; some = omega arith; small = omega arith } in
         let e : n / 10 * 10 + ((48 + n % 10) - 48) ≡ n = omega arith in
         rw (text-many n h l) (of-snoc (n / 10) (48 + n % 10) (numberText (n / 10)) p t ∙ ap Is e)
 
 -- ---- read, then written
 
-text-snoc : (v d : ℕ) → Taken v d → numberText (v * 10 + (d - 48)) ≡ numberText v ++ d ∷ []
+text-snoc : (v d : ℕ) → DigitTaken v d → numberText (v * 10 + (d - 48)) ≡ numberText v ++ d ∷ []
 text-snoc v d t =
     let e : (v * 10 + (d - 48)) / 10 ≡ v = omega arith in
     let f : 48 + (v * 10 + (d - 48)) % 10 ≡ d = omega arith in
     text-many (v * 10 + (d - 48)) (omega arith) (omega arith) ∙ ap₂ (λ (x y : ℕ). numberText x ++ y ∷ []) e f
 
-pub record Written (n : ℕ) (s : List ℕ) : Type 0 where
+pub record NumberWritten (n : ℕ) (s : List ℕ) : Type 0 where
   pub small : n < 10000
   pub text : numberText n ≡ s
 
-from-written : (v n : ℕ) (s : List ℕ) → v < 10000 → numberFrom v s ≡ Is n → Written n (numberText v ++ s)
+from-written : (v n : ℕ) (s : List ℕ) → v < 10000 → numberFrom v s ≡ Is n → NumberWritten n (numberText v ++ s)
 unfolding numberFrom
 from-written v n [] h e =
     let f : v ≡ n = cc in
@@ -143,7 +143,7 @@ from-written v n (d ∷ s) h e =
     let w = from-written (v * 10 + (d - 48)) n s (omega (arith, t)) (p .1) in
     record { small = w .small; text = w .text ∙ ap (λ (x : List ℕ). x ++ s) (text-snoc v d t) ∙ append-assoc (numberText v) (d ∷ []) s }
 
-pub written-number : (s : List ℕ) (n : ℕ) → numberOf s ≡ Is n → Written n s
+pub written-number : (s : List ℕ) (n : ℕ) → numeralOf s ≡ Is n → NumberWritten n s
 written-number [] n e = absurd (of-nil n e)
 written-number (d ∷ s) n e =
     let p = of-cons d n s e in
@@ -157,13 +157,13 @@ written-number (d ∷ s) n e =
 
 -- ---- a number's text has digits alone
 
-pub number-free : (c n : ℕ) → c < 48 → n < 10000 → Free c (numberText n)
-number-free c n h = by-digits (λ n. Free c (numberText n)) one more n
+pub number-free : (c n : ℕ) → c < 48 → n < 10000 → FreeOf c (numberText n)
+number-free c n h = by-digits (λ n. FreeOf c (numberText n)) one more n
   where
-    one : (n : ℕ) → n < 10 → Free c (numberText n)
+    one : (n : ℕ) → n < 10 → FreeOf c (numberText n)
     one n l = rw (text-few n l) ((λ e. omega arith), tt)
 
-    more : (n : ℕ) → 10 ≤ n → n < 10000 → Free c (numberText (n / 10)) → Free c (numberText n)
+    more : (n : ℕ) → 10 ≤ n → n < 10000 → FreeOf c (numberText (n / 10)) → FreeOf c (numberText n)
     more n l u f = rw (text-many n l u) (free-append c (numberText (n / 10)) ((48 + n % 10) ∷ []) f ((λ e. omega arith), tt))
 
 -- ---- and at most four of them

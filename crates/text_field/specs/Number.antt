@@ -13,18 +13,18 @@ unfoldable pub isDigit : ℕ → Bool
 isDigit d = leb 48 d && leb d 57
 
 -- a number so far takes one more digit when it is neither 0 nor of 4 digits
-unfoldable pub takes : ℕ → ℕ → Bool
-takes v d = isDigit d && (ltb 0 v && ltb v 1000)
+unfoldable pub takesDigit : ℕ → ℕ → Bool
+takesDigit v d = isDigit d && (ltb 0 v && ltb v 1000)
 
 -- the number v so far, and the digits after it
 unfoldable pub numberFrom : ℕ → List ℕ → Numeral
 numberFrom v [] = Is v
-numberFrom v (d ∷ s) = cond (takes v d) (numberFrom (v * 10 + (d - 48)) s) Wrong
+numberFrom v (d ∷ s) = cond (takesDigit v d) (numberFrom (v * 10 + (d - 48)) s) Wrong
 
 -- the number that a field is: a digit, and those after it
-unfoldable pub numberOf : List ℕ → Numeral
-numberOf [] = Wrong
-numberOf (d ∷ s) = cond (isDigit d) (numberFrom (d - 48) s) Wrong
+unfoldable pub numeralOf : List ℕ → Numeral
+numeralOf [] = Wrong
+numeralOf (d ∷ s) = cond (isDigit d) (numberFrom (d - 48) s) Wrong
 
 -- ---- written
 

@@ -24,14 +24,14 @@ pub record Pieces : Type 0 where
   pub rest : List (List ℕ)
 
 -- all of them
-abbrev pub pieces : Pieces → List (List ℕ)
-pieces x = x .first ∷ x .rest
+abbrev pub allPieces : Pieces → List (List ℕ)
+allPieces x = x .first ∷ x .rest
 
 -- s cut at each byte c: where it has none, one piece
 unfoldable pub split : ℕ → List ℕ → Pieces
 split c [] = record { first = []; rest = [] }
 split c (x ∷ s) =
-    cond (eqb x c) (record { first = []; rest = pieces (split c s) }) (record { first = x ∷ split c s .first; rest = split c s .rest })
+    cond (eqb x c) (record { first = []; rest = allPieces (split c s) }) (record { first = x ∷ split c s .first; rest = split c s .rest })
 
 -- pieces put together again, with c between them
 unfoldable pub join : ℕ → List ℕ → List (List ℕ) → List ℕ
@@ -46,7 +46,7 @@ part s a e = take (e - a) (drop a s)
 
 -- the pieces after the one that ends at index e
 unfoldable pub after : ℕ → List ℕ → ℕ → List (List ℕ)
-after c s e = cond (ltb e (length s)) (pieces (split c (drop (suc e) s))) []
+after c s e = cond (ltb e (length s)) (allPieces (split c (drop (suc e) s))) []
 
 -- the piece that starts at index a ends at index e
 pub record PieceEnd (c : ℕ) (s : List ℕ) (a e : ℕ) : Type 0 where

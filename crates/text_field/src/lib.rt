@@ -3,7 +3,7 @@ ghost use mathlib.Core.Path.{_≡_};
 ghost use Prim.Native.Nat.{_-_, _<_, _≤_};
 ghost use lib.ListN.{length};
 ghost use Rattle.text_field.specs.Split.{PieceEnd, same};
-ghost use Rattle.text_field.specs.Number.{isDigit, takes, numberOf};
+ghost use Rattle.text_field.specs.Number.{isDigit, takesDigit, numeralOf};
 
 // A field read as a number.
 pub enum Numeral {
@@ -35,7 +35,7 @@ fn is_digit(d: u8) -> bool
 
 // Whether the number v may go on with the byte d.
 fn goes_on(v: usize, d: u8) -> bool
-    ensures { λ r. ⌜ r ≡ takes v d ⌝ }
+    ensures { λ r. ⌜ r ≡ takesDigit v d ⌝ }
 {
     if !is_digit(d) {
         return false;
@@ -52,7 +52,7 @@ fn wide(d: u8) -> usize
 
 // The number that a field is.
 pub fn number_of(s: &[u8]) -> Numeral
-    ensures { λ r. ⌜ r ≡ numberOf (now (s .entry)) ⌝ }
+    ensures { λ r. ⌜ r ≡ numeralOf (now (s .entry)) ⌝ }
 {
     if s.len() == 0 {
         return Numeral::Wrong;

@@ -1,4 +1,4 @@
--- Four arms: number, class and site are looked at in this order, which is that of `busOf`.
+-- Four arms: number, class and site are looked at in this order, which is that of `busRecordOf`.
 use borrow.Author.Needs.{needs}
 use Rattle.case_line.proofs.bus_of.Statement.{statement}
 use Rattle.case_line.proofs.bus_of.Tie as tie

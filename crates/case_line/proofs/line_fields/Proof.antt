@@ -1,5 +1,5 @@
 -- The first field is what `piece_end` cuts off, and the fields after its end are the rest of the same split.
-use Rattle.case_line.specs.Record.{lineOf, lineFields}
+use Rattle.case_line.specs.Record.{lineRecordOf, lineFields}
 use Rattle.case_line.proofs.Answers.{via₂}
 use Rattle.case_line.proofs.Fields.{by-none, by-next}
 use borrow.Author.Needs.{needs}
@@ -36,7 +36,7 @@ line-of-requires c κs = search needs
 
 returns-2 : tie.Need-returns-2
 unfolding lineFields
-returns-2 c = search (by-next lineFields, via₂ lineOf)
+returns-2 c = search (by-next lineFields, via₂ lineRecordOf)
 
 pub line-fields-spec : {M : Type 1} → statement M
 line-fields-spec =

@@ -1,4 +1,4 @@
--- Three arms: the second field is looked at only if the first is a number, and `lineOf` asks in the same order.
+-- Three arms: the second field is looked at only if the first is a number, and `lineRecordOf` asks in the same order.
 use borrow.Author.Needs.{needs}
 use Rattle.case_line.proofs.line_of.Statement.{statement}
 use Rattle.case_line.proofs.line_of.Tie as tie

@@ -1,5 +1,5 @@
 -- The word is the piece before the first tab, and the fields are the rest of the same split. Then each arm is a call's contract.
-use Rattle.case_line.specs.Record.{wordOf, gridOf, pmuOf, byWord, recordOf}
+use Rattle.case_line.specs.Record.{recordWordOf, gridRecordOf, pmuRecordOf, byWord, recordOf}
 use Rattle.case_line.proofs.Answers.{in-arm, via}
 use Rattle.case_line.proofs.Fields.{by-first}
 use borrow.Author.Needs.{needs}
@@ -62,27 +62,27 @@ enum-told-6 c = search needs
 
 returns : tie.Need-returns
 unfolding recordOf
-returns c = search (by-first (λ w. byWord (wordOf w)), in-arm byWord, via gridOf)
+returns c = search (by-first (λ w. byWord (recordWordOf w)), in-arm byWord, via gridRecordOf)
 
 returns-2 : tie.Need-returns-2
 unfolding recordOf
-returns-2 c = search (by-first (λ w. byWord (wordOf w)), in-arm byWord)
+returns-2 c = search (by-first (λ w. byWord (recordWordOf w)), in-arm byWord)
 
 returns-3 : tie.Need-returns-3
 unfolding recordOf
-returns-3 c = search (by-first (λ w. byWord (wordOf w)), in-arm byWord)
+returns-3 c = search (by-first (λ w. byWord (recordWordOf w)), in-arm byWord)
 
 returns-4 : tie.Need-returns-4
 unfolding recordOf
-returns-4 c = search (by-first (λ w. byWord (wordOf w)), in-arm byWord, via pmuOf)
+returns-4 c = search (by-first (λ w. byWord (recordWordOf w)), in-arm byWord, via pmuRecordOf)
 
 returns-5 : tie.Need-returns-5
 unfolding recordOf
-returns-5 c = search (by-first (λ w. byWord (wordOf w)), in-arm byWord)
+returns-5 c = search (by-first (λ w. byWord (recordWordOf w)), in-arm byWord)
 
 returns-6 : tie.Need-returns-6
 unfolding recordOf
-returns-6 c = search (by-first (λ w. byWord (wordOf w)), in-arm byWord)
+returns-6 c = search (by-first (λ w. byWord (recordWordOf w)), in-arm byWord)
 
 pub record-of-spec : {M : Type 1} → statement M
 record-of-spec =

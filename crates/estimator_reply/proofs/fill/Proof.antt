@@ -3,13 +3,13 @@ use borrow.Author.Needs.{needs}
 use Prim.Native.Nat.{_-_, _≤_}
 use native.Mathlib.Omega.{arith}
 use Rattle.busset.specs.Bytes.{setBytes}
-use Rattle.step.proofs.Writing.{Written, written-none}
+use Rattle.step.proofs.Writing.{WrittenSoFar, written-none}
 use Rattle.estimator_reply.proofs.Filling.{filled-more, filled-all}
 use Rattle.estimator_reply.proofs.fill.Statement.{statement}
 use Rattle.estimator_reply.proofs.fill.Tie as tie
 
 abbrev Inv-loop : tie.InvT-loop
-Inv-loop s set₀ i₀ set i = (i ≤ 8) × Written (setBytes s) set₀ set i
+Inv-loop s set₀ i₀ set i = (i ≤ 8) × WrittenSoFar (setBytes s) set₀ set i
 
 abbrev μ-loop : tie.MeasureT-loop
 μ-loop s set₀ i₀ set i = 8 - i

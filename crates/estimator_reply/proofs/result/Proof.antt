@@ -1,8 +1,8 @@
--- By the answer's variant. `Placed` bounds the place of a refusal, so its number fits a u32 even with 50 more.
+-- By the answer's variant. `PlaceInRange` bounds the place of a refusal, so its number fits a u32 even with 50 more.
 use borrow.Author.Needs.{needs}
 use mathlib.Core.Path.{subst}
 use native.Mathlib.Omega.{arith}
-use Rattle.estimator_reply.specs.Results.{Placed}
+use Rattle.estimator_reply.specs.Results.{PlaceInRange}
 use Rattle.estimator_reply.proofs.Replying.{code-small, result-short, result-set, result-refused, result-unread}
 use Rattle.estimator_reply.proofs.result.Statement.{statement}
 use Rattle.estimator_reply.proofs.result.Tie as tie
@@ -22,7 +22,7 @@ enum-known-answer c = search needs
 code-requires-2 : tie.Need-code-requires-2
 code-requires-2 c κs =
     let at-answer = c .before in
-    subst Placed (at-answer .answer .given .1) (at-answer .before .before .pre)
+    subst PlaceInRange (at-answer .answer .given .1) (at-answer .before .before .pre)
 
 enum-known-answer-2 : tie.Need-enum-known-answer-2
 enum-known-answer-2 c = search needs
@@ -30,7 +30,7 @@ enum-known-answer-2 c = search needs
 code-requires-3 : tie.Need-code-requires-3
 code-requires-3 c κs =
     let at-answer2 = c .before in
-    subst Placed (at-answer2 .answer2 .given .1) (at-answer2 .before .before .pre)
+    subst PlaceInRange (at-answer2 .answer2 .given .1) (at-answer2 .before .before .pre)
 
 add-result : tie.Need-add-result
 add-result c =
@@ -38,7 +38,7 @@ add-result c =
     omega (
       arith,
       c .code3 .ensures,
-      code-small (at-answer2 .answer2 .given .0 .0) (subst Placed (at-answer2 .answer2 .given .1) (at-answer2 .before .before .pre)),
+      code-small (at-answer2 .answer2 .given .0 .0) (subst PlaceInRange (at-answer2 .answer2 .given .1) (at-answer2 .before .before .pre)),
     )
 
 returns-2 : tie.Need-returns-2

@@ -44,7 +44,7 @@ use Rattle.list_follow.specs.Following.{Follows}
 use Rattle.step.specs.Records.{noStep}
 use Rattle.step.specs.declared.Step.{Step}
 use Rattle.list_follow.specs.declared.Following.{Following}
-use Rattle.step.proofs.Sizes.{bytes, offset-fits}
+use Rattle.step.proofs.Sizes.{recordBytes, offset-fits}
 use Rattle.step.proofs.Step as T
 use Rattle.step.proofs.Step.Laws as T′
 use Rattle.grid.specs.declared.Case.{Case}
@@ -170,7 +170,7 @@ module _ {M : Type 1} (𝓤 : URA M) (H : Heap 𝓤) (A : Atoms 𝓤) (W : Given
         rewrite ! 10 (λ (y : Bool). ‵ (fat fullShare tyBool l₇ 0 (vbool y))) e refl $ stays ! (load ! (from ! (stop !)) (look ! 10 refl)) $
         assigns ! (bin ! (load ! (from ! (stop !)) (look ! 14 refl)) (lit ! tt) (record { fits = offset-fits n (t .i) (gn .1) l })) (from ! (stop !)) (store ! 12 refl (tt, record { fits = offset-fits n (t .i) (gn .1) l })) $
         assigns ! (bin ! (load ! (from ! (fld ! refl (stop !))) (look-in ! 18 (sub ! 0 refl (whole !)))) (load ! (from ! (stop !)) (look ! 12 refl)) tt) (from ! (stop !)) (init ! 8 refl (tt, tt)) $
-        rewrite ! 8 (λ (p : ℕ). ‵ (fat fullShare tyPtr l₈ 0 (vptr b p))) (sym (place-is bytes o (t .i))) refl $
+        rewrite ! 8 (λ (p : ℕ). ‵ (fat fullShare tyPtr l₈ 0 (vptr b p))) (sym (place-is recordBytes o (t .i))) refl $
         elem-out ! T.the-row (Is T.the-row) (shows 𝓤 H A T.the-row) (LL.vals T.the-type T′.the-laws) (LL.tells T.the-type T′.the-laws) q′ ys (t .i) noStep b o l (λ g.
         assigns ! (of-opd ! (load ! (from ! (hop ! (look ! 10 refl) (stop !))) (look-raw ! 0 refl))) (from ! (stop !)) (init ! 8 refl (step-typed 𝓤 H A W (el t) _ g)) $
         elem-back ! T.the-row q′ ys (t .i) noStep (LL.vals T.the-type T′.the-laws (el t)) b o l $

@@ -46,11 +46,11 @@ use denote.Exit.{yes}
 use Rattle.step.specs.Records.{noStep, putFirst}
 use Rattle.step.specs.declared.Step.{Step}
 use Rattle.step.proofs.Records.{put-long, put-next}
-use Rattle.step.proofs.Sizes.{bytes, offset-fits}
+use Rattle.step.proofs.Sizes.{recordBytes, offset-fits}
 use Rattle.step.proofs.Step as T
 use Rattle.step.proofs.Step.Laws as T′
 use Rattle.list_value.specs.Lists.{nthOf}
-use Rattle.list_follow.specs.Replies.{woveAt, countOf, Put}
+use Rattle.list_follow.specs.Replies.{woveAt, countWritten, PutSteps}
 use Rattle.list_follow.specs.declared.Following.{Following}
 use Rattle.list_follow.specs.declared.Wove.{Wove}
 use Rattle.list_follow.proofs.Ends.{count-fits}
@@ -131,7 +131,7 @@ module _ {M : Type 1} (𝓤 : URA M) (H : Heap 𝓤) (A : Atoms 𝓤) (W : Given
   abbrev Post : Val → SProp 𝓤
   Post = walkOf 𝓤 H A f.ended stayed (f.clauses 𝓤 H A mem run) .post (((κ, tt), (q, tt), tt, a, at), tt)
 
-  exits : (zs : List Step) (w : Wove) (v : Val) → Is O.the-row w (v ∷ []) → length zs ≡ n → Put st ys zs w
+  exits : (zs : List Step) (w : Wove) (v : Val) → Is O.the-row w (v ∷ []) → length zs ≡ n → PutSteps st ys zs w
       → ent 𝓤 (⋆ 𝓤 H A (‵ (fobs γ (codedHoleys T.the-row .code (heres T.the-row zs))) ∷ ‵ (fbor κ (Held T.the-row (length zs) b o γ)) ∷ ‵ (flft κ q) ∷ [])) (Post v)
   exits zs w v is long e =
       qed W (‵ (fobs γ (codedHoleys T.the-row .code (heres T.the-row zs))) ∷ ‵ (fbor κ (Held T.the-row (length zs) b o γ)) ∷ ‵ (flft κ q) ∷ []) ∵
@@ -151,7 +151,7 @@ module _ {M : Type 1} (𝓤 : URA M) (H : Heap 𝓤) (A : Atoms 𝓤) (W : Given
   sp τ = spell mir.table τ
 
   -- the loop, once it is settled that m records are written
-  module _ (𝓣 : Tables 𝓤 H) (known : Triple 𝓤 (𝓣 .C #list_value·nth) (Nth 𝓤 H A mem run)) (w : Wove) (u : Val) (gw : Is O.the-row w (u ∷ [])) (told : w ≡ woveAt st n (st .standing)) (m : ℕ) (gm : m < 2 ^ 64) (counted : m ≡ countOf w) (l₀ l₁ l₂ l₃ l₄ l₅ l₆ l₇ l₈ l₉ l₁₀ l₁₁ : ℕ) where
+  module _ (𝓣 : Tables 𝓤 H) (known : Triple 𝓤 (𝓣 .C #list_value·nth) (Nth 𝓤 H A mem run)) (w : Wove) (u : Val) (gw : Is O.the-row w (u ∷ [])) (told : w ≡ woveAt st n (st .standing)) (m : ℕ) (gm : m < 2 ^ 64) (counted : m ≡ countWritten w) (l₀ l₁ l₂ l₃ l₄ l₅ l₆ l₇ l₈ l₉ l₁₀ l₁₁ : ℕ) where
     abbrev at-i : Turn m → ℕ
     at-i t = t .i
 
@@ -192,7 +192,7 @@ module _ {M : Type 1} (𝓤 : URA M) (H : Heap 𝓤) (A : Atoms 𝓤) (W : Given
         land ! (from ! (stop !)) (init ! 10 refl (step-typed 𝓤 H A W r _ is)) $
         assigns ! (bin ! (load ! (from ! (stop !)) (look ! 16 refl)) (lit ! tt) (record { fits = offset-fits n (t .i) (gn .1) ln })) (from ! (stop !)) (init ! 8 refl (tt, record { fits = offset-fits n (t .i) (gn .1) ln })) $
         assigns ! (bin ! (load ! (from ! (fld ! refl (stop !))) (look-in ! 24 (sub ! 0 refl (whole !)))) (load ! (from ! (stop !)) (look ! 8 refl)) tt) (from ! (stop !)) (init ! 6 refl (tt, tt)) $
-        rewrite ! 6 (λ (p : ℕ). ‵ (fat fullShare tyPtr l₁₁ 0 (vptr b p))) (sym (place-is bytes o (t .i))) refl $
+        rewrite ! 6 (λ (p : ℕ). ‵ (fat fullShare tyPtr l₁₁ 0 (vptr b p))) (sym (place-is recordBytes o (t .i))) refl $
         elem-out ! T.the-row (Is T.the-row) (shows 𝓤 H A T.the-row) (LL.vals T.the-type T′.the-laws) (LL.tells T.the-type T′.the-laws) fullShare (sofar t) (t .i) noStep b o lw (λ _.
         assigns ! (of-opd ! (load ! (from ! (stop !)) (look ! 12 refl))) (from ! (hop ! (look ! 8 refl) (stop !))) (store-raw ! 0 refl (step-typed 𝓤 H A W r _ is)) $
         move ! (1 ∷ []) $ drop ! $ owned ! T.the-row (Is T.the-row) (step-made 𝓤 H A) r (v ∷ []) is $ move ! (1 ∷ 0 ∷ []) $ elem-put ! T.the-row fullShare (sofar t) (t .i) r (v ∷ []) b o lw $
@@ -204,7 +204,7 @@ module _ {M : Type 1} (𝓤 : URA M) (H : Heap 𝓤) (A : Atoms 𝓤) (W : Given
         l = below (t .i) m e
 
         ln : t .i < n
-        ln = inside (t .i) m n l (subst (λ (k : ℕ). k ≤ n) (sym (counted ∙ ap countOf told)) (count-fits st n (st .standing)))
+        ln = inside (t .i) m n l (subst (λ (k : ℕ). k ≤ n) (sym (counted ∙ ap countWritten told)) (count-fits st n (st .standing)))
 
         lw : t .i < length (sofar t)
         lw = subst (λ (k : ℕ). t .i < k) (sym (put-long (t .i) (nthOf (st .list)) ys)) ln
@@ -235,7 +235,7 @@ module _ {M : Type 1} (𝓤 : URA M) (H : Heap 𝓤) (A : Atoms 𝓤) (W : Given
         (and-then ! (load ! (from ! (stop !)) (look ! 21 refl)) (and-then ! (load ! (from ! (stop !)) (look ! 9 refl)) (no-more !))) (λ u w gw told.
         land ! (from ! (stop !)) (init ! 16 refl (wove-typed 𝓤 H A W w _ gw)) $
         calls-plain ! (fmOf 𝓤 H (W .laws) 𝓣) count-of.ended (count-of.clauses 𝓤 H A mem run) counts (tt, tt, tt, (w, tt), (u ∷ [], tt)) tt (id⊢ 𝓤 _) (id⊢ 𝓤 _)
-        (wove-made 𝓤 H A, tt) (gw, tt) (λ m. m ≡ countOf w) (λ r ws. id⊢ 𝓤 _)
+        (wove-made 𝓤 H A, tt) (gw, tt) (λ m. m ≡ countWritten w) (λ r ws. id⊢ 𝓤 _)
         (and-then ! (load ! (from ! (stop !)) (look ! 17 refl)) (no-more !)) (λ v m gm counted.
         land ! (from ! (stop !)) (init ! 14 refl (uint-lawful 𝓤 H A W w64 .typed m (v ∷ []) gm .0)) $
         rewrite ! 14 (λ (y : Val). ‵ (fat fullShare word l₄ 0 y)) (ap only (gm .0)) refl $

@@ -38,7 +38,7 @@ use Rattle.step.proofs.Step as T
 use Rattle.grid.specs.declared.Case.{Case}
 use Rattle.grid.proofs.Case as D
 use Rattle.grid.proofs.Case.Laws as D′
-use Rattle.list_follow.specs.Replies.{Ended, ReplayReply}
+use Rattle.list_follow.specs.Replies.{AnswersReplay, ReplayReply}
 use Rattle.list_follow.specs.declared.Task.the-variants.{Replay}
 use Rattle.list_follow.specs.declared.Replayed.{Replayed}
 use Rattle.list_follow.proofs.Replayed as R
@@ -113,7 +113,7 @@ module _ {M : Type 1} (𝓤 : URA M) (H : Heap 𝓤) (A : Atoms 𝓤) (W : Given
         (and-then ! (load ! (from ! (stop !)) (look ! 11 refl)) (and-then ! (load ! (from ! (stop !)) (look ! 5 refl)) (and-then ! (load ! (from ! (stop !)) (look ! 9 refl)) (no-more !)))) (λ sv st gst e₂.
         land ! (from ! (stop !)) (init ! 7 refl (following-typed 𝓤 H A W st _ gst)) $
         calls-plain ! (fmOf 𝓤 H (W .laws) 𝓣) ended.ended (ended.clauses 𝓤 H A mem run) ends (tt, tt, tt, (cs, (st, tt)), (cmach ∷ [], (sv ∷ [], tt))) tt (id⊢ 𝓤 _) (id⊢ 𝓤 _)
-        (case-made 𝓤 H A, (following-made 𝓤 H A, tt)) (gcs, (gst, tt)) (Ended cs st) (λ r ws. id⊢ 𝓤 _)
+        (case-made 𝓤 H A, (following-made 𝓤 H A, tt)) (gcs, (gst, tt)) (AnswersReplay cs st) (λ r ws. id⊢ 𝓤 _)
         (and-then ! (load ! (from ! (stop !)) (look ! 12 refl)) (and-then ! (load ! (from ! (stop !)) (look ! 8 refl)) (no-more !))) (λ v r gr e₃.
         land ! (from ! (stop !)) (init ! 13 refl (replayed-typed 𝓤 H A W r _ gr)) $
         returns ! (look ! 13 refl) $ move ! (13 ∷ 14 ∷ 11 ∷ 12 ∷ 9 ∷ 10 ∷ 7 ∷ 8 ∷ 5 ∷ 6 ∷ 3 ∷ 4 ∷ 1 ∷ 2 ∷ []) $

@@ -38,7 +38,7 @@ use Rattle.step.proofs.Step as T
 use Rattle.grid.specs.declared.Case.{Case}
 use Rattle.grid.proofs.Case as D
 use Rattle.grid.proofs.Case.Laws as D′
-use Rattle.list_follow.specs.Replies.{Put, WeaveReply}
+use Rattle.list_follow.specs.Replies.{PutSteps, WeaveReply}
 use Rattle.list_follow.specs.declared.Task.the-variants.{Weave}
 use Rattle.list_follow.specs.declared.Wove.{Wove}
 use Rattle.list_follow.proofs.Ends.{weave-law}
@@ -136,7 +136,7 @@ module _ {M : Type 1} (𝓤 : URA M) (H : Heap 𝓤) (A : Atoms 𝓤) (W : Given
         assigns ! (agg ! (and-then ! (load ! (from ! (stop !)) (look ! 5 refl)) (and-then ! (load ! (from ! (fld ! refl (stop !))) (look-in ! 15 (sub ! 1 refl (whole !)))) (no-more !)))) (from ! (stop !)) (init ! 3 refl (tt, (tt, (record { fits = gn′ .0 }, tt)))) $
         move ! (1 ∷ []) $ owned ! S.the-row (Is S.the-row) (following-made 𝓤 H A) st _ gst $ fjoin ! $ move ! (2 ∷ 0 ∷ []) $ use1 W (raw second-alive) (id⊢ 𝓤 _) $
         calls-lent ! (fmOf 𝓤 H (W .laws) 𝓣) put.ended (put.clauses 𝓤 H A mem run) puts ((κ′, tt), (q′, tt), tt, (st, (y, tt)), (sv ∷ [], (sliceVal (b′, o′) (length zs) ∷ [], tt))) tt (id⊢ 𝓤 _)
-        (λ r ws. Put st zs (ws .1 .0) r) (λ r ws. id⊢ 𝓤 _)
+        (λ r ws. PutSteps st zs (ws .1 .0) r) (λ r ws. id⊢ 𝓤 _)
         (and-then ! (load ! (from ! (stop !)) (look ! 12 refl)) (and-then ! (load ! (from ! (stop !)) (look ! 2 refl)) (no-more !))) (λ v w ws gw e₃.
         -- [put's token; what is said of out's last value; follow's token; the locals]
         move ! (1 ∷ []) $ fsplit ! $ drop ! $ fsplit ! $ move ! (1 ∷ []) $ drop ! $ fsplit ! $ move ! (1 ∷ []) $ feqL ! (λ long.

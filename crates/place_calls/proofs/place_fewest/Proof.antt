@@ -1,4 +1,4 @@
--- The checks 5, 10, 11 in this order. The search's `Nothing` is that there is no plan within the budget, which is 11.
+-- The checks 5, 10, 11 in this order. The search's `Nothing` is that there is no addition within the budget, which is 11.
 use mathlib.Core.Path.{_≡_, subst}
 use mathlib.Core.Logic.{inl, inr}
 use native.Mathlib.Omega.{arith}

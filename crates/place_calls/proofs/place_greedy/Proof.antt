@@ -7,7 +7,7 @@ use lib.ListN.{take}
 use Rattle.basics.proofs.Tests.{refutes}
 use Rattle.grid.specs.Cases.{gridOf, Valid}
 use Rattle.refusals.proofs.Orders.{itself}
-use Rattle.place_greedy.specs.Choices.{Listed}
+use Rattle.place_greedy.specs.Choices.{AddedSites}
 use Rattle.place_greedy.proofs.Comparing.{listed-count, listed-room, listed-no-room}
 use borrow.Author.Needs.{needs}
 use Rattle.place_calls.proofs.place_greedy.Statement.{statement}
@@ -19,7 +19,7 @@ valid c = c .before .is-valid .ensures .yes (not-false _ (c .if1 .left))
 -- what greedy adds
 listed : (c : tie.After-greedy)
     → let s = c .before .before .before .before .before .before .before in
-    Listed (gridOf (s .args .case)) (s .args .budget) (c .greedy .result .count) (c .greedy .result .sites)
+    AddedSites (gridOf (s .args .case)) (s .args .budget) (c .greedy .result .count) (c .greedy .result .sites)
 listed c = c .greedy .ensures _
 
 is-valid-requires : tie.Need-is-valid-requires

@@ -13,7 +13,7 @@ use Rattle.rules.specs.Observation.{ObservedSet}
 use Rattle.rules.proofs.Covering.{covers-full, full-covers}
 use Rattle.grid.specs.Cases.{neighbours}
 use Rattle.place_light.specs.Ways.{Whatever}
-use Rattle.place_light.proofs.Searching.{way-none, no-way-none, no-way-left, Passed, passed-none, passed-more, passed-no, passed-first}
+use Rattle.place_light.proofs.Searching.{way-none, no-way-none, no-way-left, KeepsWays, passed-none, passed-more, passed-no, passed-first}
 use Rattle.place_light.proofs.Covers.{no-cover-way}
 use Rattle.place_fewest.proofs.Finding.{found-take, found-pass}
 use borrow.Fn.Kinds.{In}
@@ -44,7 +44,7 @@ search-below t = and 1 search-kinds.ps (falls 1 search-kinds.ps _<_ μ-search t)
 abbrev search-Inv-loop : search-lts.InvT-loop
 search-Inv-loop n nbr zero s sites k left₀ left =
     Sub (setOf left) (setOf sites)
-    × Whatever n (neighbours nbr) (setOf zero) (λ g. ObservedSet g (setOf s) → Passed g (setOf sites) k (setOf left))
+    × Whatever n (neighbours nbr) (setOf zero) (λ g. ObservedSet g (setOf s) → KeepsWays g (setOf sites) k (setOf left))
 
 abbrev search-μ-loop : search-lts.MeasureT-loop
 search-μ-loop n nbr zero s sites k left₀ left = size (setOf left)

@@ -6,7 +6,7 @@ use borrow.Author.Needs.{needs}
 use Rattle.busset.specs.Sets.{setOf}
 use Rattle.rules.specs.Grids.{Grid}
 use Rattle.grid.specs.Cases.{gridWith}
-use Rattle.place_light.proofs.Searching.{NoFewer, no-fewer-none, no-fewer-more, first-fewest, no-plan}
+use Rattle.place_light.proofs.Searching.{NoFewer, no-fewer-none, no-fewer-more, first-fewest, no-addition}
 use Rattle.place_fewest.specs.declared.Found.{Found}
 use Rattle.place_fewest.specs.Answers.{FoundIs}
 use Rattle.place_fewest.proofs.fewest.Statement.{statement}
@@ -76,7 +76,7 @@ loop-again c =
 returns-2 : tie.Need-returns-2 Inv-loop μ-loop
 returns-2 c =
     let l = c .before in
-    no-plan (l .before .minus .ensures) (search needs) (l .loop .inv .2)
+    no-addition (l .before .minus .ensures) (search needs) (l .loop .inv .2)
 
 pub fewest-spec : {M : Type 1} → statement M
 fewest-spec =

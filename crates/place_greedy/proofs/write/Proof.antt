@@ -4,13 +4,13 @@ use mathlib.Core.Path.{_≡_, subst}
 use mathlib.Core.List.{_++_}
 use native.Mathlib.Omega.{arith}
 use lib.ListN.{take, drop}
-use Rattle.step.proofs.Writing.{Written, written-none, written-more}
+use Rattle.step.proofs.Writing.{WrittenSoFar, written-none, written-more}
 use borrow.Author.Needs.{needs}
 use Rattle.place_greedy.proofs.write.Statement.{statement}
 use Rattle.place_greedy.proofs.write.Tie as tie
 
 abbrev Inv-loop : tie.InvT-loop
-Inv-loop out₀ sites count i₀ out i = (i ≤ count) × Written sites out₀ out i
+Inv-loop out₀ sites count i₀ out i = (i ≤ count) × WrittenSoFar sites out₀ out i
 
 abbrev μ-loop : tie.MeasureT-loop
 μ-loop out₀ sites count i₀ out i = count - i

@@ -51,14 +51,14 @@ use denote.Exit.{yes}
 use Rattle.step.specs.Records.{noStep, putFirst}
 use Rattle.step.specs.declared.Step.{Step}
 use Rattle.step.proofs.Records.{put-long, put-next}
-use Rattle.step.proofs.Sizes.{bytes, offset-fits}
+use Rattle.step.proofs.Sizes.{recordBytes, offset-fits}
 use Rattle.step.proofs.Step as T
 use Rattle.step.proofs.Step.Laws as T′
 use Rattle.step_text.specs.Steps.{readSteps, stepsFrom, stepsOf}
-use Rattle.step_text.specs.Taking.{withRoom, StepsReadReply, countOf, Takes}
+use Rattle.step_text.specs.Taking.{withRoom, StepsReadReply, countRead, Takes}
 use Rattle.step_text.specs.declared.StepsRead.{StepsRead}
 use Rattle.step_text.specs.declared.taking.Taken.{Taken}
-use Rattle.step_text.proofs.TakingLaws.{count-fits, placed, takes-next, read-law}
+use Rattle.step_text.proofs.TakingLaws.{count-fits, nthStep, takes-next, read-law}
 use Rattle.step_text.proofs.StepsRead as O
 use Rattle.step_text.proofs.StepsRead.Laws as O′
 use Rattle.step_text.proofs.taking.Taken as K
@@ -190,7 +190,7 @@ module _ {M : Type 1} (𝓤 : URA M) (H : Heap 𝓤) (A : Atoms 𝓤) (W : Given
 
   -- the loop, once it is known that m records are written
   module _ (𝓣 : Tables 𝓤 H) (takes : Triple 𝓤 (𝓣 .C #taking·take) (Take 𝓤 H A mem run)) (w : StepsRead) (u : Val)
-      (gw : Is O.the-row w (u ∷ [])) (told : w ≡ withRoom n (readSteps text)) (m : ℕ) (gm : m < 2 ^ 64) (counted : m ≡ countOf w)
+      (gw : Is O.the-row w (u ∷ [])) (told : w ≡ withRoom n (readSteps text)) (m : ℕ) (gm : m < 2 ^ 64) (counted : m ≡ countRead w)
       (l₀ l₁ l₂ l₃ l₄ l₅ l₆ l₇ l₈ l₉ l₁₀ l₁₁ : ℕ) where
     abbrev at-i : Turn text m → ℕ
     at-i t = t .i
@@ -209,7 +209,7 @@ module _ {M : Type 1} (𝓤 : URA M) (H : Heap 𝓤) (A : Atoms 𝓤) (W : Given
 
     -- what is written when a turn begins
     abbrev sofar : Turn text m → List Step
-    sofar t = putFirst (t .i) (placed xs) ys
+    sofar t = putFirst (t .i) (nthStep xs) ys
 
     -- [the row; text's token; what text owns; the open borrow; obs; auth; true; out's fact; _11; …; _10; …; _9; …; _8; …; _7; …; _6; …;
     -- _5; …; _4; …; _3; …; _2; …; _1; …; _0; …]
@@ -260,7 +260,7 @@ module _ {M : Type 1} (𝓤 : URA M) (H : Heap 𝓤) (A : Atoms 𝓤) (W : Given
         (from ! (stop !)) (init ! 10 refl (tt, record { fits = offset-fits n (t .i) (gn .1) ln })) $
         assigns ! (bin ! (load ! (from ! (fld ! refl (stop !))) (look-in ! 26 (sub ! 0 refl (whole !))))
         (load ! (from ! (stop !)) (look ! 10 refl)) tt) (from ! (stop !)) (init ! 8 refl (tt, tt)) $
-        rewrite ! 8 (λ (p : ℕ). ‵ (fat fullShare tyPtr l₁₁ 0 (vptr b p))) (sym (place-is bytes o (t .i))) refl $
+        rewrite ! 8 (λ (p : ℕ). ‵ (fat fullShare tyPtr l₁₁ 0 (vptr b p))) (sym (place-is recordBytes o (t .i))) refl $
         elem-out ! T.the-row (Is T.the-row) (shows 𝓤 H A T.the-row) (LL.vals T.the-type T′.the-laws) (LL.tells T.the-type T′.the-laws)
         fullShare (sofar t) (t .i) noStep b o lw (λ _.
         assigns ! (of-opd ! (load ! (from ! (fld ! refl (stop !))) (look-in ! 18 (sub ! 0 refl (whole !)))))
@@ -269,7 +269,7 @@ module _ {M : Type 1} (𝓤 : URA M) (H : Heap 𝓤) (A : Atoms 𝓤) (W : Given
         (parts v r is .0) $ move ! (1 ∷ 0 ∷ []) $
         elem-put ! T.the-row fullShare (sofar t) (t .i) (r .step) (LL.vals T.the-type T′.the-laws (r .step)) b o lw $
         rewrite ! 0 (λ (zs : List Step). ‵ (row T.the-row fullShare zs b o))
-        (put-next (t .i) (placed xs) ys (r .step) (takes-next (t .i) xs (t .is) e₁ .0)) refl $
+        (put-next (t .i) (nthStep xs) ys (r .step) (takes-next (t .i) xs (t .is) e₁ .0)) refl $
         assigns ! (of-opd ! (load ! (from ! (fld ! refl (stop !))) (look-in ! 16 (sub ! 1 refl (whole !))))) (from ! (stop !))
         (store ! 20 refl (uint-lawful 𝓤 H A W w64 .typed (r .next) _ (parts v r is .1 .0) .0)) $
         assigns-last ! (bin ! (load ! (from ! (stop !)) (look ! 18 refl)) (lit ! tt) (record { fits = next-fits m (t .i) gm l }))
@@ -284,21 +284,21 @@ module _ {M : Type 1} (𝓤 : URA M) (H : Heap 𝓤) (A : Atoms 𝓤) (W : Given
         ln = inside (t .i) m n l (subst (λ (k : ℕ). k ≤ n) (sym counted) (count-fits n w (readSteps text) told))
 
         lw : t .i < length (sofar t)
-        lw = subst (λ (k : ℕ). t .i < k) (sym (put-long (t .i) (placed xs) ys)) ln
+        lw = subst (λ (k : ℕ). t .i < k) (sym (put-long (t .i) (nthStep xs) ys)) ln
     turn t false e =
         assigns ! (bin ! (load ! (from ! (stop !)) (look ! 18 refl)) (load ! (from ! (stop !)) (look ! 22 refl)) tt) (from ! (stop !))
         (init ! 12 refl (tt, tt)) $
         rewrite ! 12 (λ (y : Bool). ‵ (fat fullShare tyBool l₉ 0 (vbool y))) e refl $
         leaves-loop ! (load ! (from ! (stop !)) (look ! 12 refl)) $ exec ! C Λ E mir.t-7 (atRet E Post) $
-        move ! (0 ∷ 3 ∷ 4 ∷ 5 ∷ []) $ closes-slice ! tt T.the-row ys (sofar t) (put-long (t .i) (placed xs) ys) b o $
+        move ! (0 ∷ 3 ∷ 4 ∷ 5 ∷ []) $ closes-slice ! tt T.the-row ys (sofar t) (put-long (t .i) (nthStep xs) ys) b o $
         assigns ! (of-opd ! (load ! (from ! (stop !)) (look ! 23 refl))) (from ! (stop !))
         (init ! 29 refl (steps-read-typed 𝓤 H A W w _ gw)) $
         returns ! (look ! 29 refl) $ move ! (29 ∷ 30 ∷ 27 ∷ 28 ∷ 25 ∷ 26 ∷ 23 ∷ 24 ∷ 21 ∷ 22 ∷ 19 ∷ 20 ∷ 17 ∷ 18 ∷ 15 ∷ 16 ∷ 13 ∷ 14 ∷ 11
         ∷ 12 ∷ 9 ∷ 10 ∷ 7 ∷ 8 ∷ []) $
         let-go ! $ let-go ! $ let-go ! $ let-go ! $ let-go ! $ let-go ! $ let-go ! $ free1 ! $ let-go ! $ let-go ! $
         free1 ! $ free1 ! $ free0 ! $
-        keep ! (0 ∷ 1 ∷ 2 ∷ 3 ∷ []) $ by ! (exits (sofar t) w u gw (put-long (t .i) (placed xs) ys)
-        (subst (λ (k : ℕ). StepsReadReply text ys (putFirst k (placed xs) ys) w)
+        keep ! (0 ∷ 1 ∷ 2 ∷ 3 ∷ []) $ by ! (exits (sofar t) w u gw (put-long (t .i) (nthStep xs) ys)
+        (subst (λ (k : ℕ). StepsReadReply text ys (putFirst k (nthStep xs) ys) w)
         (sym (le-antisymm (t .le) (above (t .i) m e) ∙ counted)) (read-law text ys w told)))
 
     abbrev start : Turn text m
@@ -335,7 +335,7 @@ module _ {M : Type 1} (𝓤 : URA M) (H : Heap 𝓤) (A : Atoms 𝓤) (W : Given
         move ! (1 ∷ []) $ drop ! $ land ! (from ! (stop !)) (init ! 20 refl (steps-read-typed 𝓤 H A W w _ gw)) $
         calls-plain ! (fmOf 𝓤 H (W .laws) 𝓣) count-of.ended (count-of.clauses 𝓤 H A mem run) counts (tt, tt, tt, (w, tt), (u ∷ [], tt)) tt
         (id⊢ 𝓤 _) (id⊢ 𝓤 _)
-        (steps-read-made 𝓤 H A, tt) (gw, tt) (λ m. m ≡ countOf w) (λ r ws. id⊢ 𝓤 _)
+        (steps-read-made 𝓤 H A, tt) (gw, tt) (λ m. m ≡ countRead w) (λ r ws. id⊢ 𝓤 _)
         (and-then ! (load ! (from ! (stop !)) (look ! 21 refl)) (no-more !)) (λ v m gm counted.
         land ! (from ! (stop !)) (init ! 18 refl (uint-lawful 𝓤 H A W w64 .typed m (v ∷ []) gm .0)) $
         rewrite ! 18 (λ (y : Val). ‵ (fat fullShare word l₄ 0 y)) (ap only (gm .0)) refl $

@@ -1,8 +1,8 @@
--- Three exits: no digit, no number so far, or a number that must be below 1000. `takes` joins the same three.
+-- Three exits: no digit, no number so far, or a number that must be below 1000. `takesDigit` joins the same three.
 use borrow.Author.Needs.{needs}
 use borrow.Author.Tests.{lt-ltb, le-ltb}
 use Rattle.text_field.proofs.Tested.{held, failed}
-use Rattle.text_field.specs.Number.{takes}
+use Rattle.text_field.specs.Number.{takesDigit}
 use Rattle.text_field.proofs.goes_on.Statement.{statement}
 use Rattle.text_field.proofs.goes_on.Tie as tie
 
@@ -10,15 +10,15 @@ is-digit-requires : tie.Need-is-digit-requires
 is-digit-requires c κs = search needs
 
 returns : tie.Need-returns
-unfolding takes
+unfolding takesDigit
 returns c = rw (failed (c .before .is-digit .ensures) (c .if1 .taken))
 
 returns-2 : tie.Need-returns-2
-unfolding takes
+unfolding takesDigit
 returns-2 c = rw (held (c .before .before .is-digit .ensures) (c .before .if1 .left), lt-ltb _ _ (c .if2 .taken))
 
 returns-3 : tie.Need-returns-3
-unfolding takes
+unfolding takesDigit
 returns-3 c = rw (held (c .before .before .is-digit .ensures) (c .before .if1 .left), le-ltb _ _ (c .if2 .left))
 
 pub goes-on-spec : {M : Type 1} → statement M

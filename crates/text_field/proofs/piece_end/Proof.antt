@@ -2,12 +2,12 @@
 use Prim.Native.Nat.{_-_}
 use borrow.Author.Needs.{needs}
 use lib.ListN.{length}
-use Rattle.text_field.proofs.Cutting.{Passed, passed-none, passed-more, passed-at, passed-all}
+use Rattle.text_field.proofs.Cutting.{FreeUpTo, passed-none, passed-more, passed-at, passed-all}
 use Rattle.text_field.proofs.piece_end.Statement.{statement}
 use Rattle.text_field.proofs.piece_end.Tie as tie
 
 abbrev Inv-loop : tie.InvT-loop
-Inv-loop s from c i₀ i = Passed c s from i
+Inv-loop s from c i₀ i = FreeUpTo c s from i
 
 abbrev μ-loop : tie.MeasureT-loop
 μ-loop s from c i₀ i = length s - i

@@ -3,7 +3,7 @@ use borrow.Author.Needs.{needs}
 use Prim.Native.Nat.{_-_, _≤_}
 use mathlib.Core.Path.{_≡_, refl}
 use native.Mathlib.Omega.{arith}
-use Rattle.list_value.specs.Lists.{listed}
+use Rattle.list_value.specs.Lists.{listedSteps}
 use Rattle.text_put.proofs.Left.{Left, left-none, left-more, left-all}
 use Rattle.report_day.specs.Day.{stepsText}
 use Rattle.report_day.proofs.Texts.{restSteps, rest-first, rest-next, rest-all, nth-named, list-length}
@@ -12,7 +12,7 @@ use Rattle.report_day.proofs.lines.put_steps.Tie as tie
 
 abbrev Inv-loop : tie.InvT-loop
 Inv-loop out₀ at list k₀ i₀ i-end out k i =
-    (i ≤ i-end) × (i-end ≡ list .n) × Left out₀ at (stepsText (listed list)) out k (restSteps list i)
+    (i ≤ i-end) × (i-end ≡ list .n) × Left out₀ at (stepsText (listedSteps list)) out k (restSteps list i)
 
 abbrev μ-loop : tie.MeasureT-loop
 μ-loop out₀ at list k₀ i₀ i-end out k i = i-end - i
