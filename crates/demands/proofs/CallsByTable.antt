@@ -73,7 +73,8 @@ pub derivation : (c : Case) (r : Derived) → DerivationReply c r → NothingLen
 derivation c =
     reply-meets (DerivationReply c) (derivationChecks c) noDerivation refl (λ q p. (p .0, refl)) (λ r p. by-answer (r .answer) (r .list) p)
   where
-    by-answer : (a : DerivationAnswer) (l : StepList) → DerivationAt c l a → Passed (derivationChecks c) ⊎ ((q : Refusal) × (_≡_ {A = Derived} (record { answer = a; list = l }) (noDerivation q)))
+    by-answer : (a : DerivationAnswer) (l : StepList) → DerivationAt c l a
+        → Passed (derivationChecks c) ⊎ ((q : Refusal) × (_≡_ {A = Derived} (record { answer = a; list = l }) (noDerivation q)))
     by-answer derived.Found l p = inl (p .0)
     by-answer (derived.Refused q) l p = inr (q, λ i. record { answer = derived.Refused q; list = p .1 i })
 
@@ -84,8 +85,11 @@ replay c xs = reply-meets (ReplayReply c xs) (replayChecks c xs) replayed.Refuse
     cases (replayed.Reached s finished) p = inl (p .0)
     cases (replayed.Refused q) p = inr (q, refl)
 
-pub weave : (c : Case) (xs before after : List Step) (r : Wove) → WeaveReply c xs before after r → ByTable (weaveChecks c xs (length before)) (Refuses wove.Refused r) before after
-weave c xs before after = reply-meets (WeaveReply c xs before after) (weaveChecks c xs (length before)) wove.Refused (weave-ordered c xs (length before)) (λ q p. p) cases
+pub weave : (c : Case) (xs before after : List Step) (r : Wove) → WeaveReply c xs before after r
+    → ByTable (weaveChecks c xs (length before)) (Refuses wove.Refused r) before after
+weave c xs before after =
+    reply-meets (WeaveReply c xs before after) (weaveChecks c xs (length before)) wove.Refused
+    (weave-ordered c xs (length before)) (λ q p. p) cases
   where
     cases : (r : Wove) → WeaveReply c xs before after r → Passed (weaveChecks c xs (length before)) ⊎ ((q : Refusal) × (r ≡ wove.Refused q))
     cases (wove.Written count s) p = inl (p .0)
@@ -100,12 +104,14 @@ cross-validate c = reply-meets (VerdictReply c) (verdictChecks c) verdict.Refuse
     cases (verdict.Unconfirmed s) p = inl (p .0)
     cases (verdict.Refused q) p = inr (q, refl)
 
-pub place-greedy : (c : Case) (budget : ℕ) (entry exit : List ℕ) (r : Greedy) → GreedyReply c budget entry exit r → ByTable (greedyChecks c budget entry) (Refuses greedy.Refused r) entry exit
+pub place-greedy : (c : Case) (budget : ℕ) (entry exit : List ℕ) (r : Greedy) → GreedyReply c budget entry exit r
+    → ByTable (greedyChecks c budget entry) (Refuses greedy.Refused r) entry exit
 place-greedy c budget entry exit =
     reply-meets (GreedyReply c budget entry exit) (greedyChecks c budget entry) greedy.Refused
     (refl, inl (lit< tt), (refl, inl (lit< tt), refl)) (λ q p. p) cases
   where
-    cases : (r : Greedy) → GreedyReply c budget entry exit r → Passed (greedyChecks c budget entry) ⊎ ((q : Refusal) × (r ≡ greedy.Refused q))
+    cases : (r : Greedy) → GreedyReply c budget entry exit r
+        → Passed (greedyChecks c budget entry) ⊎ ((q : Refusal) × (r ≡ greedy.Refused q))
     cases (greedy.Added k) p = inl (p .0)
     cases (greedy.Refused q) p = inr (q, refl)
 
@@ -120,7 +126,8 @@ place-fewest c budget =
 
 -- ---- a case text written
 
-pub write-case : (c : Case) (lent left : List ℕ) (r : Written) → CaseWrittenReply c lent r left → ByTable (writeChecks c lent) (Refuses written.Refused r) lent left
+pub write-case : (c : Case) (lent left : List ℕ) (r : Written) → CaseWrittenReply c lent r left
+    → ByTable (writeChecks c lent) (Refuses written.Refused r) lent left
 write-case c lent left =
     reply-meets (λ r. CaseWrittenReply c lent r left) (writeChecks c lent) written.Refused
     (refl, inl (lit< tt), refl) (λ q p. p) cases

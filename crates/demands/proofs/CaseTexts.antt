@@ -37,14 +37,20 @@ end-judged c k (b ∷ l) ms = failing (NothingFollows (b ∷ l) ms) 2 k (WrongFo
 
 -- a line: 2 before 3 before 4
 line-judged : (p r o : Bool) (v : Judgement) (k : ℕ) (on end : CaseRead) (later : List Check) → ReadBy later (recordSaid v k on end)
-    → ReadBy (checkThat (p ≡ true) 2 k ∷ checkThat (r ≡ true) 3 k ∷ checkThat (o ≡ true) 4 k ∷ later) (recordSaid (cond p (cond r (cond o v Order) Range) Form) k on end)
+    → ReadBy (checkThat (p ≡ true) 2 k ∷ checkThat (r ≡ true) 3 k ∷ checkThat (o ≡ true) 4 k ∷ later)
+    (recordSaid (cond p (cond r (cond o v Order) Range) Form) k on end)
 line-judged false r o v k on end later h = failing (false ≡ true) 2 k (WrongForm k) (λ e. true≢false (sym e)) (itself (WrongForm k))
-line-judged true false o v k on end later h = passing (true ≡ true) 2 k refl (failing (false ≡ true) 3 k (OutOfRange k) (λ e. true≢false (sym e)) (itself (OutOfRange k)))
-line-judged true true false v k on end later h = passing (true ≡ true) 2 k refl (passing (true ≡ true) 3 k refl (failing (false ≡ true) 4 k (OutOfOrder k) (λ e. true≢false (sym e)) (itself (OutOfOrder k))))
-line-judged true true true v k on end later h = passing (true ≡ true) 2 k refl (passing (true ≡ true) 3 k refl (passing (true ≡ true) 4 k refl h))
+line-judged true false o v k on end later h =
+    passing (true ≡ true) 2 k refl (failing (false ≡ true) 3 k (OutOfRange k) (λ e. true≢false (sym e)) (itself (OutOfRange k)))
+line-judged true true false v k on end later h =
+    passing (true ≡ true) 2 k refl
+    (passing (true ≡ true) 3 k refl (failing (false ≡ true) 4 k (OutOfOrder k) (λ e. true≢false (sym e)) (itself (OutOfOrder k))))
+line-judged true true true v k on end later h =
+    passing (true ≡ true) 2 k refl (passing (true ≡ true) 3 k refl (passing (true ≡ true) 4 k refl h))
 
 -- and then the lines after it, or after `end` nothing
-record-judged : (x : Record) (k : ℕ) (on end : CaseRead) (ons ends : List Check) → ReadBy ons on → ReadBy ends end → ReadBy (afterRecord x ends ons) (recordSaid (nextOrLast x) k on end)
+record-judged : (x : Record) (k : ℕ) (on end : CaseRead) (ons ends : List Check) → ReadBy ons on → ReadBy ends end
+    → ReadBy (afterRecord x ends ons) (recordSaid (nextOrLast x) k on end)
 record-judged (Grid n) k on end ons ends p q = p
 record-judged (Bus b zero site) k on end ons ends p q = p
 record-judged (Line a b) k on end ons ends p q = p
@@ -57,10 +63,15 @@ unfolding readLines judged
 lines-judged s k l [] = failing ⊥ 2 k (WrongForm k) (λ h. h) (itself (WrongForm k))
 lines-judged s k l (m ∷ ms) =
     let x = recordOf l in
-    line-judged (inPlace (s .place) x) (inRange (s .place) x) (inOrder (s .place) x) (nextOrLast x) k (readLines (nextReader s x) (k + 1) m ms) (caseEnded (caseSoFar s) (k + 1) m ms)
+    line-judged (inPlace (s .place) x) (inRange (s .place) x) (inOrder (s .place) x) (nextOrLast x) k
+    (readLines (nextReader s x) (k + 1) m ms) (caseEnded (caseSoFar s) (k + 1) m ms)
     (afterRecord x (checkThat (NothingFollows m ms) 2 (k + 1) ∷ []) (lineChecks (nextReader s x) (k + 1) m ms))
-    (record-judged x k (readLines (nextReader s x) (k + 1) m ms) (caseEnded (caseSoFar s) (k + 1) m ms) (lineChecks (nextReader s x) (k + 1) m ms) (checkThat (NothingFollows m ms) 2 (k + 1) ∷ []) (lines-judged (nextReader s x) (k + 1) m ms) (end-judged (caseSoFar s) (k + 1) m ms))
+    (record-judged x k (readLines (nextReader s x) (k + 1) m ms) (caseEnded (caseSoFar s) (k + 1) m ms)
+    (lineChecks (nextReader s x) (k + 1) m ms) (checkThat (NothingFollows m ms) 2 (k + 1) ∷ [])
+    (lines-judged (nextReader s x) (k + 1) m ms) (end-judged (caseSoFar s) (k + 1) m ms))
 
 pub case-judged : (text : List ℕ) → ReadBy (caseChecks text) (readCase text)
 unfolding readCase readText
-case-judged text = within-limit refused IsCase mostBytes text (linesFrom 1 text) (readText 1 text) (lines-judged start 1 (split lineFeed text .first) (split lineFeed text .rest))
+case-judged text =
+    within-limit refused IsCase mostBytes text (linesFrom 1 text) (readText 1 text)
+    (lines-judged start 1 (split lineFeed text .first) (split lineFeed text .rest))

@@ -44,7 +44,8 @@ use Rattle.demands.specs.Demand2.{AcceptedExactly, TooSmallExactly, Dema
 
 -- ---- the observed set
 
-observed-least : (c : Case) (r : Observed) → Valid c → ObservedReply c r → (set : ℕ) × (r ≡ observed.Set set) × ObservedSet (gridOf c) (setOf set)
+observed-least : (c : Case) (r : Observed) → Valid c → ObservedReply c r
+    → (set : ℕ) × (r ≡ observed.Set set) × ObservedSet (gridOf c) (setOf set)
 observed-least c (observed.Set s) v p = (s, refl, p .1)
 observed-least c (observed.Refused q) v p = absurd (failed-or-passed (observedChecks c) q p (v, tt))
 
@@ -100,7 +101,8 @@ none-refused : (c : Case) (budget : ℕ) (r : Fewest) → Valid c → budget ≤
 none-refused c budget (fewest.Sites m) v l p n = absurd (n (p .0 .1 .1 .0))
 none-refused c budget (fewest.Refused q) v l p n = (q, refl, refused-none c budget q v l p .0)
 
-too-small : (c : Case) (budget : ℕ) (r : Fewest) → Valid c → budget ≤ mostBudget → FewestReply c budget r → TooSmallExactly (gridOf c) budget r
+too-small : (c : Case) (budget : ℕ) (r : Fewest) → Valid c → budget ≤ mostBudget → FewestReply c budget r
+    → TooSmallExactly (gridOf c) budget r
 too-small c budget r v l p =
     record { due = none-refused c budget r v l p; given = λ q e. refused-none c budget q v l (subst (FewestReply c budget) e p) }
 

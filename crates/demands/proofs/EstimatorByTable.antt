@@ -29,7 +29,8 @@ use Rattle.place_calls.specs.declared.Fewest.{Fewest}
 use Rattle.place_calls.specs.declared.Fewest.the-variants as fewest
 use Rattle.estimator_reply.specs.declared.Answer.{Answer}
 use Rattle.estimator_reply.specs.declared.Answer.the-variants.{Set, Refused, Unread}
-use Rattle.estimator.specs.Answers.{ofObserved, ofVerdict, ofFewest, ofReplay, Said, ObservedFor, UnconfirmedFor, FewestFor, ReplayFor, OfRead, OfText}
+use Rattle.estimator.specs.Answers.{ofObserved, ofVerdict, ofFewest, ofReplay, Said, ObservedFor}
+use Rattle.estimator.specs.Answers.{UnconfirmedFor, FewestFor, ReplayFor, OfRead, OfText}
 use Rattle.estimator_reply.specs.Results.{Replied, Answered}
 use Rattle.demands.specs.Order.{InTableOrder, FirstFails}
 use Rattle.demands.specs.TextChecks.{caseChecks, stepTextChecks, withFifty, textReplayChecks, roomForSet, estimatorChecks}
@@ -60,25 +61,39 @@ coded-is : (r n k m o : ℕ) → r ≡ 100 * k + n → n ≤ 63 → Coded r m o 
 coded-is r n k m o e l h = (omega (arith, e, l, h .is, h .most), omega (arith, e, l, h .is, h .most))
 
 -- a refusal's result
-code-ends : (checks : List Check) (lent : List ℕ) (r n k : ℕ) → FirstFails checks n k → r ≡ 100 * k + n → 1 ≤ n → n ≤ 63 → Ends (checks ++ roomForSet lent) (Coded r)
+code-ends : (checks : List Check) (lent : List ℕ) (r n k : ℕ) → FirstFails checks n k → r ≡ 100 * k + n → 1 ≤ n → n ≤ 63
+    → Ends (checks ++ roomForSet lent) (Coded r)
 code-ends checks lent r n k f e s l =
-    ends-sooner checks (roomForSet lent) (Coded r) n k f (record { is = e; some = s; most = omega (arith, l) }) (λ m o h. coded-is r n k m o e l h)
+    ends-sooner checks (roomForSet lent) (Coded r) n k f (record { is = e; some = s; most = omega (arith, l) })
+    (λ m o h. coded-is r n k m o e l h)
 
 -- a set's: 0, or 6 where fewer than eight bytes are lent
 set-ends : (lent : List ℕ) (b : Bool) (r : ℕ) → ltb (length lent) 8 ≡ b → r ≡ cond b 6 0 → Ends (roomForSet lent) (Coded r)
 set-ends lent true r h e =
-    inr (6, 0, inl (λ l. omega (arith, l, ltb→lt (length lent) 8 (subst⁻¹ T h tt)), refl, refl), record { is = e; some = lit≤ tt; most = lit< tt }, λ m o k. coded-is r 6 0 m o e (lit≤ tt) k)
-set-ends lent false r h e = inl ((nltb→le (length lent) 8 (subst⁻¹ (λ (b : Bool). T (not b)) h tt), tt), λ n k c. omega (arith, e, c .is, c .some))
+    inr (
+      6,
+      0,
+      inl (λ l. omega (arith, l, ltb→lt (length lent) 8 (subst⁻¹ T h tt)), refl, refl),
+      record { is = e; some = lit≤ tt; most = lit< tt },
+      λ m o k. coded-is r 6 0 m o e (lit≤ tt) k,
+    )
+set-ends lent false r h e =
+    inl ((nltb→le (length lent) 8 (subst⁻¹ (λ (b : Bool). T (not b)) h tt), tt), λ n k c. omega (arith, e, c .is, c .some))
 
-result-ends : (checks : List Check) (a : Answer) (lent left : List ℕ) (r : ℕ) → Ends checks (AnswerRefuses a) → Replied a lent left r → Ends (checks ++ roomForSet lent) (Coded r)
-result-ends checks (Set s) lent left r (inl h) p = ends-later checks (roomForSet lent) (Coded r) (h .0) (set-ends lent (ltb (length lent) 8) r refl (p .result))
+result-ends : (checks : List Check) (a : Answer) (lent left : List ℕ) (r : ℕ) → Ends checks (AnswerRefuses a) → Replied a lent left r
+    → Ends (checks ++ roomForSet lent) (Coded r)
+result-ends checks (Set s) lent left r (inl h) p =
+    ends-later checks (roomForSet lent) (Coded r) (h .0) (set-ends lent (ltb (length lent) 8) r refl (p .result))
 result-ends checks (Refused q) lent left r (inl h) p = absurd (h .1 (numberOf q) (placeOf q) (itself q))
-result-ends checks (Unread q) lent left r (inl h) p = absurd (h .1 (numberOf q + 50) (placeOf q) (record { numbered = refl; placed = refl }))
+result-ends checks (Unread q) lent left r (inl h) p =
+    absurd (h .1 (numberOf q + 50) (placeOf q) (record { numbered = refl; placed = refl }))
 result-ends checks (Set s) lent left r (inr (n, k, f, h, one)) p = absurd h
 result-ends checks (Refused q) lent left r (inr (n, k, f, h, one)) p =
-    code-ends checks lent r n k f (omega (arith, p .result, h .numbered, h .placed)) (omega (arith, number-some q, h .numbered)) (omega (arith, number-most q, h .numbered))
+    code-ends checks lent r n k f (omega (arith, p .result, h .numbered, h .placed)) (omega (arith, number-some q, h .numbered))
+    (omega (arith, number-most q, h .numbered))
 result-ends checks (Unread q) lent left r (inr (n, k, f, h, one)) p =
-    code-ends checks lent r n k f (omega (arith, p .result, h .numbered, h .placed)) (omega (arith, h .numbered)) (omega (arith, number-most q, h .numbered))
+    code-ends checks lent r n k f (omega (arith, p .result, h .numbered, h .placed)) (omega (arith, h .numbered))
+    (omega (arith, number-most q, h .numbered))
 
 -- a result that is a refusal leaves every byte
 bytes-kept : (a : Answer) (lent left : List ℕ) (r : ℕ) → Replied a lent left r → (n k : ℕ) → Coded r n k → left ≡ lent
@@ -92,7 +107,8 @@ bytes-kept (Unread q) lent left r p n k c = p .bytes
 
 -- ---- the case text is read first
 
-of-text : (text : List ℕ) (P : Case → Answer → Type 0) (checks : Case → List Check) → ((c : Case) (a : Answer) → P c a → Ends (checks c) (AnswerRefuses a))
+of-text : (text : List ℕ) (P : Case → Answer → Type 0) (checks : Case → List Check)
+    → ((c : Case) (a : Answer) → P c a → Ends (checks c) (AnswerRefuses a))
     → (a : Answer) → OfText text P a → Ends (caseChecks text ++ checks (readCase text .case)) (AnswerRefuses a)
 of-text text P checks inner a p = go (case-judged text)
   where
@@ -101,21 +117,25 @@ of-text text P checks inner a p = go (case-judged text)
 
     go : SaidBy refused IsCase (caseChecks text) (readCase text) → Ends (caseChecks text ++ checks (readCase text .case)) (AnswerRefuses a)
     go (good h (c, e)) =
-        ends-later (caseChecks text) (checks (readCase text .case)) (AnswerRefuses a) h (subst⁻¹ (λ (x : CaseRead). Ends (checks (x .case)) (AnswerRefuses a)) e (inner c a (subst by e p)))
+        ends-later (caseChecks text) (checks (readCase text .case)) (AnswerRefuses a) h
+        (subst⁻¹ (λ (x : CaseRead). Ends (checks (x .case)) (AnswerRefuses a)) e (inner c a (subst by e p)))
     go (bad q f e) =
         let is : a ≡ Refused q = subst by e p in
         subst⁻¹ (λ (x : Answer). Ends (caseChecks text ++ checks (readCase text .case)) (AnswerRefuses x)) is
-        (ends-sooner (caseChecks text) (checks (readCase text .case)) (AnswerRefuses (Refused q)) (numberOf q) (placeOf q) (failed-first (caseChecks text) q f) (itself q) (λ m o h. (h .numbered, h .placed)))
+        (ends-sooner (caseChecks text) (checks (readCase text .case)) (AnswerRefuses (Refused q)) (numberOf q) (placeOf q)
+        (failed-first (caseChecks text) q f) (itself q) (λ m o h. (h .numbered, h .placed)))
 
 -- what a call's own checks come to
 abbrev Fits : (Case → List Check) → Type 1
 Fits checks = (c : Case) → ComesAfter 1 (checks c) × TurnsBy 8 (checks c)
 
-answered : (text : List ℕ) (P : Case → Answer → Type 0) (checks : Case → List Check) → Fits checks → ((c : Case) (a : Answer) → P c a → Ends (checks c) (AnswerRefuses a))
+answered : (text : List ℕ) (P : Case → Answer → Type 0) (checks : Case → List Check) → Fits checks
+    → ((c : Case) (a : Answer) → P c a → Ends (checks c) (AnswerRefuses a))
     → (lent left : List ℕ) (r : ℕ) → Answered (OfText text P) lent left r → ByTable (estimatorChecks text checks lent) (Coded r) lent left
 answered text P checks fits inner lent left r p =
     met (estimatorChecks text checks lent) (Coded r) order (bytes-kept (p .answer) lent left r (p .replied))
-    (subst (λ (qs : List Check). Ends qs (Coded r)) (append-assoc (caseChecks text) own (roomForSet lent)) (result-ends (caseChecks text ++ own) (p .answer) lent left r (of-text text P checks inner (p .answer) (p .is)) (p .replied)))
+    (subst (λ (qs : List Check). Ends qs (Coded r)) (append-assoc (caseChecks text) own (roomForSet lent))
+    (result-ends (caseChecks text ++ own) (p .answer) lent left r (of-text text P checks inner (p .answer) (p .is)) (p .replied)))
   where
     own : List Check
     own = checks (readCase text .case)
@@ -129,7 +149,8 @@ answered text P checks fits inner lent left r p =
 -- ---- the four
 
 -- the answer of a reply that meets the call's promise
-said : {R : Type 0} (promise : R → Type 0) (of : R → Answer) (checks : List Check) → ((r : R) → promise r → Ends checks (AnswerRefuses (of r)))
+said : {R : Type 0} (promise : R → Type 0) (of : R → Answer) (checks : List Check)
+    → ((r : R) → promise r → Ends checks (AnswerRefuses (of r)))
     → (a : Answer) → Said promise of a → Ends checks (AnswerRefuses a)
 said promise of checks ends a p = subst⁻¹ (λ (x : Answer). Ends checks (AnswerRefuses x)) (p .is) (ends (p .reply) (p .meets))
 
@@ -140,9 +161,11 @@ observed-ends c = said (ObservedReply c) ofObserved (observedChecks c) go
     go (observed.Set s) h = inl (h .0, λ n k x. x)
     go (observed.Refused q) h = refused-ends (observedChecks c) q h
 
-pub wz-observed : (text lent left : List ℕ) (r : ℕ) → Answered (OfText text ObservedFor) lent left r → ByTable (estimatorChecks text observedChecks lent) (Coded r) lent left
+pub wz-observed : (text lent left : List ℕ) (r : ℕ) → Answered (OfText text ObservedFor) lent left r
+    → ByTable (estimatorChecks text observedChecks lent) (Coded r) lent left
 wz-observed text =
-    answered text ObservedFor observedChecks (λ c. (later-follows 1 (observedChecks c) (lit≤ tt) (lit< tt) refl, (lit≤ tt, tt))) observed-ends
+    answered text ObservedFor observedChecks (λ c. (later-follows 1 (observedChecks c) (lit≤ tt) (lit< tt) refl, (lit≤ tt, tt)))
+    observed-ends
 
 unconfirmed-ends : (c : Case) (a : Answer) → UnconfirmedFor c a → Ends (verdictChecks c) (AnswerRefuses a)
 unconfirmed-ends c = said (VerdictReply c) ofVerdict (verdictChecks c) go
@@ -151,9 +174,11 @@ unconfirmed-ends c = said (VerdictReply c) ofVerdict (verdictChecks c) go
     go (verdict.Unconfirmed s) h = inl (h .0, λ n k x. x)
     go (verdict.Refused q) h = refused-ends (verdictChecks c) q h
 
-pub wz-unconfirmed : (text lent left : List ℕ) (r : ℕ) → Answered (OfText text UnconfirmedFor) lent left r → ByTable (estimatorChecks text verdictChecks lent) (Coded r) lent left
+pub wz-unconfirmed : (text lent left : List ℕ) (r : ℕ) → Answered (OfText text UnconfirmedFor) lent left r
+    → ByTable (estimatorChecks text verdictChecks lent) (Coded r) lent left
 wz-unconfirmed text =
-    answered text UnconfirmedFor verdictChecks (λ c. (later-follows 1 (verdictChecks c) (lit≤ tt) (lit< tt) refl, (lit≤ tt, tt))) unconfirmed-ends
+    answered text UnconfirmedFor verdictChecks (λ c. (later-follows 1 (verdictChecks c) (lit≤ tt) (lit< tt) refl, (lit≤ tt, tt)))
+    unconfirmed-ends
 
 -- what fewest checks, with a budget
 abbrev fewestAt : ℕ → Case → List Check
@@ -166,8 +191,10 @@ fewest-ends budget c = said (FewestReply c budget) ofFewest (fewestAt budget c) 
     go (fewest.Sites s) h = inl (h .0, λ n k x. x)
     go (fewest.Refused q) h = refused-ends (fewestAt budget c) q h
 
-pub wz-fewest : (text : List ℕ) (budget : ℕ) (lent left : List ℕ) (r : ℕ) → Answered (OfText text (FewestFor budget)) lent left r → ByTable (estimatorChecks text (λ c. fewestChecks c budget) lent) (Coded r) lent left
-wz-fewest text budget = answered text (FewestFor budget) (fewestAt budget) (λ c. (o c, (lit≤ tt, (lit≤ tt, (lit≤ tt, tt))))) (fewest-ends budget)
+pub wz-fewest : (text : List ℕ) (budget : ℕ) (lent left : List ℕ) (r : ℕ) → Answered (OfText text (FewestFor budget)) lent left r
+    → ByTable (estimatorChecks text (λ c. fewestChecks c budget) lent) (Coded r) lent left
+wz-fewest text budget =
+    answered text (FewestFor budget) (fewestAt budget) (λ c. (o c, (lit≤ tt, (lit≤ tt, (lit≤ tt, tt))))) (fewest-ends budget)
   where
     o : (c : Case) → ComesAfter 1 (fewestAt budget c)
     o c = later-follows 1 (fewestAt budget c) (lit≤ tt) (lit< tt) (refl, inl (lit< tt), (refl, inl (lit< tt), refl))
@@ -184,8 +211,14 @@ replay-ends steps c = said (TextReplayReply c steps) ofReplay (replayOf steps c)
     go (told.Refused q) h = h
     go (told.Unread q) h = h
 
-pub wz-replay : (text steps lent left : List ℕ) (r : ℕ) → Answered (OfText text (ReplayFor steps)) lent left r → ByTable (estimatorChecks text (λ c. textReplayChecks c steps) lent) (Coded r) lent left
+pub wz-replay : (text steps lent left : List ℕ) (r : ℕ) → Answered (OfText text (ReplayFor steps)) lent left r
+    → ByTable (estimatorChecks text (λ c. textReplayChecks c steps) lent) (Coded r) lent left
 wz-replay text steps =
     answered text (ReplayFor steps) (replayOf steps)
-    (λ c. (text-replay-follows c steps, then-turn 8 (withFifty (stepTextChecks steps)) (replayChecks c (stepsOf steps)) (turn-more 3 8 (withFifty (stepTextChecks steps)) (lit≤ tt) (fifty-text-turn steps)) (turn-more 6 8 (replayChecks c (stepsOf steps)) (lit≤ tt) (replay-turn c (stepsOf steps)))))
+    (λ c. (
+      text-replay-follows c steps,
+      then-turn 8 (withFifty (stepTextChecks steps)) (replayChecks c (stepsOf steps))
+          (turn-more 3 8 (withFifty (stepTextChecks steps)) (lit≤ tt) (fifty-text-turn steps))
+          (turn-more 6 8 (replayChecks c (stepsOf steps)) (lit≤ tt) (replay-turn c (stepsOf steps))),
+    ))
     (replay-ends steps)

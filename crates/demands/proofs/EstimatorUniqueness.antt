@@ -13,7 +13,8 @@ use Rattle.place_calls.specs.Replies.{VerdictReply, FewestReply}
 use Rattle.demands.proofs.Uniqueness.{observed-unique}
 use Rattle.demands.proofs.SitingUniqueness.{verdict-unique, fewest-unique}
 use Rattle.demands.proofs.ListUniqueness.{text-replay-unique}
-use Rattle.estimator.specs.Answers.{ofObserved, ofVerdict, ofFewest, ofReplay, Said, ObservedFor, UnconfirmedFor, FewestFor, ReplayFor, OfRead, OfText}
+use Rattle.estimator.specs.Answers.{ofObserved, ofVerdict, ofFewest, ofReplay, Said, ObservedFor}
+use Rattle.estimator.specs.Answers.{UnconfirmedFor, FewestFor, ReplayFor, OfRead, OfText}
 use Rattle.estimator_reply.specs.Results.{resultOf, leftBy, Answered}
 use Rattle.estimator_reply.specs.declared.Answer.{Answer}
 
@@ -45,15 +46,19 @@ fixed P u lent a b left right p q =
 -- ---- the four
 
 pub wz-observed-unique : (text : List ℕ) → Fixed (OfText text ObservedFor)
-wz-observed-unique text = fixed (OfText text ObservedFor) (text-unique text ObservedFor (λ c. said-unique (ObservedReply c) ofObserved (observed-unique c)))
+wz-observed-unique text =
+    fixed (OfText text ObservedFor) (text-unique text ObservedFor (λ c. said-unique (ObservedReply c) ofObserved (observed-unique c)))
 
 pub wz-unconfirmed-unique : (text : List ℕ) → Fixed (OfText text UnconfirmedFor)
-wz-unconfirmed-unique text = fixed (OfText text UnconfirmedFor) (text-unique text UnconfirmedFor (λ c. said-unique (VerdictReply c) ofVerdict (verdict-unique c)))
+wz-unconfirmed-unique text =
+    fixed (OfText text UnconfirmedFor) (text-unique text UnconfirmedFor (λ c. said-unique (VerdictReply c) ofVerdict (verdict-unique c)))
 
 pub wz-fewest-unique : (text : List ℕ) (budget : ℕ) → Fixed (OfText text (FewestFor budget))
 wz-fewest-unique text budget =
-    fixed (OfText text (FewestFor budget)) (text-unique text (FewestFor budget) (λ c. said-unique (FewestReply c budget) ofFewest (fewest-unique c budget)))
+    fixed (OfText text (FewestFor budget))
+    (text-unique text (FewestFor budget) (λ c. said-unique (FewestReply c budget) ofFewest (fewest-unique c budget)))
 
 pub wz-replay-unique : (text steps : List ℕ) → Fixed (OfText text (ReplayFor steps))
 wz-replay-unique text steps =
-    fixed (OfText text (ReplayFor steps)) (text-unique text (ReplayFor steps) (λ c. said-unique (TextReplayReply c steps) ofReplay (text-replay-unique c steps)))
+    fixed (OfText text (ReplayFor steps))
+    (text-unique text (ReplayFor steps) (λ c. said-unique (TextReplayReply c steps) ofReplay (text-replay-unique c steps)))

@@ -37,7 +37,8 @@ Ends checks Refused =
     ⊎ ((n : ℕ) × (p : ℕ) × FirstFails checks n p × Refused n p × ((m o : ℕ) → Refused m o → (n ≡ m) × (p ≡ o)))
 
 -- where the checks end so, are in order and a refusal leaves what is lent, the reply is by the table
-pub met : {M : Type 0} {before after : M} (checks : List Check) (Refused : ℕ → ℕ → Type 0) → InTableOrder checks → ((n p : ℕ) → Refused n p → after ≡ before) → Ends checks Refused
+pub met : {M : Type 0} {before after : M} (checks : List Check) (Refused : ℕ → ℕ → Type 0) → InTableOrder checks
+    → ((n p : ℕ) → Refused n p → after ≡ before) → Ends checks Refused
     → ByTable checks Refused before after
 met checks Refused order kept (inl a) = record {
   order = order;
@@ -58,15 +59,19 @@ met checks Refused order kept (inr (n, p, f, h, one)) = record {
 
 -- a refusal's promise is that the first check that fails gives it, and that what is lent stays; any other reply's, that all pass
 pub reply-meets : {R M : Type 0} {before after : M} (P : R → Type 0) (checks : List Check) (refused : Refusal → R) → InTableOrder checks
-    → ((q : Refusal) → P (refused q) → Failed checks q × (after ≡ before)) → ((r : R) → P r → Passed checks ⊎ ((q : Refusal) × (r ≡ refused q)))
+    → ((q : Refusal) → P (refused q) → Failed checks q × (after ≡ before))
+    → ((r : R) → P r → Passed checks ⊎ ((q : Refusal) × (r ≡ refused q)))
     → (r : R) → P r → ByTable checks (Refuses refused r) before after
 reply-meets {before = before} {after = after} P checks refused order fails cases r h =
     met checks (Refuses refused r) order (λ n p k. first n p k .1) (go (cases r h))
   where
     first : (n p : ℕ) → Refuses refused r n p → FirstFails checks n p × (after ≡ before)
     first n p (q, e, i) =
-        let f = fails q (subst P e h) in
-        (subst (λ (y : ℕ). FirstFails checks n y) (i .placed) (subst (λ (x : ℕ). FirstFails checks x (placeOf q)) (i .numbered) (failed-first checks q (f .0))), f .1)
+        let f = fails q (subst P e h) in (
+          subst (λ (y : ℕ). FirstFails checks n y) (i .placed)
+              (subst (λ (x : ℕ). FirstFails checks x (placeOf q)) (i .numbered) (failed-first checks q (f .0))),
+          f .1,
+        )
 
     go : Passed checks ⊎ ((q : Refusal) × (r ≡ refused q)) → Ends checks (Refuses refused r)
     go (inl a) = inl (a, λ n p k. first-or-passed checks n p (first n p k .0) a)
@@ -91,7 +96,8 @@ ends-later ps qs Refused a (inl b) = inl (passed-then ps qs a (b .0), b .1)
 ends-later ps qs Refused a (inr (n, k, f, h, one)) = inr (n, k, first-later ps qs n k a f, h, one)
 
 -- the first list ends with a refusal
-pub ends-sooner : (ps qs : List Check) (Refused : ℕ → ℕ → Type 0) (n k : ℕ) → FirstFails ps n k → Refused n k → ((m o : ℕ) → Refused m o → (n ≡ m) × (k ≡ o)) → Ends (ps ++ qs) Refused
+pub ends-sooner : (ps qs : List Check) (Refused : ℕ → ℕ → Type 0) (n k : ℕ) → FirstFails ps n k → Refused n k
+    → ((m o : ℕ) → Refused m o → (n ≡ m) × (k ≡ o)) → Ends (ps ++ qs) Refused
 ends-sooner ps qs Refused n k f h one = inr (n, k, first-sooner ps qs n k f, h, one)
 
 -- the first that fails is in the first list, or the first list passes

@@ -34,7 +34,8 @@ derives-unique p q = p .is ∙ ap listOf (derived-unique (p .derived) (q .steps)
 pub derivation-unique : (c : Case) (a b : Derived) → DerivationReply c a → DerivationReply c b → a ≡ b
 derivation-unique c a b p q = go (a .answer) (b .answer) (a .list) (b .list) p q
   where
-    go : (x y : DerivationAnswer) (l m : StepList) → DerivationAt c l x → DerivationAt c m y → _≡_ {A = Derived} (record { answer = x; list = l }) (record { answer = y; list = m })
+    go : (x y : DerivationAnswer) (l m : StepList) → DerivationAt c l x → DerivationAt c m y
+        → _≡_ {A = Derived} (record { answer = x; list = l }) (record { answer = y; list = m })
     go Found Found l m p q = ap (λ (k : StepList). record { answer = Found; list = k }) (derives-unique (p .1) (q .1))
     go Found (Refused r) l m p q = absurd (failed-or-passed (derivationChecks c) r (q .0) (p .0))
     go (Refused r) Found l m p q = absurd (failed-or-passed (derivationChecks c) r (p .0) (q .0))
@@ -55,10 +56,13 @@ text-replay-unique c text a b p q = go (readSteps text) p q
     go (read.Steps n) p q = p .2 ∙ ap textAnswer (replay-unique c (stepsOf text) (p .0) (q .0) (p .1) (q .1)) ∙ sym (q .2)
     go (read.Refused r) p q = p ∙ sym q
 
-pub weave-unique : (c : Case) (xs before : List Step) (a b : Wove) (left right : List Step) → WeaveReply c xs before left a → WeaveReply c xs before right b → (a ≡ b) × (left ≡ right)
+pub weave-unique : (c : Case) (xs before : List Step) (a b : Wove) (left right : List Step) → WeaveReply c xs before left a
+    → WeaveReply c xs before right b → (a ≡ b) × (left ≡ right)
 weave-unique c xs before (wove.Written m s) (wove.Written n t) left right p q =
     (λ i. wove.Written ((p .1 ∙ sym (q .1)) i) (set-inj s t (p .2 ∙ sym (q .2)) i), p .3 ∙ sym (q .3))
-weave-unique c xs before (wove.Written m s) (wove.Refused r) left right p q = absurd (failed-or-passed (weaveChecks c xs (length before)) r (q .0) (p .0))
-weave-unique c xs before (wove.Refused r) (wove.Written m s) left right p q = absurd (failed-or-passed (weaveChecks c xs (length before)) r (p .0) (q .0))
+weave-unique c xs before (wove.Written m s) (wove.Refused r) left right p q =
+    absurd (failed-or-passed (weaveChecks c xs (length before)) r (q .0) (p .0))
+weave-unique c xs before (wove.Refused r) (wove.Written m s) left right p q =
+    absurd (failed-or-passed (weaveChecks c xs (length before)) r (p .0) (q .0))
 weave-unique c xs before (wove.Refused r) (wove.Refused k) left right p q =
     (ap wove.Refused (failed-unique (weaveChecks c xs (length before)) r k (p .0) (q .0)), p .1 ∙ sym (q .1))

@@ -16,8 +16,10 @@ printed-one : (P : List ℕ → Type 0) → ((s t : List ℕ) → P s → P t �
 printed-one P one lent a b left right p q =
     let e = printed-unique one lent a b left right p q in (ap (λ (r : PrintReply). r .reply) e, ap (λ (r : PrintReply). r .left) e)
 
-pub day-report-unique : (text lent : List ℕ) (a b : Written) (left right : List ℕ) → PrintedReply (DayPrinted text) lent left a → PrintedReply (DayPrinted text) lent right b → (a ≡ b) × (left ≡ right)
+pub day-report-unique : (text lent : List ℕ) (a b : Written) (left right : List ℕ) → PrintedReply (DayPrinted text) lent left a
+    → PrintedReply (DayPrinted text) lent right b → (a ≡ b) × (left ≡ right)
 day-report-unique text = printed-one (DayPrinted text) (day-unique text)
 
-pub plan-report-unique : (input lent : List ℕ) (a b : Written) (left right : List ℕ) → PrintedReply (PlanPrinted input) lent left a → PrintedReply (PlanPrinted input) lent right b → (a ≡ b) × (left ≡ right)
+pub plan-report-unique : (input lent : List ℕ) (a b : Written) (left right : List ℕ) → PrintedReply (PlanPrinted input) lent left a
+    → PrintedReply (PlanPrinted input) lent right b → (a ≡ b) × (left ≡ right)
 plan-report-unique input = printed-one (PlanPrinted input) (plan-unique input)

@@ -37,7 +37,8 @@ use Rattle.demands.proofs.CaseTexts.{ReadBy, lines-judged, case-judged}
 
 -- ---- the reply: 6 where what is asked for has no room
 
-print-meets : (P : List ℕ → Type 0) → ((s t : List ℕ) → P s → P t → s ≡ t) → (lent left : List ℕ) (r : Written) → PrintedReply P lent left r → ByTable (printChecks P lent) (Refuses written.Refused r) lent left
+print-meets : (P : List ℕ → Type 0) → ((s t : List ℕ) → P s → P t → s ≡ t) → (lent left : List ℕ) (r : Written) → PrintedReply P lent left r
+    → ByTable (printChecks P lent) (Refuses written.Refused r) lent left
 print-meets P one lent left =
     reply-meets (PrintedReply P lent left) (printChecks P lent) written.Refused refl
     (λ q p. (inl (λ h. omega (arith, h (p .text) (p .asked), p .more), p .refusal), p .kept)) cases
@@ -46,16 +47,19 @@ print-meets P one lent left =
     cases (written.Bytes k) p = inl (λ t a. omega (arith, p .room, ap length (one t (p .text) a (p .asked))), tt)
     cases (written.Refused q) p = inr (q, refl)
 
-pub day-report : (text lent left : List ℕ) (r : Written) → PrintedReply (DayPrinted text) lent left r → ByTable (printChecks (DayPrinted text) lent) (Refuses written.Refused r) lent left
+pub day-report : (text lent left : List ℕ) (r : Written) → PrintedReply (DayPrinted text) lent left r
+    → ByTable (printChecks (DayPrinted text) lent) (Refuses written.Refused r) lent left
 day-report text = print-meets (DayPrinted text) (day-unique text)
 
-pub plan-report : (input lent left : List ℕ) (r : Written) → PrintedReply (PlanPrinted input) lent left r → ByTable (printChecks (PlanPrinted input) lent) (Refuses written.Refused r) lent left
+pub plan-report : (input lent left : List ℕ) (r : Written) → PrintedReply (PlanPrinted input) lent left r
+    → ByTable (printChecks (PlanPrinted input) lent) (Refuses written.Refused r) lent left
 plan-report input = print-meets (PlanPrinted input) (plan-unique input)
 
 -- ---- what is printed
 
 -- the report where all pass, or the line of the refusal that the first check that fails gives
-printed-met : {Report : Type 0} {t : List ℕ} (checks : List Check) → InTableOrder checks → (Passed checks × Report) ⊎ ((q : Refusal) × Failed checks q × IsRefusedText q t)
+printed-met : {Report : Type 0} {t : List ℕ} (checks : List Check) → InTableOrder checks
+    → (Passed checks × Report) ⊎ ((q : Refusal) × Failed checks q × IsRefusedText q t)
     → PrintedByTable checks Report t
 printed-met checks order (inl h) =
     record { order = order; replies = inl (h .0); report = λ p. h .1; refused = λ q f. absurd (failed-or-passed checks q f (h .0)) }
@@ -72,13 +76,15 @@ day-printed text t p = printed-met (caseChecks text) (case-ordered text) (go (ca
     by : CaseRead → Type 0
     by x = DayFor (x .answer) (x .case) t
 
-    go : ReadBy (caseChecks text) (readCase text) → (Passed (caseChecks text) × DayReport (readCase text .case) t) ⊎ ((q : Refusal) × Failed (caseChecks text) q × IsRefusedText q t)
+    go : ReadBy (caseChecks text) (readCase text)
+        → (Passed (caseChecks text) × DayReport (readCase text .case) t) ⊎ ((q : Refusal) × Failed (caseChecks text) q × IsRefusedText q t)
     go (good h (c, e)) = inl (h, subst⁻¹ (λ (x : CaseRead). DayReport (x .case) t) e (subst by e p))
     go (bad q f e) = inr (q, f, subst by e p)
 
 -- ---- the planning program's input
 
-plan-line-judged : (b : Numeral) (r : CaseRead) (checks : List Check) → ReadBy checks r → ReadBy (checkThat (IsNumber b) 2 1 ∷ checks) (askedWith b r .read)
+plan-line-judged : (b : Numeral) (r : CaseRead) (checks : List Check) → ReadBy checks r
+    → ReadBy (checkThat (IsNumber b) 2 1 ∷ checks) (askedWith b r .read)
 plan-line-judged (numeral.Is budget) r checks h = passing (IsNumber (numeral.Is budget)) 2 1 tt h
 plan-line-judged numeral.Wrong r checks h = failing (IsNumber numeral.Wrong) 2 1 (WrongForm 1) (λ x. x) (itself (WrongForm 1))
 
@@ -98,14 +104,21 @@ input-judged input = go (ltb mostBytes (length input)) refl
     ms = split lineFeed input .rest
 
     go : (b : Bool) → ltb mostBytes (length input) ≡ b → ReadBy (inputChecks input) (cond b (unasked TextTooLong) (planLines l ms) .read)
-    go true e = failing (length input ≤ mostBytes) 1 0 TextTooLong (λ h. omega (arith, h, ltb→lt mostBytes (length input) (subst⁻¹ T e tt))) (itself TextTooLong)
-    go false e = passing (length input ≤ mostBytes) 1 0 (nltb→le mostBytes (length input) (subst⁻¹ (λ (b : Bool). T (not b)) e tt)) (plan-lines-judged l ms)
+    go true e =
+        failing (length input ≤ mostBytes) 1 0 TextTooLong (λ h. omega (arith, h, ltb→lt mostBytes (length input) (subst⁻¹ T e tt)))
+        (itself TextTooLong)
+    go false e =
+        passing (length input ≤ mostBytes) 1 0 (nltb→le mostBytes (length input) (subst⁻¹ (λ (b : Bool). T (not b)) e tt))
+        (plan-lines-judged l ms)
 
 -- ---- the planning program
 
 pub plan-printed : (input t : List ℕ) → PlanPrinted input t
-    → PrintedByTable (inputChecks input ++ planChecks (readPlan input .read .case) (readPlan input .budget)) (FewestPrinted (readPlan input .read .case) (readPlan input .budget) t) t
-plan-printed input t p = printed-met (inputChecks input ++ rest) (then-ordered 1 (inputChecks input) rest (input-ordered input) (input-turn input) follows) (go (input-judged input))
+    → PrintedByTable (inputChecks input ++ planChecks (readPlan input .read .case) (readPlan input .budget))
+    (FewestPrinted (readPlan input .read .case) (readPlan input .budget) t) t
+plan-printed input t p =
+    printed-met (inputChecks input ++ rest) (then-ordered 1 (inputChecks input) rest (input-ordered input) (input-turn input) follows)
+    (go (input-judged input))
   where
     c : Case
     c = readPlan input .read .case
@@ -123,7 +136,9 @@ plan-printed input t p = printed-met (inputChecks input ++ rest) (then-ordered 1
     by x = PlanFor (x .answer) (x .case) budget t
 
     Outcome : Type 0
-    Outcome = (Passed (inputChecks input ++ rest) × FewestPrinted c budget t) ⊎ ((q : Refusal) × Failed (inputChecks input ++ rest) q × IsRefusedText q t)
+    Outcome =
+        (Passed (inputChecks input ++ rest) × FewestPrinted c budget t)
+        ⊎ ((q : Refusal) × Failed (inputChecks input ++ rest) q × IsRefusedText q t)
 
     reported : Passed (inputChecks input) → PlanReport c budget t → Outcome
     reported h (found sites a f e) = inl (passed-then (inputChecks input) rest h a, (sites, f, e))

@@ -19,20 +19,25 @@ use Rattle.place_calls.specs.declared.Fewest.the-variants as fewest
 use Rattle.place_calls.specs.Replies.{verdictChecks, VerdictReply, greedyChecks, GreedyReply, fewestChecks, FewestReply}
 
 pub verdict-unique : (c : Case) (a b : Verdict) → VerdictReply c a → VerdictReply c b → a ≡ b
-verdict-unique c (verdict.Unconfirmed s) (verdict.Unconfirmed t) p q = ap verdict.Unconfirmed (set-inj s t (unconfirmed-unique (setOf s) (setOf t) (p .1) (q .1)))
+verdict-unique c (verdict.Unconfirmed s) (verdict.Unconfirmed t) p q =
+    ap verdict.Unconfirmed (set-inj s t (unconfirmed-unique (setOf s) (setOf t) (p .1) (q .1)))
 verdict-unique c (verdict.Unconfirmed s) (verdict.Refused r) p q = absurd (failed-or-passed (verdictChecks c) r q (p .0))
 verdict-unique c (verdict.Refused r) (verdict.Unconfirmed s) p q = absurd (failed-or-passed (verdictChecks c) r p (q .0))
 verdict-unique c (verdict.Refused r) (verdict.Refused k) p q = ap verdict.Refused (failed-unique (verdictChecks c) r k p q)
 
-pub greedy-reply-unique : (c : Case) (budget : ℕ) (entry : List ℕ) (a b : Greedy) (left right : List ℕ) → GreedyReply c budget entry left a → GreedyReply c budget entry right b → (a ≡ b) × (left ≡ right)
+pub greedy-reply-unique : (c : Case) (budget : ℕ) (entry : List ℕ) (a b : Greedy) (left right : List ℕ) → GreedyReply c budget entry left a
+    → GreedyReply c budget entry right b → (a ≡ b) × (left ≡ right)
 greedy-reply-unique c budget entry (greedy.Added j) (greedy.Added k) left right p q =
     let same = greedy-unique (gridOf c) budget (p .1 .list) (q .1 .list) (p .1 .greedy) (q .1 .greedy) in
     let count : j ≡ k = p .1 .count ∙ ap length same ∙ sym (q .1 .count) in (
       ap greedy.Added count,
-      p .1 .written ∙ ap (λ (xs : List ℕ). xs ++ drop j entry) same ∙ ap (λ (i : ℕ). q .1 .list ++ drop i entry) count ∙ sym (q .1 .written),
+      p .1 .written ∙ ap (λ (xs : List ℕ). xs ++ drop j entry) same ∙ ap (λ (i : ℕ). q .1 .list ++ drop i entry) count
+          ∙ sym (q .1 .written),
     )
-greedy-reply-unique c budget entry (greedy.Added j) (greedy.Refused r) left right p q = absurd (failed-or-passed (greedyChecks c budget entry) r (q .0) (p .0))
-greedy-reply-unique c budget entry (greedy.Refused r) (greedy.Added k) left right p q = absurd (failed-or-passed (greedyChecks c budget entry) r (p .0) (q .0))
+greedy-reply-unique c budget entry (greedy.Added j) (greedy.Refused r) left right p q =
+    absurd (failed-or-passed (greedyChecks c budget entry) r (q .0) (p .0))
+greedy-reply-unique c budget entry (greedy.Refused r) (greedy.Added k) left right p q =
+    absurd (failed-or-passed (greedyChecks c budget entry) r (p .0) (q .0))
 greedy-reply-unique c budget entry (greedy.Refused r) (greedy.Refused k) left right p q =
     (ap greedy.Refused (failed-unique (greedyChecks c budget entry) r k (p .0) (q .0)), p .1 ∙ sym (q .1))
 

@@ -21,7 +21,8 @@ use Rattle.grid.specs.Cases.{mostBytes}
 use Rattle.case_read.specs.Reading.{Reader, start, nextReader}
 use Rattle.demands.specs.Order.{turnOf12, turn, Precedes, InTableOrder}
 use Rattle.demands.proofs.Turns.{in-table, Ahead, ahead-most, ahead-first, TurnsBy, ComesAfter, later-follows}
-use Rattle.demands.specs.TextChecks.{NothingFollows, afterRecord, lineChecks, caseChecks, HasTurn, afterStep, stepLineChecks, stepTextChecks, withFifty, planLineChecks, inputChecks}
+use Rattle.demands.specs.TextChecks.{NothingFollows, afterRecord, lineChecks, caseChecks, HasTurn, afterStep}
+use Rattle.demands.specs.TextChecks.{stepLineChecks, stepTextChecks, withFifty, planLineChecks, inputChecks}
 
 -- ---- the lines of a case text
 
@@ -44,7 +45,8 @@ lines-ordered s k l [] p before = (in-table p (omega (arith, ahead-most p before
 lines-ordered s k l (m ∷ ms) p before =
     let fourth = checkThat (inOrder (s .place) (recordOf l) ≡ true) 4 k in
     let on = lines-ordered (nextReader s (recordOf l)) (k + 1) m ms fourth (inr (refl, omega arith)) in
-    let after = after-record (λ qs. InTableOrder (fourth ∷ qs)) (recordOf l) (checkThat (NothingFollows m ms) 2 (k + 1) ∷ []) (lineChecks (nextReader s (recordOf l)) (k + 1) m ms) (refl, inr (refl, inl (omega arith)), refl) on in (
+    let after = after-record (λ qs. InTableOrder (fourth ∷ qs)) (recordOf l) (checkThat (NothingFollows m ms) 2 (k + 1) ∷ [])
+    (lineChecks (nextReader s (recordOf l)) (k + 1) m ms) (refl, inr (refl, inl (omega arith)), refl) on in (
       in-table p (omega (arith, ahead-most p before)),
       ahead-first p 2 before refl,
       (refl, inr (refl, inr (refl, lit< tt)), (refl, inr (refl, inr (refl, lit< tt)), after)),
@@ -55,7 +57,14 @@ lines-turn s k l [] = (lit≤ tt, tt)
 lines-turn s k l (m ∷ ms) =
     let on = lines-turn (nextReader s (recordOf l)) (k + 1) m ms in (
       lit≤ tt,
-      (lit≤ tt, (lit≤ tt, after-record (TurnsBy lineTurn) (recordOf l) (checkThat (NothingFollows m ms) 2 (k + 1) ∷ []) (lineChecks (nextReader s (recordOf l)) (k + 1) m ms) (lit≤ tt, tt) on)),
+      (
+        lit≤ tt,
+        (
+          lit≤ tt,
+          after-record (TurnsBy lineTurn) (recordOf l) (checkThat (NothingFollows m ms) 2 (k + 1) ∷ [])
+              (lineChecks (nextReader s (recordOf l)) (k + 1) m ms) (lit≤ tt, tt) on,
+        ),
+      ),
     )
 
 pub case-ordered : (text : List ℕ) → InTableOrder (caseChecks text)
@@ -92,13 +101,15 @@ after-step P (line.Step x) end on p q = q
 after-step P line.End end on p q = p
 after-step P line.Wrong end on p q = q
 
-step-lines-ordered : (k : ℕ) (l : List ℕ) (ms : List (List ℕ)) (p : Check) → 1 ≤ k → Ahead lineTurn k p → InTableOrder (p ∷ stepLineChecks k l ms)
+step-lines-ordered : (k : ℕ) (l : List ℕ) (ms : List (List ℕ)) (p : Check) → 1 ≤ k → Ahead lineTurn k p
+    → InTableOrder (p ∷ stepLineChecks k l ms)
 step-lines-ordered k l [] p some before = (in-table p (omega (arith, ahead-most p before)), ahead-first p 2 before refl, refl)
 step-lines-ordered k l (m ∷ ms) p some before =
     let e = twelve-at-a-line k some in
     let twelfth = checkThat (HasTurn (stepLineOf l) k) 12 k in
     let on = step-lines-ordered (k + 1) m ms twelfth (omega arith) (inr (e, omega arith)) in
-    let after = after-step (λ qs. InTableOrder (twelfth ∷ qs)) (stepLineOf l) (checkThat (NothingFollows m ms) 2 (k + 1) ∷ []) (stepLineChecks (k + 1) m ms) (refl, inr (e, inl (omega arith)), refl) on in (
+    let after = after-step (λ qs. InTableOrder (twelfth ∷ qs)) (stepLineOf l) (checkThat (NothingFollows m ms) 2 (k + 1) ∷ [])
+    (stepLineChecks (k + 1) m ms) (refl, inr (e, inl (omega arith)), refl) on in (
       in-table p (omega (arith, ahead-most p before)),
       ahead-first p 2 before refl,
       (refl, inr (refl, inr (refl, lit< tt)), (refl, inr (sym e, inr (refl, lit< tt)), after)),
@@ -121,7 +132,11 @@ step-lines-shift k l (m ∷ ms) some =
       (lit≤ tt, refl),
       (
         (lit≤ tt, refl),
-        ((omega (arith, e), omega (arith, e)), after-step AllShift (stepLineOf l) (checkThat (NothingFollows m ms) 2 (k + 1) ∷ []) (stepLineChecks (k + 1) m ms) ((lit≤ tt, refl), tt) on),
+        (
+          (omega (arith, e), omega (arith, e)),
+          after-step AllShift (stepLineOf l) (checkThat (NothingFollows m ms) 2 (k + 1) ∷ [])
+              (stepLineChecks (k + 1) m ms) ((lit≤ tt, refl), tt) on,
+        ),
       ),
     )
 
@@ -129,7 +144,8 @@ shift-turn : (qs : List Check) → AllShift qs → TurnsBy lineTurn qs
 shift-turn [] a = tt
 shift-turn (q ∷ qs) a = (a .0 .0, shift-turn qs (a .1))
 
-fifty-precedes : (p q : Check) → Shifts p → Shifts q → Precedes p q → Precedes (checkThat (p .wants) (p .number + 50) (p .place)) (checkThat (q .wants) (q .number + 50) (q .place))
+fifty-precedes : (p q : Check) → Shifts p → Shifts q → Precedes p q
+    → Precedes (checkThat (p .wants) (p .number + 50) (p .place)) (checkThat (q .wants) (q .number + 50) (q .place))
 fifty-precedes p q a b (inl h) = inl (omega (arith, h, a .1, b .1))
 fifty-precedes p q a b (inr (e, inl h)) = inr (a .1 ∙ omega (arith, e) ∙ sym (b .1), inl h)
 fifty-precedes p q a b (inr (e, inr (f, h))) = inr (a .1 ∙ omega (arith, e) ∙ sym (b .1), inr (f, omega (arith, h)))

@@ -45,7 +45,8 @@ pub record Apart {R : Type 0} (refused : Refusal → R) (A : R → Type 0) : Typ
   pub one : (q k : Refusal) → refused q ≡ refused k → q ≡ k
   pub answer : (q : Refusal) → A (refused q) → ⊥
 
-said-ends : {R : Type 0} {refused : Refusal → R} {A : R → Type 0} → Apart refused A → (checks : List Check) (r : R) → SaidBy refused A checks r → Ends checks (Refuses refused r)
+said-ends : {R : Type 0} {refused : Refusal → R} {A : R → Type 0} → Apart refused A → (checks : List Check) (r : R)
+    → SaidBy refused A checks r → Ends checks (Refuses refused r)
 said-ends {A = A} w checks r (good p a) = inl (p, λ n k h. w .answer (h .0) (subst A (h .1) a))
 said-ends w checks r (bad q f e) =
     inr (
@@ -64,7 +65,8 @@ case-apart = record { one = same; answer = λ q a. absurd-read q (a .0) (a .1) }
     same q k e = let f : read.Refused q ≡ read.Refused k = ap (λ (r : CaseRead). r .answer) e in cc
 
     absurd-read : (q : Refusal) (c : Case) → refused q ≡ got c → ⊥
-    absurd-read q c e = let f : read.Refused q ≡ read.Read = ap (λ (r : CaseRead). r .answer) e in let z : _≡_ {A = ℕ} 0 1 = cc in omega arith
+    absurd-read q c e =
+        let f : read.Refused q ≡ read.Read = ap (λ (r : CaseRead). r .answer) e in let z : _≡_ {A = ℕ} 0 1 = cc in omega arith
 
 steps-apart : Apart Refused IsCount
 steps-apart = record { one = λ q k e. cc; answer = λ q a. absurd-count q (a .0) (a .1) }
@@ -74,11 +76,14 @@ steps-apart = record { one = λ q k e. cc; answer = λ q a. absurd-count q (a .0
 
 pub read-case : (text : List ℕ) (r : CaseRead) → CaseReadReply text r → ByTable {M = Unit {0}} (caseChecks text) (Refuses refused r) tt tt
 read-case text r p =
-    met (caseChecks text) (Refuses refused r) (case-ordered text) (λ n k h. refl) (said-ends case-apart (caseChecks text) r (subst⁻¹ (SaidBy refused IsCase (caseChecks text)) p (case-judged text)))
+    met (caseChecks text) (Refuses refused r) (case-ordered text) (λ n k h. refl)
+    (said-ends case-apart (caseChecks text) r (subst⁻¹ (SaidBy refused IsCase (caseChecks text)) p (case-judged text)))
 
-pub check-steps : (text : List ℕ) (r : StepsRead) → StepsCheckedReply text r → ByTable {M = Unit {0}} (stepTextChecks text) (Refuses Refused r) tt tt
+pub check-steps : (text : List ℕ) (r : StepsRead) → StepsCheckedReply text r
+    → ByTable {M = Unit {0}} (stepTextChecks text) (Refuses Refused r) tt tt
 check-steps text r p =
-    met (stepTextChecks text) (Refuses Refused r) (step-text-ordered text) (λ n k h. refl) (said-ends steps-apart (stepTextChecks text) r (subst⁻¹ (SaidBy Refused IsCount (stepTextChecks text)) p (steps-judged text)))
+    met (stepTextChecks text) (Refuses Refused r) (step-text-ordered text) (λ n k h. refl)
+    (said-ends steps-apart (stepTextChecks text) r (subst⁻¹ (SaidBy Refused IsCount (stepTextChecks text)) p (steps-judged text)))
 
 -- the steps have room, or 6
 abbrev hasRoom : List ℕ → ℕ → List Check
@@ -88,8 +93,10 @@ hasRoom text room = checkThat (length (stepsOf text) ≤ room) 6 0 ∷ []
 room-judged : (text : List ℕ) (room : ℕ) (r : StepsRead) → readSteps text ≡ r → SaidBy Refused IsCount (stepTextChecks text) r
     → Ends (stepsReadChecks text room) (Refuses Refused (withRoom room r))
 room-judged text room r e (bad q f d) =
-    ends-sooner (stepTextChecks text) (hasRoom text room) (Refuses Refused (withRoom room r)) (numberOf q) (placeOf q) (failed-first (stepTextChecks text) q f) (q, same, itself q)
-    (λ m o h. let s : q ≡ h .0 = steps-apart .one q (h .0) (sym same ∙ h .1) in (ap numberOf s ∙ h .2 .numbered, ap placeOf s ∙ h .2 .placed))
+    ends-sooner (stepTextChecks text) (hasRoom text room) (Refuses Refused (withRoom room r)) (numberOf q) (placeOf q)
+    (failed-first (stepTextChecks text) q f) (q, same, itself q)
+    (λ m o h. let s : q ≡ h .0 = steps-apart .one q (h .0) (sym same ∙ h .1) in
+    (ap numberOf s ∙ h .2 .numbered, ap placeOf s ∙ h .2 .placed))
   where
     same : withRoom room r ≡ Refused q
     same = ap (withRoom room) d
@@ -101,8 +108,13 @@ room-judged text room r e (good p (n, d)) =
     many = steps-count text n (e ∙ d)
 
     go : (b : Bool) → ltb room n ≡ b → Ends (hasRoom text room) (Refuses Refused (cond b (Refused NoRoom) (Steps n)))
-    go true h = said-ends steps-apart (hasRoom text room) (Refused NoRoom) (failing (length (stepsOf text) ≤ room) 6 0 NoRoom (λ l. omega (arith, l, many, ltb→lt room n (subst⁻¹ T h tt))) (itself NoRoom))
-    go false h = said-ends steps-apart (hasRoom text room) (Steps n) (good (omega (arith, many, nltb→le room n (subst⁻¹ (λ (b : Bool). T (not b)) h tt)), tt) (n, refl))
+    go true h =
+        said-ends steps-apart (hasRoom text room) (Refused NoRoom)
+        (failing (length (stepsOf text) ≤ room) 6 0 NoRoom (λ l. omega (arith, l, many, ltb→lt room n (subst⁻¹ T h tt)))
+        (itself NoRoom))
+    go false h =
+        said-ends steps-apart (hasRoom text room) (Steps n)
+        (good (omega (arith, many, nltb→le room n (subst⁻¹ (λ (b : Bool). T (not b)) h tt)), tt) (n, refl))
 
 pub read-steps : (text : List ℕ) (before after : List Step) (r : StepsRead) → StepsReadReply text before after r
     → ByTable (stepsReadChecks text (length before)) (Refuses Refused r) before after
@@ -111,7 +123,8 @@ read-steps text before after r p =
     (then-ordered 1 (stepTextChecks text) (hasRoom text (length before)) (step-text-ordered text) (step-text-turn text)
     (later-follows 1 (hasRoom text (length before)) (lit≤ tt) (lit< tt) refl))
     (λ n k h. p .1 ∙ ap (λ (x : StepsRead). leaves x (stepsOf text) before) (h .1))
-    (subst⁻¹ (λ (x : StepsRead). Ends (stepsReadChecks text (length before)) (Refuses Refused x)) (p .0) (room-judged text (length before) (readSteps text) refl (steps-judged text)))
+    (subst⁻¹ (λ (x : StepsRead). Ends (stepsReadChecks text (length before)) (Refuses Refused x)) (p .0)
+    (room-judged text (length before) (readSteps text) refl (steps-judged text)))
 
 -- ---- a step text replayed
 
@@ -124,7 +137,8 @@ fifty-passed : (qs : List Check) → Passed qs → Passed (withFifty qs)
 fifty-passed [] p = tt
 fifty-passed (q ∷ qs) p = (p .0, fifty-passed qs (p .1))
 
-pub text-replay-ends : (c : Case) (text : List ℕ) (r : TextReplayed) → TextReplayReply c text r → Ends (textReplayChecks c text) (TextRefuses r)
+pub text-replay-ends : (c : Case) (text : List ℕ) (r : TextReplayed) → TextReplayReply c text r
+    → Ends (textReplayChecks c text) (TextRefuses r)
 text-replay-ends c text r p = go (steps-judged text)
   where
     fifty : List Check
@@ -139,7 +153,8 @@ text-replay-ends c text r p = go (steps-judged text)
 
     unread-ends : (q : Refusal) → Failed (stepTextChecks text) q → Ends (fifty ++ steps) (TextRefuses (told.Unread q))
     unread-ends q a =
-        ends-sooner fifty steps (TextRefuses (told.Unread q)) (numberOf q + 50) (placeOf q) (fifty-first (stepTextChecks text) (numberOf q) (placeOf q) (failed-first (stepTextChecks text) q a))
+        ends-sooner fifty steps (TextRefuses (told.Unread q)) (numberOf q + 50) (placeOf q)
+        (fifty-first (stepTextChecks text) (numberOf q) (placeOf q) (failed-first (stepTextChecks text) q a))
         (record { numbered = refl; placed = refl }) (λ m o h. (h .numbered, h .placed))
 
     read-as : {x : StepsRead} → readSteps text ≡ x → TextReplayAt c text x r
@@ -148,12 +163,16 @@ text-replay-ends c text r p = go (steps-judged text)
     go : SaidBy Refused IsCount (stepTextChecks text) (readSteps text) → Ends (fifty ++ steps) (TextRefuses r)
     go (good a (n, e)) =
         let t = read-as e in
-        ends-later fifty steps (TextRefuses r) (fifty-passed (stepTextChecks text) a) (subst⁻¹ (λ (x : TextReplayed). Ends steps (TextRefuses x)) (t .2) (replayed-ends (t .0) (t .1)))
+        ends-later fifty steps (TextRefuses r) (fifty-passed (stepTextChecks text) a)
+        (subst⁻¹ (λ (x : TextReplayed). Ends steps (TextRefuses x)) (t .2) (replayed-ends (t .0) (t .1)))
     go (bad q f e) = subst⁻¹ (λ (x : TextReplayed). Ends (fifty ++ steps) (TextRefuses x)) (read-as e) (unread-ends q f)
 
 pub text-replay-follows : (c : Case) (text : List ℕ) → ComesAfter 1 (textReplayChecks c text)
 text-replay-follows c text =
-    then-follows 3 1 (withFifty (stepTextChecks text)) (replayChecks c (stepsOf text)) (fifty-follows text) (fifty-text-turn text) (lit≤ tt) (replay-follows c (stepsOf text))
+    then-follows 3 1 (withFifty (stepTextChecks text)) (replayChecks c (stepsOf text)) (fifty-follows text) (fifty-text-turn text) (lit≤ tt)
+    (replay-follows c (stepsOf text))
 
-pub replay-text : (c : Case) (text : List ℕ) (r : TextReplayed) → TextReplayReply c text r → ByTable {M = Unit {0}} (textReplayChecks c text) (TextRefuses r) tt tt
-replay-text c text r p = met (textReplayChecks c text) (TextRefuses r) (text-replay-follows c text .0) (λ n k h. refl) (text-replay-ends c text r p)
+pub replay-text : (c : Case) (text : List ℕ) (r : TextReplayed) → TextReplayReply c text r
+    → ByTable {M = Unit {0}} (textReplayChecks c text) (TextRefuses r) tt tt
+replay-text c text r p =
+    met (textReplayChecks c text) (TextRefuses r) (text-replay-follows c text .0) (λ n k h. refl) (text-replay-ends c text r p)

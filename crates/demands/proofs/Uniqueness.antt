@@ -17,7 +17,8 @@ use Rattle.observe.specs.declared.test.Tested.the-variants as tested
 use Rattle.observe_calls.specs.Replies.{observedChecks, ObservedReply, figureChecks, FigureReply, stepChecks, StepReply}
 
 pub observed-unique : (c : Case) (a b : Observed) → ObservedReply c a → ObservedReply c b → a ≡ b
-observed-unique c (observed.Set s) (observed.Set t) p q = ap observed.Set (set-inj s t (least-unique (gridOf c) (setOf s) (setOf t) (p .1) (q .1)))
+observed-unique c (observed.Set s) (observed.Set t) p q =
+    ap observed.Set (set-inj s t (least-unique (gridOf c) (setOf s) (setOf t) (p .1) (q .1)))
 observed-unique c (observed.Set s) (observed.Refused r) p q = absurd (failed-or-passed (observedChecks c) r q (p .0))
 observed-unique c (observed.Refused r) (observed.Set s) p q = absurd (failed-or-passed (observedChecks c) r p (q .0))
 observed-unique c (observed.Refused r) (observed.Refused k) p q = ap observed.Refused (failed-unique (observedChecks c) r k p q)

@@ -1,5 +1,6 @@
 -- Demand 1's first sentence: every text, case value, list and budget gets a reply, and the call ends.
--- A call's statement is that its own code, on every input that its contract allows, returns and leaves what the contract says; none of these contracts has a requirement.
+-- A call's statement is that its own code, on every input that its contract allows, returns and leaves what the contract says;
+-- none of these contracts has a requirement.
 use Rattle.observe_calls.proofs.observed_set.Statement as observed-set
 use Rattle.observe_calls.proofs.firing_figure.Statement as firing-figure
 use Rattle.observe_calls.proofs.test_step.Statement as test-step

@@ -1,4 +1,5 @@
--- Demand 1: every text, case value, list and budget gets a reply and the program ends; each entry checks for itself, refuses only for the reasons in
+-- Demand 1: every text, case value, list and budget gets a reply and the program ends;
+-- each entry checks for itself, refuses only for the reasons in
 -- document 01's table, and a refusal leaves the lent memory unaltered.
 use mathlib.Core.List.{List, _++_}
 use Prim.Native.Nat.{ℕ}
@@ -42,7 +43,8 @@ use Rattle.place_calls.specs.Replies.{verdictChecks, VerdictReply, greedyChecks
 use Rattle.text_calls.specs.Replies.{CaseReadReply, writeChecks, CaseWrittenReply, StepsCheckedReply}
 use Rattle.estimator.specs.Answers.{ObservedFor, UnconfirmedFor, FewestFor, ReplayFor, OfText}
 use Rattle.estimator_reply.specs.Results.{Answered}
-use Rattle.demands.specs.TextChecks.{caseChecks, stepTextChecks, stepsReadChecks, textReplayChecks, estimatorChecks, inputChecks, printChecks}
+use Rattle.demands.specs.TextChecks.{caseChecks, stepTextChecks, stepsReadChecks, textReplayChecks}
+use Rattle.demands.specs.TextChecks.{estimatorChecks, inputChecks, printChecks}
 use Rattle.demands.specs.ByTable.{noDerivation, Refuses, TextRefuses, Coded, ByTable, NothingLent, PrintedByTable, FewestPrinted}
 use Rattle.demands.specs.Calls.{EveryCall}
 use Rattle.demands.specs.Promised.{EveryPromise}
@@ -59,25 +61,37 @@ pub record Demand1 (M : Type 1) : Type 2 where
   -- lists of steps
   pub derivation : (c : Case) (r : Derived) → DerivationReply c r → NothingLent (derivationChecks c) noDerivation r
   pub replay : (c : Case) (xs : List Step) (r : Replayed) → ReplayReply c xs r → NothingLent (replayChecks c xs) replayed.Refused r
-  pub weave : (c : Case) (xs before after : List Step) (r : Wove) → WeaveReply c xs before after r → ByTable (weaveChecks c xs (length before)) (Refuses wove.Refused r) before after
+  pub weave : (c : Case) (xs before after : List Step) (r : Wove) → WeaveReply c xs before after r
+      → ByTable (weaveChecks c xs (length before)) (Refuses wove.Refused r) before after
   -- placing units
   pub cross-validate : (c : Case) (r : Verdict) → VerdictReply c r → NothingLent (verdictChecks c) verdict.Refused r
-  pub place-greedy : (c : Case) (budget : ℕ) (entry exit : List ℕ) (r : Greedy) → GreedyReply c budget entry exit r → ByTable (greedyChecks c budget entry) (Refuses greedy.Refused r) entry exit
+  pub place-greedy : (c : Case) (budget : ℕ) (entry exit : List ℕ) (r : Greedy) → GreedyReply c budget entry exit r
+      → ByTable (greedyChecks c budget entry) (Refuses greedy.Refused r) entry exit
   pub place-fewest : (c : Case) (budget : ℕ) (r : Fewest) → FewestReply c budget r → NothingLent (fewestChecks c budget) fewest.Refused r
   -- texts
   pub read-case : (text : List ℕ) (r : CaseRead) → CaseReadReply text r → NothingLent (caseChecks text) refused r
-  pub write-case : (c : Case) (lent left : List ℕ) (r : Written) → CaseWrittenReply c lent r left → ByTable (writeChecks c lent) (Refuses written.Refused r) lent left
+  pub write-case : (c : Case) (lent left : List ℕ) (r : Written) → CaseWrittenReply c lent r left
+      → ByTable (writeChecks c lent) (Refuses written.Refused r) lent left
   pub check-steps : (text : List ℕ) (r : StepsRead) → StepsCheckedReply text r → NothingLent (stepTextChecks text) steps.Refused r
-  pub read-steps : (text : List ℕ) (before after : List Step) (r : StepsRead) → StepsReadReply text before after r → ByTable (stepsReadChecks text (length before)) (Refuses steps.Refused r) before after
-  pub replay-text : (c : Case) (text : List ℕ) (r : TextReplayed) → TextReplayReply c text r → ByTable {M = Unit {0}} (textReplayChecks c text) (TextRefuses r) tt tt
+  pub read-steps : (text : List ℕ) (before after : List Step) (r : StepsRead) → StepsReadReply text before after r
+      → ByTable (stepsReadChecks text (length before)) (Refuses steps.Refused r) before after
+  pub replay-text : (c : Case) (text : List ℕ) (r : TextReplayed) → TextReplayReply c text r
+      → ByTable {M = Unit {0}} (textReplayChecks c text) (TextRefuses r) tt tt
   -- the reports, and what they print
-  pub day-report : (text lent left : List ℕ) (r : Written) → PrintedReply (DayPrinted text) lent left r → ByTable (printChecks (DayPrinted text) lent) (Refuses written.Refused r) lent left
+  pub day-report : (text lent left : List ℕ) (r : Written) → PrintedReply (DayPrinted text) lent left r
+      → ByTable (printChecks (DayPrinted text) lent) (Refuses written.Refused r) lent left
   pub day-printed : (text t : List ℕ) → DayPrinted text t → PrintedByTable (caseChecks text) (DayReport (readCase text .case) t) t
-  pub plan-report : (input lent left : List ℕ) (r : Written) → PrintedReply (PlanPrinted input) lent left r → ByTable (printChecks (PlanPrinted input) lent) (Refuses written.Refused r) lent left
+  pub plan-report : (input lent left : List ℕ) (r : Written) → PrintedReply (PlanPrinted input) lent left r
+      → ByTable (printChecks (PlanPrinted input) lent) (Refuses written.Refused r) lent left
   pub plan-printed : (input t : List ℕ) → PlanPrinted input t
-      → PrintedByTable (inputChecks input ++ planChecks (readPlan input .read .case) (readPlan input .budget)) (FewestPrinted (readPlan input .read .case) (readPlan input .budget) t) t
+      → PrintedByTable (inputChecks input ++ planChecks (readPlan input .read .case) (readPlan input .budget))
+      (FewestPrinted (readPlan input .read .case) (readPlan input .budget) t) t
   -- the state estimator's calls
-  pub wz-observed : (text lent left : List ℕ) (r : ℕ) → Answered (OfText text ObservedFor) lent left r → ByTable (estimatorChecks text observedChecks lent) (Coded r) lent left
-  pub wz-unconfirmed : (text lent left : List ℕ) (r : ℕ) → Answered (OfText text UnconfirmedFor) lent left r → ByTable (estimatorChecks text verdictChecks lent) (Coded r) lent left
-  pub wz-fewest : (text : List ℕ) (budget : ℕ) (lent left : List ℕ) (r : ℕ) → Answered (OfText text (FewestFor budget)) lent left r → ByTable (estimatorChecks text (λ c. fewestChecks c budget) lent) (Coded r) lent left
-  pub wz-replay : (text steps lent left : List ℕ) (r : ℕ) → Answered (OfText text (ReplayFor steps)) lent left r → ByTable (estimatorChecks text (λ c. textReplayChecks c steps) lent) (Coded r) lent left
+  pub wz-observed : (text lent left : List ℕ) (r : ℕ) → Answered (OfText text ObservedFor) lent left r
+      → ByTable (estimatorChecks text observedChecks lent) (Coded r) lent left
+  pub wz-unconfirmed : (text lent left : List ℕ) (r : ℕ) → Answered (OfText text UnconfirmedFor) lent left r
+      → ByTable (estimatorChecks text verdictChecks lent) (Coded r) lent left
+  pub wz-fewest : (text : List ℕ) (budget : ℕ) (lent left : List ℕ) (r : ℕ) → Answered (OfText text (FewestFor budget)) lent left r
+      → ByTable (estimatorChecks text (λ c. fewestChecks c budget) lent) (Coded r) lent left
+  pub wz-replay : (text steps lent left : List ℕ) (r : ℕ) → Answered (OfText text (ReplayFor steps)) lent left r
+      → ByTable (estimatorChecks text (λ c. textReplayChecks c steps) lent) (Coded r) lent left

@@ -46,16 +46,19 @@ pub record Sized (c : Case) : Type 0 where
 
 pub record Demand2 : Type 0 where
   -- for a valid case the observed set is the least one closed under the two published rules
-  pub observed : (c : Case) (r : Observed) → Valid c → ObservedReply c r → (set : ℕ) × (r ≡ observed.Set set) × ObservedSet (gridOf c) (setOf set)
+  pub observed : (c : Case) (r : Observed) → Valid c → ObservedReply c r
+      → (set : ℕ) × (r ≡ observed.Set set) × ObservedSet (gridOf c) (setOf set)
   -- and a list of steps is accepted exactly when each step is allowed where it stands
   pub accepted : (c : Case) (xs : List Step) (r : Replayed) → Valid c → ReplayReply c xs r → AcceptedExactly (gridOf c) xs r
   -- a finished list has as many steps as the observed set has buses
-  pub finished-length : (g : Grid) (xs : List Step) (set : ℕ) → Accepted g xs → Finished g (reached xs) → ObservedSet g set → length xs ≡ size set
+  pub finished-length : (g : Grid) (xs : List Step) (set : ℕ) → Accepted g xs → Finished g (reached xs) → ObservedSet g set
+      → length xs ≡ size set
   -- the fewest-unit answer is the first smallest placement that covers
   pub fewest : (c : Case) (budget sites : ℕ) → FewestReply c budget (fewest.Sites sites)
       → placing.FewestSites (gridOf c) budget (setOf sites)
   -- for a valid case, a budget of at most 8 is refused as too small exactly when none within it does
-  pub too-small : (c : Case) (budget : ℕ) (r : Fewest) → Valid c → budget ≤ mostBudget → FewestReply c budget r → TooSmallExactly (gridOf c) budget r
+  pub too-small : (c : Case) (budget : ℕ) (r : Fewest) → Valid c → budget ≤ mostBudget → FewestReply c budget r
+      → TooSmallExactly (gridOf c) budget r
   -- case texts read and written are inverse: what is written is read back
   pub read-back : (c : Case) (lent left : List ℕ) (count : ℕ) → Sized c → CaseWrittenReply c lent (written.Bytes count) left
       → CaseReadReply (take count left) (got c)

@@ -49,13 +49,15 @@ pub record Determined : Type 0 where
   pub weave : (c : Case) (xs before : List Step) → OneOf {R = Wove} {M = List Step} (λ r after. WeaveReply c xs before after r)
   -- placing units
   pub cross-validate : (c : Case) → One {R = Verdict} (VerdictReply c)
-  pub place-greedy : (c : Case) (budget : ℕ) (entry : List ℕ) → OneOf {R = Greedy} {M = List ℕ} (λ r exit. GreedyReply c budget entry exit r)
+  pub place-greedy : (c : Case) (budget : ℕ) (entry : List ℕ)
+      → OneOf {R = Greedy} {M = List ℕ} (λ r exit. GreedyReply c budget entry exit r)
   pub place-fewest : (c : Case) (budget : ℕ) → One {R = Fewest} (FewestReply c budget)
   -- texts
   pub read-case : (text : List ℕ) → One {R = CaseRead} (CaseReadReply text)
   pub write-case : (c : Case) (lent : List ℕ) → OneOf {R = Written} {M = List ℕ} (λ r left. CaseWrittenReply c lent r left)
   pub check-steps : (text : List ℕ) → One {R = StepsRead} (StepsCheckedReply text)
-  pub read-steps : (text : List ℕ) (before : List Step) → OneOf {R = StepsRead} {M = List Step} (λ r after. StepsReadReply text before after r)
+  pub read-steps : (text : List ℕ) (before : List Step)
+      → OneOf {R = StepsRead} {M = List Step} (λ r after. StepsReadReply text before after r)
   pub replay-text : (c : Case) (text : List ℕ) → One {R = TextReplayed} (TextReplayReply c text)
   -- the reports
   pub day-report : (text lent : List ℕ) → OneOf {R = Written} {M = List ℕ} (λ r left. PrintedReply (DayPrinted text) lent left r)
@@ -63,5 +65,6 @@ pub record Determined : Type 0 where
   -- the state estimator's calls
   pub wz-observed : (text lent : List ℕ) → OneOf {R = ℕ} {M = List ℕ} (λ r left. Answered (OfText text ObservedFor) lent left r)
   pub wz-unconfirmed : (text lent : List ℕ) → OneOf {R = ℕ} {M = List ℕ} (λ r left. Answered (OfText text UnconfirmedFor) lent left r)
-  pub wz-fewest : (text : List ℕ) (budget : ℕ) (lent : List ℕ) → OneOf {R = ℕ} {M = List ℕ} (λ r left. Answered (OfText text (FewestFor budget)) lent left r)
+  pub wz-fewest : (text : List ℕ) (budget : ℕ) (lent : List ℕ)
+      → OneOf {R = ℕ} {M = List ℕ} (λ r left. Answered (OfText text (FewestFor budget)) lent left r)
   pub wz-replay : (text steps lent : List ℕ) → OneOf {R = ℕ} {M = List ℕ} (λ r left. Answered (OfText text (ReplayFor steps)) lent left r)

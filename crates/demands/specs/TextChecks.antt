@@ -39,7 +39,8 @@ afterRecord (Pmu p) end on = on
 afterRecord End end on = end
 afterRecord Wrong end on = on
 
--- line k, where the reader stands so, and the pieces after its line feed: it has one, and its record may stand here, or 2; 3; 4; then the lines after it
+-- line k, where the reader stands so, and the pieces after its line feed: it has one, and its record may stand here, or 2; 3; 4;
+-- then the lines after it
 abbrev pub lineChecks : Reader → ℕ → List ℕ → List (List ℕ) → List Check
 lineChecks s k l [] = checkThat ⊥ 2 k ∷ []
 lineChecks s k l (m ∷ ms) =

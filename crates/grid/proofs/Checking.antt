@@ -15,7 +15,8 @@ use Rattle.grid.specs.declared.Case.{Case}
 
 -- ---- one line
 
-pub line-test : {n : ℕ} {nbr : ℕ → ℕ} {a b m : ℕ} {r : Bool} → Bus n a → Bus n b → (a ≡ b → ⊥) → m ≡ nbr b → Decides (In m a) r → Decides (Line n nbr a b) r
+pub line-test : {n : ℕ} {nbr : ℕ → ℕ} {a b m : ℕ} {r : Bool} → Bus n a → Bus n b → (a ≡ b → ⊥) → m ≡ nbr b → Decides (In m a) r
+    → Decides (Line n nbr a b) r
 line-test {n} {nbr} {a} {b} {m} from to differ e d =
     decides-by (λ h. record { from = from; to = to; differ = differ; back = subst (λ (s : ℕ). In s a) e h })
     (λ l. subst⁻¹ (λ (s : ℕ). In s a) e (l .back)) d
@@ -32,7 +33,8 @@ checked-none n {nbr} {left} b e = record {
   lines = λ a o h. absurd (omega (arith, ap (λ (s : ℕ). bit s a) e));
 }
 
-pub checked-more : {n : ℕ} {nbr : ℕ → ℕ} {b left a rest : ℕ} → Checked n nbr b left → Line n nbr b a → Without left a rest → Checked n nbr b rest
+pub checked-more : {n : ℕ} {nbr : ℕ → ℕ} {b left a rest : ℕ} → Checked n nbr b left → Line n nbr b a → Without left a rest
+    → Checked n nbr b rest
 checked-more {n} {nbr} {b} {left} {a} {rest} c l w = record {
   of = λ i. omega (arith, without-sub w i, c .of i);
   lines = without-of {P = λ i. In (nbr b) i → Line n nbr b i} w (λ h. l) (c .lines);
@@ -68,7 +70,8 @@ below-all {n} {nbr} {b} c past a =
 
 -- ---- all the clauses of refusal 5
 
-pub valid-test : {c : Case} {k : ℕ} {r : Bool} → Bus mostBuses (c .n) → Within (c .n) (setOf (c .zero)) → Within (c .n) (setOf (c .site)) → Within (c .n) (setOf (c .units))
+pub valid-test : {c : Case} {k : ℕ} {r : Bool} → Bus mostBuses (c .n) → Within (c .n) (setOf (c .zero)) → Within (c .n) (setOf (c .site))
+    → Within (c .n) (setOf (c .units))
     → Lines (c .n) (neighbours (c .nbr)) → k ≡ lineCount (c .n) (neighbours (c .nbr)) → Decides (k ≤ mostLines) r → Decides (Valid c) r
 valid-test buses zeros sites units lines e d =
     decides-by

@@ -20,7 +20,8 @@ pub summed-none : (nbr : ℕ → ℕ) → Summed nbr 1 0
 unfolding total
 summed-none nbr = record { low = omega arith; is = refl; most = omega arith }
 
-pub summed-more : {nbr : ℕ → ℕ} {b sum r u m : ℕ} → Summed nbr b sum → m ≡ nbr b → u ≡ upTo b m → r ≡ size u → r ≤ 64 → Summed nbr (b + 1) (sum + r)
+pub summed-more : {nbr : ℕ → ℕ} {b sum r u m : ℕ} → Summed nbr b sum → m ≡ nbr b → u ≡ upTo b m → r ≡ size u → r ≤ 64
+    → Summed nbr (b + 1) (sum + r)
 summed-more {nbr} {b} {sum} {r} {u} {m} s em eu er l = record {
   low = omega arith;
   is =

@@ -53,28 +53,50 @@ module _ {M : Type 1} (𝓤 : URA M) (H : Heap 𝓤) (A : Atoms 𝓤) (mem : Mem
 
   -- what the two are passed
   abbrev pub begin-at : Case → Task → ℕ → Begin .Ghost
-  begin-at cs k n = ((tt, tt, tt, (cs, (k, (n, tt))), (LL.vals D.the-type D′.the-laws cs, (EL.vals K.the-type K′.the-laws k, (vint w64 n ∷ [], tt)))), tt)
+  begin-at cs k n =
+      ((tt, tt, tt, (cs, (k, (n, tt))), (LL.vals D.the-type D′.the-laws cs, (EL.vals K.the-type K′.the-laws k, (vint w64 n ∷ [], tt)))), tt)
 
   abbrev pub follow-at : Lft → Share → RefT (List Step) → Case → Following → Val → Follow .Ghost
-  follow-at κ q x cs st u = (((κ, tt), (q, tt), tt, (cs, (st, (x, tt))), (LL.vals D.the-type D′.the-laws cs, (u ∷ [], (sliceVal (x .ptr) (length (x .now)) ∷ [], tt)))), tt)
+  follow-at κ q x cs st u = (
+    (
+      (κ, tt),
+      (q, tt),
+      tt,
+      (cs, (st, (x, tt))),
+      (LL.vals D.the-type D′.the-laws cs, (u ∷ [], (sliceVal (x .ptr) (length (x .now)) ∷ [], tt))),
+    ),
+    tt,
+  )
 
-module _ {M : Type 1} {𝓤 : URA M} {H : Heap 𝓤} {A : Atoms 𝓤} {K : Type 0} {W : Given 𝓤 H A} {Γ : List (Item 𝓤)} {E : Env 𝓤 H} {C : Calls 𝓤 H} {Λ : Loops 𝓤 H} {p : Post 𝓤 H} {xs : List Operand} {d : Place} where
-  pub calls-begin : K → FmC 𝓤 H (W .laws) C → {rest : Body} (mem : Memory → SProp 𝓤) (run : Routine → Fun 𝓤) → Triple 𝓤 (C #list_follow·begin) (Begin 𝓤 H A mem run)
+module _ {M : Type 1} {𝓤 : URA M} {H : Heap 𝓤} {A : Atoms 𝓤} {K : Type 0} {W : Given 𝓤 H A} {Γ : List (Item 𝓤)} {E : Env 𝓤 H}
+    {C : Calls 𝓤 H} {Λ : Loops 𝓤 H} {p : Post 𝓤 H} {xs : List Operand} {d : Place} where
+  pub calls-begin : K → FmC 𝓤 H (W .laws) C → {rest : Body} (mem : Memory → SProp 𝓤) (run : Routine → Fun 𝓤)
+      → Triple 𝓤 (C #list_follow·begin) (Begin 𝓤 H A mem run)
       → (cs : Case) → Is D.the-row cs (LL.vals D.the-type D′.the-laws cs) → (k : Task) (n : ℕ) → n < 2 ^ 64
-      → Opds K W (raw (Begin 𝓤 H A mem run .pre (begin-at 𝓤 H A mem run cs k n)) ∷ Γ) E xs (Begin 𝓤 H A mem run .args (begin-at 𝓤 H A mem run cs k n))
+      → Opds K W (raw (Begin 𝓤 H A mem run .pre (begin-at 𝓤 H A mem run cs k n)) ∷ Γ) E xs
+      (Begin 𝓤 H A mem run .args (begin-at 𝓤 H A mem run cs k n))
       → ((u : Val) (st : Following) → Is S.the-row st (u ∷ []) → StandsAfter cs k n [] st → Seq K W Γ (lands C Λ E d u rest p))
       → Seq K W Γ (runs C Λ E (seq (call #list_follow·begin xs d) rest) p)
   calls-begin t fm mem run known cs gcs k n fits os then =
       calls-plain t fm begin.ended (begin.clauses 𝓤 H A mem run) known (begin-at 𝓤 H A mem run cs k n .0) tt (id⊢ 𝓤 _) (id⊢ 𝓤 _)
-      (case-made 𝓤 H A, (task-made 𝓤 H A, (uint-makes 𝓤 H A W w64, tt))) (gcs, (task-is k, ((refl, fits), tt))) (StandsAfter cs k n []) (λ r ws. id⊢ 𝓤 _) os then
+      (case-made 𝓤 H A, (task-made 𝓤 H A, (uint-makes 𝓤 H A W w64, tt))) (gcs, (task-is k, ((refl, fits), tt))) (StandsAfter cs k n [])
+      (λ r ws. id⊢ 𝓤 _) os then
 
   -- the slice is passed on with its token, which comes back
-  pub calls-follow : K → FmC 𝓤 H (W .laws) C → {rest : Body} (mem : Memory → SProp 𝓤) (run : Routine → Fun 𝓤) → Triple 𝓤 (C #list_calls·follow) (Follow 𝓤 H A mem run)
-      → (κ : Lft) (q : Share) (x : RefT (List Step)) (cs : Case) → Is D.the-row cs (LL.vals D.the-type D′.the-laws cs) → (st : Following) (u : Val) → Is S.the-row st (u ∷ [])
-      → Opds K W (raw (Follow 𝓤 H A mem run .pre (follow-at 𝓤 H A mem run κ q x cs st u)) ∷ Γ) E xs (Follow 𝓤 H A mem run .args (follow-at 𝓤 H A mem run κ q x cs st u))
-      → ((v : Val) (r : Following) → Is S.the-row r (v ∷ []) → Follows cs st (x .now) r → Seq K W (raw (alive 𝓤 H A follow.signature (κ, tt) (q, tt)) ∷ Γ) (lands C Λ E d v rest p))
-      → Seq K W (raw (alive 𝓤 H A follow.signature (κ, tt) (q, tt)) ∷ ‵ (fsep (ShrSlice (named 0) κ T.the-row .own x (sliceVal (x .ptr) (length (x .now)) ∷ [])) ftrue) ∷ Γ) (runs C Λ E (seq (call #list_calls·follow xs d) rest) p)
+  pub calls-follow : K → FmC 𝓤 H (W .laws) C → {rest : Body} (mem : Memory → SProp 𝓤) (run : Routine → Fun 𝓤)
+      → Triple 𝓤 (C #list_calls·follow) (Follow 𝓤 H A mem run)
+      → (κ : Lft) (q : Share) (x : RefT (List Step)) (cs : Case) → Is D.the-row cs (LL.vals D.the-type D′.the-laws cs)
+      → (st : Following) (u : Val) → Is S.the-row st (u ∷ [])
+      → Opds K W (raw (Follow 𝓤 H A mem run .pre (follow-at 𝓤 H A mem run κ q x cs st u)) ∷ Γ) E xs
+      (Follow 𝓤 H A mem run .args (follow-at 𝓤 H A mem run κ q x cs st u))
+      → ((v : Val) (r : Following) → Is S.the-row r (v ∷ []) → Follows cs st (x .now) r
+      → Seq K W (raw (alive 𝓤 H A follow.signature (κ, tt) (q, tt)) ∷ Γ) (lands C Λ E d v rest p))
+      → Seq K W (raw (alive 𝓤 H A follow.signature (κ, tt) (q, tt))
+      ∷ ‵ (fsep (ShrSlice (named 0) κ T.the-row .own x (sliceVal (x .ptr) (length (x .now)) ∷ [])) ftrue) ∷ Γ)
+      (runs C Λ E (seq (call #list_calls·follow xs d) rest) p)
   calls-follow t fm mem run known κ q x cs gcs st u gst os then =
-      move t (1 ∷ []) $ owned t S.the-row (Is S.the-row) (following-made 𝓤 H A) st (u ∷ []) gst $ fjoin t $ owned t D.the-row (Is D.the-row) (case-made 𝓤 H A) cs _ gcs $ fjoin t $ move t (1 ∷ 0 ∷ []) $
-      calls-lent t fm follow.ended (follow.clauses 𝓤 H A mem run) known (follow-at 𝓤 H A mem run κ q x cs st u .0) tt (id⊢ 𝓤 _) (λ r ws. Follows cs st (x .now) r) (λ r ws. id⊢ 𝓤 _) os
+      move t (1 ∷ []) $ owned t S.the-row (Is S.the-row) (following-made 𝓤 H A) st (u ∷ []) gst $ fjoin t $
+      owned t D.the-row (Is D.the-row) (case-made 𝓤 H A) cs _ gcs $ fjoin t $ move t (1 ∷ 0 ∷ []) $
+      calls-lent t fm follow.ended (follow.clauses 𝓤 H A mem run) known (follow-at 𝓤 H A mem run κ q x cs st u .0) tt (id⊢ 𝓤 _)
+      (λ r ws. Follows cs st (x .now) r) (λ r ws. id⊢ 𝓤 _) os
       (λ v r ws is e. move t (1 ∷ []) $ drop t $ then v r is e)

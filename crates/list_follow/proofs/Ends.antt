@@ -49,10 +49,12 @@ use Rattle.list_follow.proofs.Joining.{all-within, woven-reaches, woven
 started-in : {g : Grid} {s o : ℕ} → WithNeighbours (g .neighbours) (g .units) o → Closed g s → Sub o s
 started-in {g} {s} st cl = st .least s (sub-of (g .units) s (cl .o1 .own)) (cl .o1 .near)
 
-pub finished-unless-started : {g : Grid} {s o : ℕ} → WithNeighbours (g .neighbours) (g .units) o → (Sub o s → ⊥) → Decides (Finished g s) false
+pub finished-unless-started : {g : Grid} {s o : ℕ} → WithNeighbours (g .neighbours) (g .units) o → (Sub o s → ⊥)
+    → Decides (Finished g s) false
 finished-unless-started {g} {s} st f = decides-no (λ fin. f (started-in {g = g} st (finished-closed g s fin)))
 
-pub finished-test : {g : Grid} {s o r : ℕ} {b : Bool} → WithNeighbours (g .neighbours) (g .units) o → Sub o s → Swept (g .neighbours) (g .zeros) s r
+pub finished-test : {g : Grid} {s o r : ℕ} {b : Bool} → WithNeighbours (g .neighbours) (g .units) o → Sub o s
+    → Swept (g .neighbours) (g .zeros) s r
     → Decides (r ≡ s) b → Decides (Finished g s) b
 finished-test {g} {s} {o} {r} st sub sw d =
     decides-by

@@ -14,7 +14,8 @@ pub record Tallied (m s left unknown : ℕ) : Type 0 where
 pub tallied-none : {m s left : ℕ} → Minus m s left → size left ≤ 64 → Tallied m s left 0
 tallied-none h l = record { adds = omega (arith, ap size (minus-lack h)); most = omega arith }
 
-pub tallied-more : {m s left unknown b rest : ℕ} → Tallied m s left unknown → In left b → Without left b rest → Tallied m s rest (unknown + 1)
+pub tallied-more : {m s left unknown b rest : ℕ} → Tallied m s left unknown → In left b → Without left b rest
+    → Tallied m s rest (unknown + 1)
 tallied-more t h w = record { adds = omega (arith, t .adds, w .fewer h); most = omega (arith, t .most, w .fewer h) }
 
 pub tallied-all : {m s left unknown : ℕ} → Tallied m s left unknown → left ≡ empty → unknown ≡ size (lack m s)

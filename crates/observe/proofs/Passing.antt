@@ -29,12 +29,15 @@ sweeping-none nbr {zeros} {s} {left} h = record {
   settled = λ e w o hz hs. absurd (omega (arith, h .at w));
 }
 
-pub sweeping-more : {nbr : ℕ → ℕ} {zeros s r left w m r′ rest : ℕ} → Sweeping nbr zeros s r left → In left w → m ≡ nbr w → Fires m r r′ → Without left w rest → Sweeping nbr zeros s r′ rest
+pub sweeping-more : {nbr : ℕ → ℕ} {zeros s r left w m r′ rest : ℕ} → Sweeping nbr zeros s r left → In left w → m ≡ nbr w → Fires m r r′
+    → Without left w rest → Sweeping nbr zeros s r′ rest
 sweeping-more {nbr} {zeros} {s} {r} {left} {w} {m} {r′} {rest} inv here e f o = record {
   zero = λ b. omega (arith, without-sub o b, inv .zero b);
   seen = λ b. omega (arith, without-sub o b, inv .seen b);
   grows = λ b. omega (arith, inv .grows b, f .grows b);
-  sound = λ t sub full. f .sound t (inv .sound t sub full) (subst (λ (x : ℕ). Fired x t) (sym e) (full w (omega (arith, inv .zero w)) (omega (arith, inv .seen w, sub w))));
+  sound =
+      λ t sub full. f .sound t (inv .sound t sub full)
+      (subst (λ (x : ℕ). Fired x t) (sym e) (full w (omega (arith, inv .zero w)) (omega (arith, inv .seen w, sub w))));
   settled = λ q. still q (ext r s (λ b. omega (arith, inv .grows b, f .grows b, ap (λ (x : ℕ). bit x b) q)));
 }
   where

@@ -37,7 +37,8 @@ idle-tried {nbr} {c} {left} {tries} {x} {left′} {tries′} idle w o y h =
     (same-or y x)
 
 -- none is left to try: no cover
-pub idle-no-cover : {g : Grid} {c left tries : ℕ} (k : ℕ) → Closed g c → (Full (g .n) c → ⊥) → IdleBut (g .neighbours) c left tries → tries ≡ empty
+pub idle-no-cover : {g : Grid} {c left tries : ℕ} (k : ℕ) → Closed g c → (Full (g .n) c → ⊥) → IdleBut (g .neighbours) c left tries
+    → tries ≡ empty
     → Uncoverable g left k
 idle-no-cover {left = left} k cl lacks idle e v w =
     cover-not-idle w cl lacks (λ x h. idle x (let sub = w .of x in omega arith) (ap (λ (s : ℕ). bit s x) e ∙ bit-zero x))

@@ -45,7 +45,8 @@ shrunk-closed cl sh = record {
 
 -- ---- the group of a set: a site that is not on or next to a bus that c lacks is idle
 
-pub group-by : {n : ℕ} {nbr : ℕ → ℕ} {a sites c dark near r : ℕ} → Lines n nbr → All n a → Minus a c dark → WithNeighbours nbr dark near → Both sites near r
+pub group-by : {n : ℕ} {nbr : ℕ → ℕ} {a sites c dark near r : ℕ} → Lines n nbr → All n a → Minus a c dark → WithNeighbours nbr dark near
+    → Both sites near r
     → Within n sites → Group nbr sites c r
 group-by {n} {nbr} {a} {sites} {c} {dark} {near} {r} lines al m st h bus = record {
   of = λ b. omega (arith, h .at b);

@@ -16,7 +16,8 @@ use Rattle.grid.specs.Near.{WithNeighbours}
 -- ---- one unit
 
 module _ {n : ℕ} {nbr : ℕ → ℕ} {units p m near others both : ℕ}
-    (lines : Lines n nbr) (unit : In units p) (e : m ≡ nbr p) (s : WithNeighbours nbr m near) (w : Without units p others) (h : Both near others both) where
+    (lines : Lines n nbr) (unit : In units p) (e : m ≡ nbr p) (s : WithNeighbours nbr m near) (w : Without units p others)
+    (h : Both near others both) where
   -- a bus next to p, or next to a neighbour of p, is near
   confirm-near : (a : ℕ) → Confirm nbr a p → In near a
   confirm-near a (joined j) = omega (arith, s .own a, ap (λ (s : ℕ). bit s a) e, lines a p j .back)

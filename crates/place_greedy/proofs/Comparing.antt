@@ -120,7 +120,8 @@ pub record Adding (g : Grid) (budget count u s : ℕ) (sites : List ℕ) : Type 
   pub least : ObservedSet (withUnits g u) s
   pub rest : (ys : List ℕ) → GreedyList (withUnits g u) (budget - count) ys → GreedyList g budget (take count sites ++ ys)
 
-pub adding-none : {g : Grid} {s : ℕ} (budget : ℕ) {sites : List ℕ} → length sites ≡ 64 → ObservedSet g s → Adding g budget 0 (g .units) s sites
+pub adding-none : {g : Grid} {s : ℕ} (budget : ℕ) {sites : List ℕ} → length sites ≡ 64 → ObservedSet g s
+    → Adding g budget 0 (g .units) s sites
 adding-none {g} budget r l = record {
   room = r;
   most = omega arith;
@@ -133,7 +134,8 @@ adding-none {g} budget r l = record {
 
 pub adding-more : {g : Grid} {budget count u s v t : ℕ} {sites : List ℕ} (x : ℕ) → Adding g budget count u s sites → count < budget
     → count < 64
-    → (x ≡ 0 → ⊥) → ChosenIs (withUnits g u) x → v ≡ add u x → ObservedSet (withUnits g (add u x)) t → Adding g budget (count + 1) v t (set sites count x)
+    → (x ≡ 0 → ⊥) → ChosenIs (withUnits g u) x → v ≡ add u x → ObservedSet (withUnits g (add u x)) t
+    → Adding g budget (count + 1) v t (set sites count x)
 adding-more zero a l r ne b e lt = absurd (ne refl)
 adding-more {g} {budget} {count} {u} {s} {v} {t} {sites} (suc i) a l r ne b e lt = record {
   room = simp length-set (a .room);
@@ -160,7 +162,9 @@ pub adding-stop : {g : Grid} {budget count u s : ℕ} {sites : List ℕ} (x : �
 adding-stop {g} {budget} {count} {u} {s} {sites} zero a l e none = record {
   room = a .room;
   most = a .most;
-  greedy = subst (GreedyList g budget) (append-nil (take count sites)) (a .rest [] (subst⁻¹ (λ (k : ℕ). GreedyList (withUnits g u) k []) left none));
+  greedy =
+      subst (GreedyList g budget) (append-nil (take count sites))
+      (a .rest [] (subst⁻¹ (λ (k : ℕ). GreedyList (withUnits g u) k []) left none));
 }
   where
     left : budget - count ≡ suc (budget - (count + 1))

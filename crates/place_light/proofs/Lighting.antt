@@ -15,7 +15,8 @@ use Rattle.place_light.specs.Ways.{Idle}
 
 -- ---- a unit at x
 
-pub lit-by : {nbr : ℕ → ℕ} {zeros s x m here t r : ℕ} → m ≡ nbr x → With m x here → Union s here t → Spread nbr zeros t r → Lit nbr zeros s x r
+pub lit-by : {nbr : ℕ → ℕ} {zeros s x m here t r : ℕ} → m ≡ nbr x → With m x here → Union s here t → Spread nbr zeros t r
+    → Lit nbr zeros s x r
 lit-by {nbr} {zeros} {s} {x} {m} {here} {t} {r} e w j sp = record {
   grows = λ b. omega (arith, j .at b, sp .grows b);
   own = omega (arith, w .here, j .at x, sp .grows x);
@@ -32,7 +33,8 @@ lit-by {nbr} {zeros} {s} {x} {m} {here} {t} {r} e w j sp = record {
         subst⁻¹ (λ (y : ℕ). Sub y v) (with-add w) (add-sub m v x (λ b. omega (arith, near b, ap (λ (y : ℕ). bit y b) e)) own)
 
 -- where s is observed, what is lit is observed with the new unit
-pub lit-least : {g : Grid} {s x r : ℕ} → ObservedSet g s → Lit (g .neighbours) (g .zeros) s x r → ObservedSet (withUnits g (add (g .units) x)) r
+pub lit-least : {g : Grid} {s x r : ℕ} → ObservedSet g s → Lit (g .neighbours) (g .zeros) s x r
+    → ObservedSet (withUnits g (add (g .units) x)) r
 lit-least {g} {s} {x} {r} l li = record {
   closed = record { o1 = record { own = λ b h. both b h .own; near = λ b h. both b h .near }; o2 = li .fired };
   least = λ t cl. li .least t (l .least t (closed-fewer g (add-grows (g .units) x) cl))
@@ -41,12 +43,20 @@ lit-least {g} {s} {x} {r} l li = record {
   where
     both : (b : ℕ) → In (add (g .units) x) b → Idle (g .neighbours) r b
     both = add-of {P = Idle (g .neighbours) r} (g .units) x (record { own = li .own; near = li .near })
-        (λ b h. record { own = omega (arith, l .closed .o1 .own b h, li .grows b); near = λ a. omega (arith, l .closed .o1 .near b h a, li .grows a) })
+        (λ b h. record {
+          own = omega (arith, l .closed .o1 .own b h, li .grows b);
+          near = λ a. omega (arith, l .closed .o1 .near b h a, li .grows a);
+        })
 
--- a set that satisfies the rules, and in which a unit at y is idle, holds what is lit from y: where that holds what is lit from x, x is idle in it too
-pub lit-gives : {g : Grid} {s x y a b : ℕ} → ObservedSet g s → Lit (g .neighbours) (g .zeros) s x a → Lit (g .neighbours) (g .zeros) s y b → Sub a b
+-- a set that satisfies the rules, and in which a unit at y is idle, holds what is lit from y: where that holds what is lit from x, x is
+-- idle in it too
+pub lit-gives : {g : Grid} {s x y a b : ℕ} → ObservedSet g s → Lit (g .neighbours) (g .zeros) s x a → Lit (g .neighbours) (g .zeros) s y b
+    → Sub a b
     → (t : ℕ) → Closed g t → Idle (g .neighbours) t y → Idle (g .neighbours) t x
-lit-gives {g} {s} {x} {y} {a} {b} l lx ly sub t cl i = record { own = omega (arith, holds x, lx .own); near = λ c. omega (arith, holds c, lx .near c) }
+lit-gives {g} {s} {x} {y} {a} {b} l lx ly sub t cl i = record {
+  own = omega (arith, holds x, lx .own);
+  near = λ c. omega (arith, holds c, lx .near c);
+}
   where
     holds : Sub a t
     holds c = omega (arith, sub c, ly .least t (l .least t cl) (i .own) (i .near) (cl .o2) c)

@@ -15,12 +15,20 @@ use Rattle.place_light.specs.Spares.{Spares}
 pub spares-same : (n : ℕ) (nbr : ℕ → ℕ) (zeros s sites k : ℕ) → Spares n nbr zeros s sites k sites
 spares-same n nbr zeros s sites k = record { of = λ b. le-refl (bit sites b); spared = λ _ _ l n. n }
 
-pub spares-more : {n : ℕ} {nbr : ℕ → ℕ} {zeros s sites k r q : ℕ} → Spares n nbr zeros s sites k r → Spares n nbr zeros s r k q → Spares n nbr zeros s sites k q
-spares-more p q = record { of = λ b. omega (arith, p .of b, q .of b); spared = λ site units l n. p .spared site units l (q .spared site units l n) }
+pub spares-more : {n : ℕ} {nbr : ℕ → ℕ} {zeros s sites k r q : ℕ} → Spares n nbr zeros s sites k r → Spares n nbr zeros s r k q
+    → Spares n nbr zeros s sites k q
+spares-more p q = record {
+  of = λ b. omega (arith, p .of b, q .of b);
+  spared = λ site units l n. p .spared site units l (q .spared site units l n);
+}
 
 -- where there is no cover none of them is needed
-pub spares-none : (n : ℕ) (nbr : ℕ → ℕ) (zeros s sites k : ℕ) {r : ℕ} → r ≡ empty → Whatever n nbr zeros (λ g. ObservedSet g s → Uncoverable g sites k) → Spares n nbr zeros s sites k r
-spares-none n nbr zeros s sites k e none = record { of = λ b. omega (arith, ap (λ (x : ℕ). bit x b) e, bit-zero b); spared = λ site units l n. none site units l }
+pub spares-none : (n : ℕ) (nbr : ℕ → ℕ) (zeros s sites k : ℕ) {r : ℕ} → r ≡ empty
+    → Whatever n nbr zeros (λ g. ObservedSet g s → Uncoverable g sites k) → Spares n nbr zeros s sites k r
+spares-none n nbr zeros s sites k e none = record {
+  of = λ b. omega (arith, ap (λ (x : ℕ). bit x b) e, bit-zero b);
+  spared = λ site units l n. none site units l;
+}
 
 -- at most the buses of sites, less x or without it, are those left without x
 module _ {sites x rest : ℕ} (w : Without sites x rest) where

@@ -40,4 +40,5 @@ greedy-unique g (suc k) (x ∷ xs) [] p q = absurd (best-adds (p .0) q)
 greedy-unique g (suc k) (x ∷ xs) (y ∷ ys) p q =
     let e = best-unique (p .0) (q .0) in
     ap₂ (λ (z : ℕ) (zs : List ℕ). z ∷ zs) e
-    (greedy-unique (withUnits g (add (g .units) x)) k xs ys (p .1) (subst⁻¹ (λ (z : ℕ). GreedyList (withUnits g (add (g .units) z)) k ys) e (q .1)))
+    (greedy-unique (withUnits g (add (g .units) x)) k xs ys (p .1)
+    (subst⁻¹ (λ (z : ℕ). GreedyList (withUnits g (add (g .units) z)) k ys) e (q .1)))

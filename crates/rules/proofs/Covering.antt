@@ -67,7 +67,8 @@ placed-last x xs =
 
 -- one bus more is at most one more
 pub size-add-most : (u x : ℕ) → size (add u x) ≤ suc (size u)
-size-add-most u x = ⊎-elim (λ (h : In u x). omega (arith, ap size (add-again u x h))) (λ (h : Out u x). omega (arith, size-add u x h)) (in-or u x)
+size-add-most u x =
+    ⊎-elim (λ (h : In u x). omega (arith, ap size (add-again u x h))) (λ (h : Out u x). omega (arith, size-add u x h)) (in-or u x)
 
 -- and the numbers of a list are at most as many more as it has
 pub size-placed : (xs : List ℕ) (u : ℕ) → size (placed u xs) ≤ size u + length xs

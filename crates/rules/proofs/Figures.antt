@@ -98,7 +98,8 @@ other-neighbours g k s i j v most joined =
     neighbour : (b : ℕ) → In (lack (less (g .neighbours i) j) s) b → In (g .neighbours i) b × (b ≡ j → ⊥)
     neighbour b h =
         let m : In (less (g .neighbours i) j) b = omega (arith, lack-at (less (g .neighbours i) j) s b) in
-        let ne : b ≡ j → ⊥ = λ e. let o : Out (less (g .neighbours i) j) b = subst⁻¹ (Out (less (g .neighbours i) j)) e (less-here (g .neighbours i) j) in
+        let ne : b ≡ j → ⊥ = λ e. let o : Out (less (g .neighbours i) j) b =
+        subst⁻¹ (Out (less (g .neighbours i) j)) e (less-here (g .neighbours i) j) in
         omega arith in
         (omega (arith, less-there (g .neighbours i) j b ne), ne)
 

@@ -78,8 +78,11 @@ module _ (c : Case) (text : List ℕ) {a : StepsRead} (is : a ≡ readSteps text
   pub replied : {n : ℕ} {st : Following} {r w : Replayed} → length (stepsOf text) ≡ n → a ≡ read.Steps n
       → StandsAfter c Replay n (stepsOf text) st → AnswersReplay c st r → r ≡ w → TextReplayReply c text (textAnswer w)
   replied {n} {st} {r} {w} l t s e told =
-      subst (λ (x : StepsRead). TextReplayAt c text x (textAnswer w)) (sym t ∙ is)
-      (w, subst (ReplayReply c (stepsOf text)) told (e (stepsOf text) (subst⁻¹ (λ (k : ℕ). StandsAfter c Replay k (stepsOf text) st) l s)), refl)
+      subst (λ (x : StepsRead). TextReplayAt c text x (textAnswer w)) (sym t ∙ is) (
+        w,
+        subst (ReplayReply c (stepsOf text)) told (e (stepsOf text) (subst⁻¹ (λ (k : ℕ). StandsAfter c Replay k (stepsOf text) st) l s)),
+        refl,
+      )
 
   -- a text that does not
   pub unread : {q : Refusal} → a ≡ read.Refused q → TextReplayReply c text (Unread q)

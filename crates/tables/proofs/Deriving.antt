@@ -22,7 +22,8 @@ use Rattle.tables.proofs.Tests.{total-none, gap, gap-none, given, holds
 unfoldable pub reasonTest : Grid → ℕ → ℕ → Reason → ℕ
 reasonTest g s b OwnUnit = 1 - bit (g .units) b
 reasonTest g s b (NeighbourOf p) = (1 - bit (g .units) p) + (1 - bit (g .neighbours p) b)
-reasonTest g s b (ZeroInjection w) = (1 - bit (g .zeros) w) + (1 - bit s w) + (1 - bit (g .neighbours w) b) + gap (size (lack (g .neighbours w) s)) 1
+reasonTest g s b (ZeroInjection w) =
+    (1 - bit (g .zeros) w) + (1 - bit s w) + (1 - bit (g .neighbours w) b) + gap (size (lack (g .neighbours w) s)) 1
 
 unfoldable pub allowedTest : Grid → ℕ → Step → ℕ
 allowedTest g s x = bit s (x .bus) + reasonTest g s (x .bus) (x .reason)
@@ -35,7 +36,8 @@ reason-passes g s b (ZeroInjection w) o e = record {
   class = omega arith;
   observed = omega arith;
   joined = omega arith;
-  others = others-in (g .neighbours w) s s b (gap-none (size (lack (g .neighbours w) s)) 1 (omega arith)) (λ a. omega arith) (omega arith) o;
+  others =
+      others-in (g .neighbours w) s s b (gap-none (size (lack (g .neighbours w) s)) 1 (omega arith)) (λ a. omega arith) (omega arith) o;
 }
 
 pub allowed-passes : (g : Grid) (s : ℕ) (x : Step) → allowedTest g s x ≡ 0 → Allowed g s x

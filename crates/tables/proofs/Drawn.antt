@@ -52,7 +52,10 @@ module _ (c : Case) (ok : validTest c ≡ 0) where
   to : (a b : ℕ) → In (neighbours (c .nbr) a) b → Bus (c .n) b
   unfolding rowTest
   to a zero h = absurd (omega (arith, row-bus (c .nbr) a))
-  to a (suc b) h = record { some = omega arith; most = let l = bit-in (suc (c .n)) (suc b) (omega (arith, row-ok a (suc b) h)) h in omega arith }
+  to a (suc b) h = record {
+    some = omega arith;
+    most = let l = bit-in (suc (c .n)) (suc b) (omega (arith, row-ok a (suc b) h)) h in omega arith;
+  }
 
   back : (a b : ℕ) → In (neighbours (c .nbr) a) b → In (neighbours (c .nbr) b) a
   unfolding rowTest

@@ -23,7 +23,8 @@ use Rattle.tables.proofs.Tests.{total-none, total-pass, gap, gap-none, 
 use Rattle.rules.proofs.Leasts.{least-unique}
 use Rattle.rules.proofs.Covering.{covers-full, full-covers}
 use Rattle.place_light.specs.Ways.{NoWay, FirstWay}
-use Rattle.place_light.proofs.Searching.{way-none, no-way-none, no-way-left, first-take, passed-lowest, passed-no, passed-first, NoFewer, no-fewer-none, no-fewer-more, first-fewest, no-addition}
+use Rattle.place_light.proofs.Searching.{way-none, no-way-none, no-way-left, first-take, passed-lowest, passed-no}
+use Rattle.place_light.proofs.Searching.{passed-first, NoFewer, no-fewer-none, no-fewer-more, first-fewest, no-addition}
 
 -- ---- what helps to compute
 
@@ -130,13 +131,19 @@ module _ (g : Grid) (v : Proper g) where
     where
       go : Confirm (g .neighbours) a b → bit (g .neighbours a) b + size (meet (g .neighbours a) (g .neighbours b)) ≡ 0 → ⊥
       go (joined j) z = omega arith
-      go (share x j k) z = omega (arith, size-some (meet (g .neighbours a) (g .neighbours b)) x (let m = meet-at (g .neighbours a) (g .neighbours b) x in omega arith))
+      go (share x j k) z =
+          omega (
+            arith,
+            size-some (meet (g .neighbours a) (g .neighbours b)) x
+                (let m = meet-at (g .neighbours a) (g .neighbours b) x in omega arith),
+          )
 
   alone-all : (b : ℕ) → Unconfirmed (g .neighbours) (g .units) b → total (g .n) (confirmTest g b) ≡ 0
   unfolding confirmTest gap
   alone-all b u = total-pass (g .n) (confirmTest g b)
       (λ a. given-none (bit (g .units) a) (given (gap a b) (bit (g .neighbours a) b + size (meet (g .neighbours a) (g .neighbours b))))
-      (λ h. given-none (gap a b) (bit (g .neighbours a) b + size (meet (g .neighbours a) (g .neighbours b))) (λ d. none a (omega arith) (λ e. omega arith))))
+      (λ h. given-none (gap a b) (bit (g .neighbours a) b + size (meet (g .neighbours a) (g .neighbours b)))
+      (λ d. none a (omega arith) (λ e. omega arith))))
     where
       none : (a : ℕ) → In (g .units) a → (a ≡ b → ⊥) → bit (g .neighbours a) b + size (meet (g .neighbours a) (g .neighbours b)) ≡ 0
       none a h ne =
@@ -174,7 +181,8 @@ module _ (g : Grid) (v : Proper g) where
 -- observed
 unfoldable pub noBetter : Grid → ℕ → ℕ → ℕ
 noBetter g most y =
-    given (bit (g .sites) y - bit (g .units) y) (seenTest (withUnits g (add (g .units) y)) + (size (seen (withUnits g (add (g .units) y))) - most))
+    given (bit (g .sites) y - bit (g .units) y)
+    (seenTest (withUnits g (add (g .units) y)) + (size (seen (withUnits g (add (g .units) y))) - most))
 
 -- x is the best site
 unfoldable pub bestTest : Grid → ℕ → ℕ
@@ -373,8 +381,10 @@ seek-right g free zero x (suc k) v w s l = no-way-left (empty-of (above x free) 
         ⊎-elim (λ (m : x < b). out-of (above x free) b (λ h. let bus = w b (sym (after-in x free b m) ∙ h) .most in omega arith))
         (λ (m : b ≤ x). after-out x free b m) (below-or x b)
 seek-right g free (suc f) x (suc k) v w s l =
-    seek-turn g free x k (bit free (suc x)) (seek (withUnits g (add (g .units) (suc x))) free f (suc x) k) (seek g free f (suc x) (suc k)) refl
-    (λ h. seek-right (withUnits g (add (g .units) (suc x))) free f (suc x) k (proper-with (suc x) v (omega (arith, s (suc x)))) w s (omega arith))
+    seek-turn g free x k (bit free (suc x)) (seek (withUnits g (add (g .units) (suc x))) free f (suc x) k)
+    (seek g free f (suc x) (suc k)) refl
+    (λ h. seek-right (withUnits g (add (g .units) (suc x))) free f (suc x) k (proper-with (suc x) v (omega (arith, s (suc x)))) w s
+    (omega arith))
     (seek-right g free f (suc x) (suc k) v w s (omega arith))
 
 -- ---- size after size

@@ -69,7 +69,8 @@ given-passes (suc d) x e h = h
 unfoldable pub holdsTest : Grid → ℕ → ℕ → Reason → ℕ
 holdsTest g s b OwnUnit = 1 - bit (g .units) b
 holdsTest g s b (NeighbourOf p) = (1 - bit (g .units) p) + (1 - bit (g .neighbours p) b)
-holdsTest g s b (ZeroInjection w) = (1 - bit (g .zeros) w) + (1 - bit s w) + (1 - bit (g .neighbours w) b) + subTest (g .n) (less (g .neighbours w) b) s
+holdsTest g s b (ZeroInjection w) =
+    (1 - bit (g .zeros) w) + (1 - bit s w) + (1 - bit (g .neighbours w) b) + subTest (g .n) (less (g .neighbours w) b) s
 
 holds-passes : (g : Grid) (s b : ℕ) → Proper g → (r : Reason) → holdsTest g s b r ≡ 0 → Holds g s b r
 unfolding holdsTest
@@ -103,7 +104,8 @@ holds-tests g s b v (ZeroInjection w) h =
     known : (a : ℕ) → bit (less (g .neighbours w) b) a - bit s a ≡ 0
     known a =
         ⊎-elim
-        (λ (e : a ≡ b). subst⁻¹ (λ (x : ℕ). bit (less (g .neighbours w) b) x - bit s x ≡ 0) e (omega (arith, less-here (g .neighbours w) b)))
+        (λ (e : a ≡ b). subst⁻¹ (λ (x : ℕ). bit (less (g .neighbours w) b) x - bit s x ≡ 0) e
+        (omega (arith, less-here (g .neighbours w) b)))
         (λ (ne : a ≡ b → ⊥). ⊎-elim
         (λ (p : In (g .neighbours w) a). omega (arith, h .others a p ne))
         (λ (p : Out (g .neighbours w) a). omega (arith, less-there (g .neighbours w) b a ne))

@@ -171,8 +171,18 @@ unfolding neighbours add setOf
 calls-right =
     demand-3 .weaves (drawnCase (seven (3 ∷ []))) weaving.desks weaving.sent
     (own 7 ∷ own 8 ∷ own 9 ∷ []) (own 3 ∷ near 2 3 ∷ own 9 ∷ []) (wove.Written 2 (setWord (2 ∷ 3 ∷ [])))
-    (record { valid = known .at3 .valid; alone = accepted; shuffled = shuffled; few = omega arith; room = omega arith })
-    ((known .at3 .valid, (omega arith, (named3, ((λ o. refl), (named23, ((λ o. record { unit = refl; joined = refl }), (named3, ((λ o. refl), (omega arith, tt))))))))), refl, refl, refl)
+    (record { valid = known .at3 .valid; alone = accepted; shuffled = shuffled; few = omega arith; room = omega arith }) (
+      (
+        known .at3 .valid,
+        (
+          omega arith,
+          (named3, ((λ o. refl), (named23, ((λ o. record { unit = refl; joined = refl }), (named3, ((λ o. refl), (omega arith, tt))))))),
+        ),
+      ),
+      refl,
+      refl,
+      refl,
+    )
     & (λ h. let e = h .answers in let z : _≡_ {A = ℕ} 0 1 = cc in omega arith)
     & (λ h. omega (arith, ap (λ (xs : List Step). getD xs 0 noStep .bus) (h .records)))
     & (λ h. let e = h .answers in let c : _≡_ {A = ℕ} 3 (h .count) = cc in omega (arith, c, h .counted))

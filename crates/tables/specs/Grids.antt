@@ -7,7 +7,8 @@ use lib.ListN.{replicate}
 use Rattle.busset.specs.Sets.{width}
 use Rattle.rules.specs.Grids.{Line, Proper, total, lineCount}
 use Rattle.grid.specs.declared.Case.{Case}
-use Rattle.grid.specs.Cases.{mostBuses, mostLines, mostSteps, mostBudget, mostGreedyBudget, neighbours, gridOf, LinesAt, Lines, Valid, mostBytes, mostStepBytes}
+use Rattle.grid.specs.Cases.{mostBuses, mostLines, mostSteps, mostBudget, mostGreedyBudget}
+use Rattle.grid.specs.Cases.{neighbours, gridOf, LinesAt, Lines, Valid, mostBytes, mostStepBytes}
 use Rattle.tables.specs.Starred.{drawnCase, seven, path}
 use Rattle.tables.specs.Tables.{Right, Row, holds, fails}
 use Rattle.tables.specs.Drawings.{set, value, sevenGrid, drawnGrid}

@@ -57,7 +57,14 @@ returns-3 : tie.Need-returns-3
 returns-3 c =
     let first = c .before .before in
     let ends = first .before .before in
-    rw (ends .before .before .r3 .given .1, c .both2 .ensures, c .before .is-less .ensures, first .both .ensures, is-bus-by (first .before .is-bus4 .ensures), is-bus-by (ends .is-bus3 .ensures)) refl
+    rw (
+      ends .before .before .r3 .given .1,
+      c .both2 .ensures,
+      c .before .is-less .ensures,
+      first .both .ensures,
+      is-bus-by (first .before .is-bus4 .ensures),
+      is-bus-by (ends .is-bus3 .ensures),
+    ) refl
 
 returns-4 : tie.Need-returns-4
 returns-4 c = rw (c .before .before .r4 .given .1) (is-bus-by (c .is-bus5 .ensures))

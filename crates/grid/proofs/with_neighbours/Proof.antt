@@ -51,7 +51,8 @@ union-requires-2 c κs = search needs
 returns : tie.Need-returns Inv-loop μ-loop
 returns c =
     let last = c .before in
-    gathered-all (last .before .before .loop .inv) (last .before .is-none .ensures .yes (not-false _ (last .if1 .left))) (c .union2 .ensures)
+    gathered-all (last .before .before .loop .inv) (last .before .is-none .ensures .yes (not-false _ (last .if1 .left)))
+    (c .union2 .ensures)
 
 pub with-neighbours-spec : {M : Type 1} → statement M
 with-neighbours-spec =

@@ -14,7 +14,8 @@ is-subset-requires c κs = search needs
 
 returns : tie.Need-returns
 returns c =
-    finished-unless-started (c .before .before .with-neighbours .ensures) (refutes (c .before .is-subset .ensures) (not-true _ (c .if1 .taken)))
+    finished-unless-started (c .before .before .with-neighbours .ensures)
+    (refutes (c .before .is-subset .ensures) (not-true _ (c .if1 .taken)))
 
 sweep-requires : tie.Need-sweep-requires
 sweep-requires c κs = search needs
@@ -26,7 +27,8 @@ returns-2 : tie.Need-returns-2
 returns-2 c =
     let swept = c .before in
     let first = swept .before .before in
-    finished-test (first .before .before .with-neighbours .ensures) (first .before .is-subset .ensures .yes (not-false _ (first .if1 .left)))
+    finished-test (first .before .before .with-neighbours .ensures)
+    (first .before .is-subset .ensures .yes (not-false _ (first .if1 .left)))
     (swept .sweep .ensures) (c .same .ensures)
 
 pub is-finished-spec : {M : Type 1} → statement M

@@ -28,7 +28,8 @@ returns : tie.Need-returns
 returns c =
     let near = c .before .before .before in
     let start = near .before .before in
-    unconfirmed-test (start .pre .0) (start .pre .1) (near .before .row .ensures) (near .with-neighbours .ensures) (c .before .before .without .ensures) (c .before .both .ensures) (c .is-none .ensures)
+    unconfirmed-test (start .pre .0) (start .pre .1) (near .before .row .ensures) (near .with-neighbours .ensures)
+    (c .before .before .without .ensures) (c .before .both .ensures) (c .is-none .ensures)
 
 pub is-unconfirmed-spec : {M : Type 1} → statement M
 is-unconfirmed-spec =

@@ -16,7 +16,8 @@ spread-requires : tie.Need-spread-requires
 spread-requires c κs = search needs
 
 returns : tie.Need-returns
-returns c = lit-by (c .before .before .before .row .ensures) (c .before .before .with .ensures) (c .before .union .ensures) (c .spread .ensures)
+returns c =
+    lit-by (c .before .before .before .row .ensures) (c .before .before .with .ensures) (c .before .union .ensures) (c .spread .ensures)
 
 pub lit-spec : {M : Type 1} → statement M
 lit-spec = tie.close (tie.spec row-requires with-requires union-requires spread-requires returns)

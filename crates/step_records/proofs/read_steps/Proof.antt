@@ -371,9 +371,11 @@ read-steps-spec 𝓤 H 𝓜 𝓖 𝓡 =
     entered 𝓤 H (tripleOf 𝓤 H (𝓖 .A) f.signature (f.spec 𝓤 H (𝓖 .A) (𝓜 .mem) (𝓡 .run)))
     (tables 𝓤 H 𝓜 𝓡 code.env .C) (tables 𝓤 H 𝓜 𝓡 code.env .Λ) #step_records·read-steps code.function (code.unfolded 𝓤 H 𝓜 𝓡)
     (meets 𝓤 H (𝓖 .A) (givenOf 𝓤 H 𝓜 𝓖) (𝓜 .mem) (𝓡 .run) (tablesOf 𝓤 H 𝓜 (tables 𝓤 H 𝓜 𝓡 code.env))
-    (cited 𝓤 H (CheckRoom 𝓤 H (𝓖 .A) (𝓜 .mem) (𝓡 .run)) 𝓜 𝓡 code.env #taking·check-room check-room-def.routine code.calls-step-text·taking·check-room
+    (cited 𝓤 H (CheckRoom 𝓤 H (𝓖 .A) (𝓜 .mem) (𝓡 .run)) 𝓜 𝓡 code.env #taking·check-room check-room-def.routine
+    code.calls-step-text·taking·check-room
     (check-room-thm.met 𝓤 H 𝓜 𝓖 𝓡))
-    (cited 𝓤 H (CountOf 𝓤 H (𝓖 .A) (𝓜 .mem) (𝓡 .run)) 𝓜 𝓡 code.env #taking·count-of count-of-def.routine code.calls-step-text·taking·count-of
+    (cited 𝓤 H (CountOf 𝓤 H (𝓖 .A) (𝓜 .mem) (𝓡 .run)) 𝓜 𝓡 code.env #taking·count-of count-of-def.routine
+    code.calls-step-text·taking·count-of
     (count-of-thm.met 𝓤 H 𝓜 𝓖 𝓡))
     (cited 𝓤 H (Take 𝓤 H (𝓖 .A) (𝓜 .mem) (𝓡 .run)) 𝓜 𝓡 code.env #taking·take take-def.routine code.calls-step-text·taking·take
     (take-thm.met 𝓤 H 𝓜 𝓖 𝓡)))

@@ -41,8 +41,12 @@ loop-less c = search needs
 
 loop-again : tie.Need-loop-again Inv-loop μ-loop
 loop-again c =
-    let row = c .before .before in
-    (search needs, refl, summed-more (row .before .before .loop .inv .2) (row .row .ensures) (c .before .up-to .ensures) (c .count .ensures .is) (c .count .ensures .most))
+    let row = c .before .before in (
+      search needs,
+      refl,
+      summed-more (row .before .before .loop .inv .2) (row .row .ensures) (c .before .up-to .ensures)
+          (c .count .ensures .is) (c .count .ensures .most),
+    )
 
 returns : tie.Need-returns Inv-loop μ-loop
 returns c =
@@ -51,4 +55,6 @@ returns c =
     inv .2 .is ∙ ap (λ (k : ℕ). lineCount k (neighbours (c .before .before .args .nbr .now))) e
 
 pub count-lines-spec : {M : Type 1} → statement M
-count-lines-spec = tie.close (tie.spec Inv-loop μ-loop add-b-end loop-holds row-requires up-to-requires count-requires add-sum add-b loop-less loop-again returns)
+count-lines-spec =
+    tie.close (tie.spec Inv-loop μ-loop add-b-end loop-holds row-requires up-to-requires count-requires add-sum add-b
+    loop-less loop-again returns)

@@ -33,7 +33,8 @@ is-line-requires c κs = search needs
 returns : tie.Need-returns Inv-loop μ-loop
 returns c =
     let low = c .before .before in
-    decides-no (checked-fails (low .before .before .before .loop .inv) (low .lowest .ensures .has) (refutes (c .before .is-line .ensures) (not-true _ (c .if2 .taken))))
+    decides-no (checked-fails (low .before .before .before .loop .inv) (low .lowest .ensures .has)
+    (refutes (c .before .is-line .ensures) (not-true _ (c .if2 .taken))))
 
 without-requires : tie.Need-without-requires Inv-loop μ-loop
 without-requires c κs = search needs
@@ -50,4 +51,6 @@ returns-2 : tie.Need-returns-2 Inv-loop μ-loop
 returns-2 c = decides-yes (checked-all (c .before .before .loop .inv) (c .before .is-none .ensures .yes (not-false _ (c .if1 .left))))
 
 pub has-lines-spec : {M : Type 1} → statement M
-has-lines-spec = tie.close (tie.spec Inv-loop μ-loop row-requires loop-holds is-none-requires lowest-requires is-line-requires returns without-requires loop-less loop-again returns-2)
+has-lines-spec =
+    tie.close (tie.spec Inv-loop μ-loop row-requires loop-holds is-none-requires lowest-requires is-line-requires returns without-requires
+    loop-less loop-again returns-2)

@@ -52,4 +52,6 @@ returns-7 c =
     (lines .all-lines .ensures .yes (not-false _ (c .before .before .if6 .left))) (c .count-lines .ensures) (decides-le _ _)
 
 pub is-valid-spec : {M : Type 1} → statement M
-is-valid-spec = tie.close (tie.spec returns returns-2 is-within-requires returns-3 is-within-requires-2 returns-4 is-within-requires-3 returns-5 all-lines-requires returns-6 count-lines-requires returns-7)
+is-valid-spec =
+    tie.close (tie.spec returns returns-2 is-within-requires returns-3 is-within-requires-2 returns-4 is-within-requires-3 returns-5
+    all-lines-requires returns-6 count-lines-requires returns-7)

@@ -43,4 +43,6 @@ returns : tie.Need-returns Inv-loop μ-loop
 returns c = tallied-all (c .before .before .loop .inv) (c .before .is-none .ensures .yes (not-false _ (c .if1 .left)))
 
 pub count-unknown-spec : {M : Type 1} → statement M
-count-unknown-spec = tie.close (tie.spec Inv-loop μ-loop minus-requires loop-holds is-none-requires lowest-requires without-requires add-unknown loop-less loop-again returns)
+count-unknown-spec =
+    tie.close (tie.spec Inv-loop μ-loop minus-requires loop-holds is-none-requires lowest-requires without-requires add-unknown
+    loop-less loop-again returns)

@@ -27,7 +27,8 @@ same-requires : tie.Need-same-requires Inv-loop μ-loop
 same-requires c κs = search needs
 
 returns : tie.Need-returns Inv-loop μ-loop
-returns c = spreading-all (c .before .before .before .loop .inv) (c .before .before .sweep .ensures) (c .before .same .ensures .yes (c .if1 .taken))
+returns c =
+    spreading-all (c .before .before .before .loop .inv) (c .before .before .sweep .ensures) (c .before .same .ensures .yes (c .if1 .taken))
 
 loop-less : tie.Need-loop-less Inv-loop μ-loop
 loop-less c =

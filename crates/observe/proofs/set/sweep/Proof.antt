@@ -42,10 +42,13 @@ loop-less c = omega (arith, c .without .ensures .fewer (c .before .before .befor
 loop-again : tie.Need-loop-again Inv-loop μ-loop
 loop-again c =
     let low = c .before .before .before in
-    sweeping-more (low .before .before .before .loop .inv) (low .lowest .ensures .has) (c .before .before .row .ensures) (c .before .fire .ensures) (c .without .ensures)
+    sweeping-more (low .before .before .before .loop .inv) (low .lowest .ensures .has) (c .before .before .row .ensures)
+    (c .before .fire .ensures) (c .without .ensures)
 
 returns : tie.Need-returns Inv-loop μ-loop
 returns c = sweeping-all (c .before .before .loop .inv) (c .before .is-none .ensures .yes (not-false _ (c .if1 .left)))
 
 pub sweep-spec : {M : Type 1} → statement M
-sweep-spec = tie.close (tie.spec Inv-loop μ-loop both-requires loop-holds is-none-requires lowest-requires row-requires fire-requires without-requires loop-less loop-again returns)
+sweep-spec =
+    tie.close (tie.spec Inv-loop μ-loop both-requires loop-holds is-none-requires lowest-requires row-requires fire-requires
+    without-requires loop-less loop-again returns)

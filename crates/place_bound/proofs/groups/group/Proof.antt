@@ -20,7 +20,8 @@ returns : tie.Need-returns
 returns c =
     let dark = c .before .before in
     let start = dark .before .before in
-    group-by (start .pre .1) (dark .before .all .ensures) (dark .minus .ensures) (c .before .with-neighbours .ensures) (c .both .ensures) (start .pre .2)
+    group-by (start .pre .1) (dark .before .all .ensures) (dark .minus .ensures) (c .before .with-neighbours .ensures)
+    (c .both .ensures) (start .pre .2)
 
 pub group-spec : {M : Type 1} → statement M
 group-spec = tie.close (tie.spec all-requires minus-requires with-neighbours-requires both-requires returns)
