@@ -1,4 +1,4 @@
-// Replay and weaving over lent records.
+// The calls on lists of steps: the derivation; replay and weaving over lent records.
 ghost use Rattle.list_follow.specs.Following.{Follows};
 ghost use Rattle.list_follow.specs.Replies.{ReplayReply, WeaveReply, PutSteps};
 use grid::Case;
@@ -13,6 +13,9 @@ use list_follow::ended;
 use list_follow::settled;
 use list_value::nth;
 use step::Step;
+
+// passed on from the crate of its subject
+pub use list_derive::derivation;
 
 // Follows the steps in their order.
 pub fn follow(case: Case, from: Following, steps: &[Step]) -> Following

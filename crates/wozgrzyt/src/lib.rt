@@ -16,11 +16,11 @@ pub use observe_calls::observed_set;
 pub use observe_calls::test_step;
 
 // lists: the derivation, replay and weaving
+pub use list_calls::derivation;
 pub use list_calls::replay;
 pub use list_calls::weave;
 pub use list_derive::DerivationAnswer;
 pub use list_derive::Derived;
-pub use list_derive::derivation;
 pub use list_follow::Replayed;
 pub use list_follow::Wove;
 pub use list_value::StepList;
