@@ -23,7 +23,7 @@ use Rattle.report_day.specs.Day.{DayPrinted}
 use Rattle.report_plan.specs.Plan.{PlanPrinted}
 use Rattle.observe_calls.specs.declared.Observed.{Observed}
 use Rattle.observe_calls.specs.declared.Figured.{Figured}
-use Rattle.observe_calls.specs.declared.Tested.{Tested}
+use Rattle.observe.specs.declared.test.Tested.{Tested}
 use Rattle.list_derive.specs.declared.Derived.{Derived}
 use Rattle.place_calls.specs.declared.Verdict.{Verdict}
 use Rattle.place_calls.specs.declared.Greedy.{Greedy}

@@ -4,7 +4,7 @@ use Rattle.step.specs.declared.Step.{Step}
 use Rattle.grid.specs.declared.Case.{Case}
 use Rattle.observe_calls.specs.declared.Observed.{Observed}
 use Rattle.observe_calls.specs.declared.Figured.{Figured}
-use Rattle.observe_calls.specs.declared.Tested.{Tested}
+use Rattle.observe.specs.declared.test.Tested.{Tested}
 use Rattle.observe_calls.specs.Replies.{ObservedReply, FigureReply, StepReply}
 use Rattle.observe_calls.proofs.observed_set.Reads as observed-set
 use Rattle.observe_calls.proofs.firing_figure.Reads as firing-figure
