@@ -47,7 +47,7 @@ weaves c desks received before after (wove.Refused q) i p =
     names : Each (Names (c .n)) received
     names = shuffle-each (Names (c .n)) (i .shuffled) (each-names c (i .valid .proper) desks (i .alone))
 
-    steps : Passed (checksFrom Weave c 1 empty received last)
+    steps : Passed (checksFrom Weave c 1 empty received ++ last)
     steps = weavable-checks c 1 empty received last names (w .weavable) (i .room, tt)
 weaves c desks received before after (wove.Written count s) i p = record {
   count = count;
