@@ -68,16 +68,21 @@ fn answer(r: Written, out: &[u8]) {
     }
 }
 
-// Into the first `room` of bytes that are filled with #; what is written is printed after its line.
-pub fn try_room(name: &[u8], call: Call, input: &[u8], room: usize) {
-    let mut out: Room = [b'#'; 16400];
-    if 16400 < room {
+// Into the first `room` of the bytes; what is written is printed after its line.
+fn into_first(call: Call, input: &[u8], out: &mut [u8], room: usize) {
+    if out.len() < room {
         return;
     }
+    let r = asked(call, input, &mut out[0..room]);
+    answer(r, out);
+}
+
+// Into the first `room` of bytes that are filled with #.
+pub fn try_room(name: &[u8], call: Call, input: &[u8], room: usize) {
+    let mut out: Room = [b'#'; 16400];
     text(name);
     text(b" into");
     shown::spaced(room);
     text(b":");
-    let r = asked(call, input, &mut out[0..room]);
-    answer(r, &out);
+    into_first(call, input, &mut out, room);
 }
