@@ -19,7 +19,7 @@ use Rattle.case_line.specs.CaseText.{has, members, lineRecords}
 use Rattle.grid.specs.declared.Case.{Case}
 use Rattle.case_judge.specs.declared.Judgement.the-variants.{Next}
 use Rattle.case_judge.proofs.Judged.{fit-of}
-use Rattle.case_inverse.proofs.Places.{Pair, Ask, AskInRange, place, recordPlace, answer, joined, unchanged}
+use Rattle.case_inverse.proofs.Places.{linePlace, Pair, Ask, AskInRange, place, recordPlace, answer, joined, unchanged}
 use Rattle.case_inverse.proofs.Places.Ask.{lineAt}
 use Rattle.case_inverse.proofs.Unique.{Stand, Stepped, stepped, Settled, settled}
 use Rattle.case_inverse.proofs.Texts.{begun, first-stand}
@@ -40,13 +40,13 @@ abbrev From : Case → ℕ → List Record → Type 0
 From c w L = (p : ℕ) → p < w → Rising c p L
 
 row-turn : (c : Case) (a b : ℕ) (L : List Record) (t : Bool) → has (neighbours (c .nbr) a) b ≡ t → Pair a b
-    → From c (1000 + (a * 128 + (b + 1))) L
-    → From c (1000 + (a * 128 + b)) (cond t (Line a b ∷ L) L)
-row-turn c a b L true e y f p l = (y, l, eqb-true _ 1 e, f (1000 + (a * 128 + b)) (omega arith))
+    → From c (linePlace a (b + 1)) L
+    → From c (linePlace a b) (cond t (Line a b ∷ L) L)
+row-turn c a b L true e y f p l = (y, l, eqb-true _ 1 e, f (linePlace a b) (omega arith))
 row-turn c a b L false e y f p l = f p (omega arith)
 
-row-from : (c : Case) (a m b : ℕ) (L : List Record) → 1 ≤ a → a < b → b + m ≤ 65 → From c (1000 + ((a + 1) * 128)) L
-    → From c (1000 + (a * 128 + b)) (members (Line a) (neighbours (c .nbr) a) b m ++ L)
+row-from : (c : Case) (a m b : ℕ) (L : List Record) → 1 ≤ a → a < b → b + m ≤ 65 → From c (linePlace (a + 1) 0) L
+    → From c (linePlace a b) (members (Line a) (neighbours (c .nbr) a) b m ++ L)
 unfolding members
 row-from c a zero b L h l k f = λ p q. f p (omega arith)
 row-from c a (suc m) b L h l k f =
@@ -56,7 +56,7 @@ row-from c a (suc m) b L h l k f =
     (row-turn c a b (M ++ L) t refl (record { one = h; less = l; high = omega arith })
     (row-from c a m (b + 1) L h (omega arith) (omega arith) f))
 
-lines-from : (c : Case) (m a : ℕ) → 1 ≤ a → a + m ≤ 65 → From c (1000 + a * 128) (lineRecords (neighbours (c .nbr)) a m)
+lines-from : (c : Case) (m a : ℕ) → 1 ≤ a → a + m ≤ 65 → From c (linePlace a 0) (lineRecords (neighbours (c .nbr)) a m)
 unfolding lineRecords
 lines-from c zero a h k p q = tt
 lines-from c (suc m) a h k p q =

@@ -1,4 +1,12 @@
 -- Where a reader stands: each record answers the questions at its own place, and places rise.
+-- A case is a bundle of answers to yes-or-no questions: is bus k of class Z, is it a site, has it a unit, are i and j joined.
+-- Each question has a place, and a record answers the questions at its own place: `bus k` at k, `line a b` after all buses,
+-- by a and then by b, and `pmu p` after all lines. The numbers only keep these three ranges apart, at 64 buses.
+-- The order of records in a text is the order of their places. So a reader that has read up to a place knows all answers
+-- below it, and a record that it passes over answers no.
+-- From this the two directions follow. What is written is read: the writer goes through the places in order, and the reader
+-- accepts each record because its place rises. What is read is written: the case that is read fixes the answer at each
+-- place, so the next record of any text that gives this case is fixed too, and with it the text.
 use mathlib.Core.Path.{_≡_, refl, sym, ap, _∙_, subst⁻¹}
 use mathlib.Core.Bool.{Bool, true, false, _&&_, _||_}
 use mathlib.Core.List.{List}
@@ -59,6 +67,18 @@ module _ (rows : List ℕ) (a b : ℕ) (h : 1 ≤ a) (k : 1 ≤ b) (l : a ≤ le
       (λ (d : i ≡ a → ⊥). ap (λ (s : ℕ). bit s j) (row-other rows a (hold (getD rows (a - 1) 0) b) h i d))
       (same-or i a)
 
+-- the number of the line from i to j: rising by i, and then by j
+abbrev pub lineNumber : ℕ → ℕ → ℕ
+lineNumber i j = i * 128 + j
+
+-- its place, after all buses
+abbrev pub linePlace : ℕ → ℕ → ℕ
+linePlace i j = 1000 + lineNumber i j
+
+-- the place of the unit at k, after all lines
+abbrev pub unitPlace : ℕ → ℕ
+unitPlace k = 10000 + k
+
 -- a and b are two buses, a the lower
 pub record Pair (a b : ℕ) : Type 0 where
   pub one : 1 ≤ a
@@ -82,7 +102,7 @@ module _ (rows : List ℕ) (a b : ℕ) (l : length rows ≡ 64) (p : Pair a b) w
       end-there (withEnd rows a b) b a (omega arith) (omega arith) second-in i j m
       ∙ end-there rows a b (p .one) (omega arith) (omega arith) i j n
 
-  line-there : (i j : ℕ) → Pair i j → (i * 128 + j ≡ a * 128 + b → ⊥) → joined (withLine rows a b) i j ≡ joined rows i j
+  line-there : (i j : ℕ) → Pair i j → (lineNumber i j ≡ lineNumber a b → ⊥) → joined (withLine rows a b) i j ≡ joined rows i j
   line-there i j q n = line-other i j (λ e f. n (omega arith)) (λ e f. omega arith)
 
 -- ---- questions and places
@@ -108,14 +128,14 @@ AskInRange (lineAt i j) = Pair i j
 abbrev pub place : Ask → ℕ
 place (zeroAt k) = k
 place (siteAt k) = k
-place (unitAt k) = 10000 + k
-place (lineAt i j) = 1000 + (i * 128 + j)
+place (unitAt k) = unitPlace k
+place (lineAt i j) = linePlace i j
 
 abbrev pub recordPlace : Record → ℕ
 recordPlace (Grid n) = 0
 recordPlace (Bus k z o) = k
-recordPlace (Line a b) = 1000 + (a * 128 + b)
-recordPlace (Pmu p) = 10000 + p
+recordPlace (Line a b) = linePlace a b
+recordPlace (Pmu p) = unitPlace p
 recordPlace End = 0
 recordPlace Wrong = 0
 
@@ -130,7 +150,7 @@ pub record NextLine (s : Place) (a b : ℕ) : Type 0 where
   pub past : s .n ≤ s .bus
   pub none : s .unit ≡ 0
   pub pair : Pair a b
-  pub rises : s .a * 128 + s .b < a * 128 + b
+  pub rises : lineNumber (s .a) (s .b) < lineNumber a b
 
 pub record NextUnit (s : Place) (p : ℕ) : Type 0 where
   pub past : s .n ≤ s .bus
@@ -149,11 +169,11 @@ pub past-buses : (s : Place) → pastBuses s ≡ true → s .n ≤ s .bus
 unfolding pastBuses
 past-buses s e = let p = both (ltb 0 (s .n)) (leb (s .n) (s .bus)) e in leb-true (s .n) (s .bus) (p .1)
 
-risen : (a b c d : ℕ) → b ≤ 64 → isAfter a b c d ≡ true → a * 128 + b < c * 128 + d
+risen : (a b c d : ℕ) → b ≤ 64 → isAfter a b c d ≡ true → lineNumber a b < lineNumber c d
 unfolding isAfter
 risen a b c d h e = go (ltb a c) refl e
   where
-    go : (t : Bool) → ltb a c ≡ t → (t || (eqb a c && ltb b d)) ≡ true → a * 128 + b < c * 128 + d
+    go : (t : Bool) → ltb a c ≡ t → (t || (eqb a c && ltb b d)) ≡ true → lineNumber a b < lineNumber c d
     go true f e = omega (arith, ltb-true a c f)
     go false f e = let p = both (eqb a c) (ltb b d) e in omega (arith, eqb-true a c (p .0), ltb-true b d (p .1))
 
@@ -194,8 +214,8 @@ pub record At (s : Reader) (p : ℕ) : Type 0 where
   pub low : s .place .b ≤ 64
   pub rows : length (s .rows) ≡ 64
   pub to-bus : s .place .bus < s .place .n → p ≤ s .place .bus
-  pub to-line : s .place .unit ≡ 0 → p ≤ 1000 + (s .place .a * 128 + s .place .b)
-  pub to-unit : p ≤ 10000 + s .place .unit
+  pub to-line : s .place .unit ≡ 0 → p ≤ linePlace (s .place .a) (s .place .b)
+  pub to-unit : p ≤ unitPlace (s .place .unit)
   pub fresh : (q : Ask) → AskInRange q → p < place q → answer (caseSoFar s) q ≡ 0
 
 -- a record is beyond where the reader stands

@@ -1,4 +1,4 @@
--- CaseRead, from the first line.
+-- Reading a whole text is reading it from its first line.
 use mathlib.Core.Path.{_≡_, refl, sym, ap, _∙_, subst}
 use mathlib.Core.Bool.{Bool, true, false, cond}
 use mathlib.Core.List.{List, _∷_, _++_}

@@ -1,4 +1,4 @@
--- CaseRead what is written.
+-- What is written is read: the writer goes through the places in order, and the reader accepts each record.
 use mathlib.Core.Path.{_≡_, refl, sym, ap, ap₂, _∙_, subst}
 use mathlib.Core.Bool.{Bool, true, false, cond}
 use mathlib.Core.List.{List, [], _∷_, _++_}
@@ -23,7 +23,8 @@ use Rattle.case_line.specs.CaseText.{has, busRecord, busRecords, members, lineR
 use Rattle.grid.specs.declared.Case.{Case}
 use Rattle.case_judge.specs.declared.Judgement.the-variants.{Next}
 use Rattle.case_judge.proofs.Judged.{accept}
-use Rattle.case_inverse.proofs.Places.{Pair, Ask, AskInRange, place, recordPlace, joined, answer, unchanged, line-here}
+use Rattle.case_inverse.proofs.Places.{lineNumber, linePlace, unitPlace, Pair, Ask, AskInRange}
+use Rattle.case_inverse.proofs.Places.{place, recordPlace, joined, answer, unchanged, line-here}
 use Rattle.case_inverse.proofs.Places.Ask.{zeroAt, siteAt, unitAt, lineAt}
 use Rattle.case_inverse.proofs.Unique.{Stand, stepped}
 use Rattle.case_inverse.proofs.Texts.{first-stand}
@@ -89,13 +90,13 @@ read-on : {c : Case} {s : Reader} (r : Record) {rs : List Record} → judged (s 
 unfolding linesText
 read-on r e t = record { case′ = t .case′; reads = goes r e (t .reads); size = t .size; agree = t .agree }
 
-all-below : (q : Ask) → AskInRange q → place q < 10065
+all-below : (q : Ask) → AskInRange q → place q < unitPlace 65
 all-below (zeroAt k) h = omega (arith, h .most)
 all-below (siteAt k) h = omega (arith, h .most)
 all-below (unitAt k) h = omega (arith, h .most)
 all-below (lineAt i j) h = omega (arith, h .less, h .high)
 
-read-end : {c : Case} {s : Reader} {p : ℕ} → Upto c s p 10065 → s .place .n ≤ s .place .bus → Readable c s (End ∷ [])
+read-end : {c : Case} {s : Reader} {p : ℕ} → Upto c s p (unitPlace 65) → s .place .n ≤ s .place .bus → Readable c s (End ∷ [])
 unfolding linesText
 read-end {c} {s} u l =
     record {
@@ -165,7 +166,7 @@ read-buses c rs (suc m) k s p u b l z on =
     (record { unit = z .unit; a = z .a; b = z .b; lines = z .lines }) on)
 
 -- the answer at a unit's place is whether it stands there
-unit-answer : (c : Case) (s : Reader) (k : ℕ) → has (setOf (c .units)) k ≡ true → 1 ≤ k → (q : Ask) → AskInRange q → place q ≡ 10000 + k →
+unit-answer : (c : Case) (s : Reader) (k : ℕ) → has (setOf (c .units)) k ≡ true → 1 ≤ k → (q : Ask) → AskInRange q → place q ≡ unitPlace k →
     answer c q ≡ answer (caseSoFar (nextReader s (Pmu k))) q
 unit-answer c s k t a (zeroAt j) h e = let m = h .most in absurd (omega arith)
 unit-answer c s k t a (siteAt j) h e = let m = h .most in absurd (omega arith)
@@ -175,7 +176,8 @@ unit-answer c s k t a (unitAt j) h e =
     ∙ ap (λ (x : ℕ). bit (setOf (hold (s .marks .units) k)) x) (sym f)
 unit-answer c s k t a (lineAt i j) h e = absurd (omega (arith, h .less, h .high))
 
-unit-none : (c : Case) (k : ℕ) → has (setOf (c .units)) k ≡ false → (q : Ask) → AskInRange q → 10000 + k ≤ place q → place q < 10000 + k + 1
+unit-none : (c : Case) (k : ℕ) → has (setOf (c .units)) k ≡ false → (q : Ask) → AskInRange q → unitPlace k ≤ place q
+    → place q < unitPlace k + 1
     → answer c q ≡ 0
 unit-none c k t (zeroAt j) h a b = let m = h .most in absurd (omega arith)
 unit-none c k t (siteAt j) h a b = let m = h .most in absurd (omega arith)
@@ -184,33 +186,34 @@ unit-none c k t (unitAt j) h a b =
     ap (λ (x : ℕ). bit (setOf (c .units)) x) f ∙ omega (arith, eqb-false (bit (setOf (c .units)) k) 1 t)
 unit-none c k t (lineAt i j) h a b = absurd (omega (arith, h .less, h .high))
 
-unit-turn : (c : Case) (rs : List Record) (m k : ℕ) (s : Reader) (p : ℕ) (t : Bool) → has (setOf (c .units)) k ≡ t → Upto c s p (10000 + k)
+unit-turn : (c : Case) (rs : List Record) (m k : ℕ) (s : Reader) (p : ℕ) (t : Bool) → has (setOf (c .units)) k ≡ t
+    → Upto c s p (unitPlace k)
     → s .place .n ≤ s .place .bus → s .place .unit < k → 1 ≤ k → k ≤ s .place .n
-    → ((v : Reader) (o : ℕ) → Upto c v o (10000 + k + 1) → v .place .n ≤ v .place .bus → v .place .unit < k + 1
+    → ((v : Reader) (o : ℕ) → Upto c v o (unitPlace k + 1) → v .place .n ≤ v .place .bus → v .place .unit < k + 1
     → Readable c v (members Pmu (setOf (c .units)) (k + 1) m ++ rs))
     → Readable c s (cond t (Pmu k ∷ members Pmu (setOf (c .units)) (k + 1) m) (members Pmu (setOf (c .units)) (k + 1) m) ++ rs)
 unit-turn c rs m k s p true t u l z h i on =
     let e = accept (s .place) (Pmu k) (past-is (s .place) (u .stand .grid) l) (inside (s .place .n) k h i) (lt-ltb (s .place .unit) k z) in
-    read-on (Pmu k) e (on (nextReader s (Pmu k)) (10000 + k) (take-next (Pmu k) u e refl (unit-answer c s k t h)) l (omega arith))
-unit-turn c rs m k s p false t u l z h i on = on s p (skip (10000 + k + 1) (omega arith) u (unit-none c k t)) l (omega arith)
+    read-on (Pmu k) e (on (nextReader s (Pmu k)) (unitPlace k) (take-next (Pmu k) u e refl (unit-answer c s k t h)) l (omega arith))
+unit-turn c rs m k s p false t u l z h i on = on s p (skip (unitPlace k + 1) (omega arith) u (unit-none c k t)) l (omega arith)
 
-pub read-units : (c : Case) (rs : List Record) (m k : ℕ) (s : Reader) (p : ℕ) → Upto c s p (10000 + k) → s .place .n ≤ s .place .bus
+pub read-units : (c : Case) (rs : List Record) (m k : ℕ) (s : Reader) (p : ℕ) → Upto c s p (unitPlace k) → s .place .n ≤ s .place .bus
     → s .place .unit < k → 1 ≤ k → k + m ≡ c .n + 1
-    → ((t : Reader) (o : ℕ) → Upto c t o (10000 + (c .n + 1)) → t .place .n ≤ t .place .bus → Readable c t rs)
+    → ((t : Reader) (o : ℕ) → Upto c t o (unitPlace (c .n + 1)) → t .place .n ≤ t .place .bus → Readable c t rs)
     → Readable c s (members Pmu (setOf (c .units)) k m ++ rs)
 unfolding members
 read-units c rs zero k s p u l z h e on =
-    let f : 10000 + k ≡ 10000 + (c .n + 1) = omega arith in
+    let f : unitPlace k ≡ unitPlace (c .n + 1) = omega arith in
     on s p (subst (λ (w : ℕ). Upto c s p w) f u) l
 read-units c rs (suc m) k s p u l z h e on =
     let n = u .size in
     unit-turn c rs m k s p (has (setOf (c .units)) k) refl u l z h (omega arith)
-    (λ v o w l′ z′. let f : 10000 + k + 1 ≡ 10000 + (k + 1) = omega arith in
+    (λ v o w l′ z′. let f : unitPlace k + 1 ≡ unitPlace (k + 1) = omega arith in
     read-units c rs m (k + 1) v o (subst (λ (x : ℕ). Upto c v o x) f w) l′ z′ (omega arith) (omega arith) on)
 
 -- ---- lines
 
-above-is : (a b c d : ℕ) → b ≤ 64 → d ≤ 64 → a * 128 + b < c * 128 + d → isAfter a b c d ≡ true
+above-is : (a b c d : ℕ) → b ≤ 64 → d ≤ 64 → lineNumber a b < lineNumber c d → isAfter a b c d ≡ true
 unfolding isAfter
 above-is a b c d h k l =
     ⊎-elim
@@ -219,7 +222,7 @@ above-is a b c d h k l =
     (below-or a c)
 
 line-answer : (c : Case) (s : Reader) (a b : ℕ) → length (s .rows) ≡ 64 → Pair a b → has (neighbours (c .nbr) a) b ≡ true → (q : Ask)
-    → AskInRange q → place q ≡ 1000 + (a * 128 + b)
+    → AskInRange q → place q ≡ linePlace a b
     → answer c q ≡ answer (caseSoFar (nextReader s (Line a b))) q
 line-answer c s a b l y t (zeroAt j) h e = absurd (omega (arith, y .one))
 line-answer c s a b l y t (siteAt j) h e = absurd (omega (arith, y .one))
@@ -233,8 +236,8 @@ line-answer c s a b l y t (lineAt i j) h e =
     ∙ ap₂ (λ (x z : ℕ). joined (nextReader s (Line a b) .rows) x z) (sym f) (sym g)
 
 line-none : (c : Case) (a b : ℕ) → Pair a b → has (neighbours (c .nbr) a) b ≡ false → (q : Ask) → AskInRange q
-    → 1000 + (a * 128 + b) ≤ place q
-    → place q < 1000 + (a * 128 + (b + 1)) → answer c q ≡ 0
+    → linePlace a b ≤ place q
+    → place q < linePlace a (b + 1) → answer c q ≡ 0
 line-none c a b y t (zeroAt j) h k l = let m = h .most in absurd (omega arith)
 line-none c a b y t (siteAt j) h k l = let m = h .most in absurd (omega arith)
 line-none c a b y t (unitAt j) h k l = absurd (omega (arith, y .less, y .high))
@@ -247,10 +250,10 @@ line-none c a b y t (lineAt i j) h k l =
 
 -- past the buses and before the units, below the line a b, with room for so many lines
 pub record Lining (c : Case) (s : Reader) (p a b left : ℕ) : Type 0 where
-  pub upto : Upto c s p (1000 + (a * 128 + b))
+  pub upto : Upto c s p (linePlace a b)
   pub past : s .place .n ≤ s .place .bus
   pub none : s .place .unit ≡ 0
-  pub below : s .place .a * 128 + s .place .b < a * 128 + b
+  pub below : lineNumber (s .place .a) (s .place .b) < lineNumber a b
   pub room : s .place .lines + left ≤ 256
 
 line-turn : (c : Case) (ls rs : List Record) (a b : ℕ) (s : Reader) (p : ℕ) (t : Bool) → has (neighbours (c .nbr) a) b ≡ t → Pair a b
@@ -271,11 +274,11 @@ line-turn c ls rs a b s p true t y l g on =
     (rw (past-is (s .place) (u .stand .grid) (g .past), eq-eqb (s .place .unit) 0 (g .none)))
     (rw (inside (s .place .n) a yo i, inside (s .place .n) b hb j, lt-ltb (s .place .lines) 256 (omega (arith, g .room))))
     (rw (lt-ltb a b yl, above-is (s .place .a) (s .place .b) a b lo (y .high) (g .below))) in
-    let f : 1000 + (a * 128 + b) + 1 ≡ 1000 + (a * 128 + (b + 1)) = omega arith in
-    read-on (Line a b) e (on (nextReader s (Line a b)) (1000 + (a * 128 + b))
+    let f : linePlace a b + 1 ≡ linePlace a (b + 1) = omega arith in
+    read-on (Line a b) e (on (nextReader s (Line a b)) (linePlace a b)
     (record {
       upto =
-          subst (λ (w : ℕ). Upto c (nextReader s (Line a b)) (1000 + (a * 128 + b)) w) f
+          subst (λ (w : ℕ). Upto c (nextReader s (Line a b)) (linePlace a b) w) f
           (take-next (Line a b) u e refl (line-answer c s a b (u .stand .at .rows) y t));
       past = g .past;
       none = g .none;
@@ -285,7 +288,7 @@ line-turn c ls rs a b s p true t y l g on =
 line-turn c ls rs a b s p false t y l g on =
     on s p
     (record {
-      upto = skip (1000 + (a * 128 + (b + 1))) (omega arith) (g .upto) (line-none c a b y t);
+      upto = skip (linePlace a (b + 1)) (omega arith) (g .upto) (line-none c a b y t);
       past = g .past;
       none = g .none;
       below = omega (arith, g .below);
@@ -330,8 +333,8 @@ pub record Writable (c : Case) : Type 0 where
   pub above : (q : Ask) → AskInRange q → Above (c .n) q → answer c q ≡ 0
 
 -- the places after row a and before row a + 1
-row-gap : (c : Case) (a : ℕ) → Writable c → a ≤ c .n → (q : Ask) → AskInRange q → 1000 + (a * 128 + (c .n + 1)) ≤ place q
-    → place q < 1000 + ((a + 1) * 128 + (a + 1 + 1)) → answer c q ≡ 0
+row-gap : (c : Case) (a : ℕ) → Writable c → a ≤ c .n → (q : Ask) → AskInRange q → linePlace a (c .n + 1) ≤ place q
+    → place q < linePlace (a + 1) (a + 1 + 1) → answer c q ≡ 0
 row-gap c a w l (zeroAt k) h x y = let m = h .most in absurd (omega arith)
 row-gap c a w l (siteAt k) h x y = let m = h .most in absurd (omega arith)
 row-gap c a w l (unitAt k) h x y = let m = w .most in absurd (omega arith)
@@ -350,7 +353,7 @@ read-lines c rs w (suc m) a s p h e g on =
     read-row c (lineRecords (neighbours (c .nbr)) (a + 1) m) rs a m (a + 1) s p h (omega arith) (omega arith) k g
     (λ v o r. read-lines c rs w m (a + 1) v o (omega arith) (omega arith)
     (record {
-      upto = skip (1000 + ((a + 1) * 128 + (a + 1 + 1))) (omega arith) (r .upto) (row-gap c a w (omega arith));
+      upto = skip (linePlace (a + 1) (a + 1 + 1)) (omega arith) (r .upto) (row-gap c a w (omega arith));
       past = r .past;
       none = r .none;
       below = omega (arith, r .below);
@@ -359,20 +362,20 @@ read-lines c rs w (suc m) a s p h e g on =
     on)
 
 -- the places between the buses and the lines, the lines and the units, and after the units
-bus-gap : (c : Case) → Writable c → (q : Ask) → AskInRange q → c .n + 1 ≤ place q → place q < 1000 + (1 * 128 + (1 + 1)) → answer c q ≡ 0
+bus-gap : (c : Case) → Writable c → (q : Ask) → AskInRange q → c .n + 1 ≤ place q → place q < linePlace 1 (1 + 1) → answer c q ≡ 0
 bus-gap c w (zeroAt k) h x y = w .above (zeroAt k) h (omega arith)
 bus-gap c w (siteAt k) h x y = w .above (siteAt k) h (omega arith)
 bus-gap c w (unitAt k) h x y = let m = h .most in absurd (omega arith)
 bus-gap c w (lineAt i j) h x y = let o = h .one in let l = h .less in absurd (omega arith)
 
-line-gap : (c : Case) → Writable c → (q : Ask) → AskInRange q → 1000 + ((c .n + 1) * 128 + (c .n + 1 + 1)) ≤ place q → place q < 10000 + 1
+line-gap : (c : Case) → Writable c → (q : Ask) → AskInRange q → linePlace (c .n + 1) (c .n + 1 + 1) ≤ place q → place q < unitPlace 1
     → answer c q ≡ 0
 line-gap c w (zeroAt k) h x y = let m = h .most in absurd (omega arith)
 line-gap c w (siteAt k) h x y = let m = h .most in absurd (omega arith)
 line-gap c w (unitAt k) h x y = let m = h .most in absurd (omega arith)
 line-gap c w (lineAt i j) h x y = let l = h .less in let k = h .high in w .above (lineAt i j) h (omega arith)
 
-unit-gap : (c : Case) → Writable c → (q : Ask) → AskInRange q → 10000 + (c .n + 1) ≤ place q → place q < 10065 → answer c q ≡ 0
+unit-gap : (c : Case) → Writable c → (q : Ask) → AskInRange q → unitPlace (c .n + 1) ≤ place q → place q < unitPlace 65 → answer c q ≡ 0
 unit-gap c w (zeroAt k) h x y = let m = h .most in absurd (omega arith)
 unit-gap c w (siteAt k) h x y = let m = h .most in absurd (omega arith)
 unit-gap c w (unitAt k) h x y = w .above (unitAt k) h (omega arith)
@@ -396,12 +399,12 @@ readable c w =
     (λ s p u b z. let n = u .size in
     read-lines c _ w (c .n) 1 s p (omega arith) (omega arith)
     (record {
-      upto = skip (1000 + (1 * 128 + (1 + 1))) (omega arith) u (bus-gap c w);
+      upto = skip (linePlace 1 (1 + 1)) (omega arith) u (bus-gap c w);
       past = omega arith;
       none = z .unit;
       below = omega (arith, z .a, z .b);
       room = omega (arith, w .few, z .lines);
     })
-    (λ t o g. read-units c _ (c .n) 1 t o (skip (10000 + 1) (omega arith) (g .upto) (line-gap c w)) (g .past) (omega (arith, g .none))
+    (λ t o g. read-units c _ (c .n) 1 t o (skip (unitPlace 1) (omega arith) (g .upto) (line-gap c w)) (g .past) (omega (arith, g .none))
     (omega arith) (omega arith)
-    (λ v r x l. read-end (skip 10065 (omega arith) x (unit-gap c w)) l))))
+    (λ v r x l. read-end (skip (unitPlace 65) (omega arith) x (unit-gap c w)) l))))
