@@ -15,7 +15,7 @@ import pathlib
 import re
 import sys
 
-ENDS = ("demands", "starred", "tables")
+ENDS = ("demands", "tables")
 # the programs that try and time the calls, and what they share
 TRIED = r"(?:try_|time_|asked$|drawn$|shown$)"
 DOCUMENTS = ["README.md", "docs/*.md"]
