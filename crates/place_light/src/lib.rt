@@ -4,7 +4,7 @@ ghost use Rattle.grid.specs.Cases.{neighbours};
 ghost use Rattle.place_light.specs.Lights.{Lit, LitAll};
 use busset::BusSet;
 
-// What is observed where s is and a unit stands at x.
+// What is observed if s is and a unit is at x.
 pub fn lit(nbr: &[BusSet; 64], zero: BusSet, s: BusSet, x: usize) -> BusSet
     requires { ⌜ Bus width x ⌝ }
     ensures { λ r. ⌜ Lit (neighbours (now (nbr .entry))) (setOf zero) (setOf s) x (setOf r) ⌝ }
@@ -13,7 +13,7 @@ pub fn lit(nbr: &[BusSet; 64], zero: BusSet, s: BusSet, x: usize) -> BusSet
     observe::set::spread(nbr, zero, busset::union(s, here))
 }
 
-// What is observed where s is and units stand at the buses u.
+// What is observed if s is and units are at the buses u.
 pub fn lit_all(nbr: &[BusSet; 64], zero: BusSet, s: BusSet, u: BusSet) -> BusSet
     ensures { λ r. ⌜ LitAll (neighbours (now (nbr .entry))) (setOf zero) (setOf s) (setOf u) (setOf r) ⌝ }
 {

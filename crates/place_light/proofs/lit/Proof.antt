@@ -1,3 +1,4 @@
+-- What s, x and its neighbours spread to is the smallest such set: a set that has these three holds their union.
 use Rattle.place_light.proofs.Lighting.{lit-by}
 use borrow.Author.Needs.{needs}
 use Rattle.place_light.proofs.lit.Statement.{statement}

@@ -1,3 +1,4 @@
+-- What s and the units with their neighbours spread to has all that the units give directly, and satisfies O2.
 use Rattle.place_light.proofs.Lighting.{lit-all-by}
 use borrow.Author.Needs.{needs}
 use Rattle.place_light.proofs.lit_all.Statement.{statement}
