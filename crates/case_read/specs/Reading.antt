@@ -64,7 +64,7 @@ recordSaid Form k on end = refused (WrongForm k)
 recordSaid Range k on end = refused (OutOfRange k)
 recordSaid Order k on end = refused (OutOfOrder k)
 
--- line k, and the pieces after its line feed; where there are none, its line feed is lacking
+-- line k, and the pieces after its line feed; where there are none, its line feed is missing
 unfoldable pub readLines : Reader → ℕ → List ℕ → List (List ℕ) → CaseRead
 readLines s k l [] = refused (WrongForm k)
 readLines s k l (m ∷ ms) =

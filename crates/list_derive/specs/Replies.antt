@@ -1,4 +1,4 @@
--- What the derivation promises. The promises of replay and weaving stand beside their functions (crate list_follow, specs/Replies.antt).
+-- What the derivation promises. The promises of replay and weaving are beside their functions (list_follow, specs/Replies.antt).
 use mathlib.Core.Path.{_≡_}
 use mathlib.Core.List.{List, [], _∷_}
 use Rattle.grid.specs.declared.Case.{Case}

@@ -43,7 +43,7 @@ pub idle-no-cover : {g : Grid} {c left tries : ℕ} (k : ℕ) → Closed g c →
 idle-no-cover {left = left} k cl lacks idle e v w =
     cover-not-idle w cl lacks (λ x h. idle x (let sub = w .of x in omega arith) (ap (λ (s : ℕ). bit s x) e ∙ bit-zero x))
 
--- nothing to place: no cover, where a bus is lacking
+-- nothing to place: no cover, where a bus is missing
 pub lacks-no-cover : {g : Grid} {s sites k : ℕ} → Closed g s → (Full (g .n) s → ⊥) → k ≡ 0 → Uncoverable g sites k
 lacks-no-cover cl lacks e v w =
     cover-not-idle w cl lacks (λ x h. let some = size-some v x h in absurd (let few = w .few in omega arith))

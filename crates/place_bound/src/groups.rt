@@ -23,7 +23,7 @@ pub fn tried(n: usize, nbr: &[BusSet; 64], zero: BusSet, c: BusSet, x: usize) ->
     d
 }
 
-// c with trial units, as many as leave a bus lacking: what it lacks becomes small.
+// c with trial units, as many as leave a bus missing: what it lacks becomes small.
 pub fn shrunk(n: usize, nbr: &[BusSet; 64], zero: BusSet, c: BusSet) -> BusSet
     requires { ⌜ n ≤ width ⌝ }
     ensures { λ r. ⌜ Shrunk n (neighbours (now (nbr .entry))) (setOf zero) (setOf c) (setOf r) ⌝ }

@@ -110,7 +110,7 @@ cover-in {g} {sites} {q} {lit} {k} {v} gr w b = omega (arith, meet-at q v b, ap 
 pub grouped-spared : {g : Grid} {sites q lit k : ℕ} → Grouped g sites q lit k → Spared g sites k q
 grouped-spared gr n v w = n v (record { of = cover-in gr w; few = w .few; full = w .full })
 
--- and there is none, where a bus is still lacking
+-- and there is none, where a bus is still missing
 pub grouped-lacks : {g : Grid} {sites q lit k : ℕ} → Grouped g sites q lit k → (Full (g .n) lit → ⊥) → Uncoverable g sites k
 grouped-lacks gr lacks v w = cover-not-idle w (gr .closed) lacks (λ x h. gr .idle x (let sub = cover-in gr w x in omega arith))
 

@@ -12,7 +12,7 @@ use Rattle.refusals.specs.declared.Written.the-variants.{Bytes, Refused}
 
 -- ---- lines
 
--- a printed line: its word and its fields, parted by tabs, and a line feed
+-- a printed line: its word and its fields, separated by tabs, and a line feed
 abbrev pub printedLine : List ℕ → List (List ℕ) → List ℕ
 printedLine word fields = join tab word fields ++ lineFeed ∷ []
 

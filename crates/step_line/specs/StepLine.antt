@@ -1,4 +1,4 @@
--- A line of a step text: `step bus O`, `step bus N p`, `step bus Z w` or `end`, with fields parted by one tab.
+-- A line of a step text: `step bus O`, `step bus N p`, `step bus Z w` or `end`, with fields separated by one tab.
 use mathlib.Core.Bool.{cond}
 use mathlib.Core.List.{List, [], _∷_}
 use Prim.Native.Nat.{ℕ}

@@ -48,7 +48,7 @@ lineSaid Wrong k on end = Refused (WrongForm k)
 
 -- ---- line after line
 
--- line k, and the pieces after its line feed; where there are none, its line feed is lacking
+-- line k, and the pieces after its line feed; where there are none, its line feed is missing
 unfoldable pub stepLines : ℕ → List ℕ → List (List ℕ) → StepsRead
 stepLines k l [] = Refused (WrongForm k)
 stepLines k l (m ∷ ms) = lineSaid (stepLineOf l) k (stepLines (k + 1) m ms) (ended k m ms)

@@ -60,7 +60,7 @@ rising-right =
 full : Full 7 (set (1 ∷ 2 ∷ 3 ∷ 4 ∷ 5 ∷ 6 ∷ 7 ∷ []))
 full = all-law 7 .has
 
--- bus 5 is lacking where only 3 has a unit
+-- bus 5 is missing where only 3 has a unit
 uncovered : Covers (sevenGrid []) (set (3 ∷ [])) → ⊥
 unfolding setOf
 uncovered h = omega (arith, covers-full (sevenGrid []) (known .at3 .least) h 5 (record { some = omega arith; most = omega arith }))

@@ -301,7 +301,7 @@ SoughtIs g sites k none = NoWay g sites k
 SoughtIs g sites k (some m) = FirstWay g sites k m
 SoughtIs g sites k unsure = Unit {0}
 
--- the answer of the units as they are, from the buses that are lacking and from whether the set is sure
+-- the answer of the units as they are, from the buses that are missing and from whether the set is sure
 unfoldable pub soughtFrom : ℕ → ℕ → Sought
 soughtFrom zero zero = some empty
 soughtFrom (suc l) zero = none

@@ -109,7 +109,7 @@ WiredRight = Right (λ q. withLine (0 ∷ 0 ∷ 0 ∷ []) (q .0) (q .1)) wiredTa
 abbrev pub wholeTextTable : List (String × ReadAnswer)
 wholeTextTable =
     ("grid\t1\nbus\t1\tI\tY\nend\n", Read)
-    -- a lacking record, at the line where it should stand
+    -- a missing record, at the line where it should stand
     ∷ ("", Refused (WrongForm 1))
     ∷ ("\n", Refused (WrongForm 1))
     ∷ ("bus\t1\tI\tY\n", Refused (WrongForm 1))
@@ -117,7 +117,7 @@ wholeTextTable =
     ∷ ("grid\t2\nend\n", Refused (WrongForm 2))
     ∷ ("grid\t2\nline\t1\t2\n", Refused (WrongForm 2))
     ∷ ("grid\t2\nbus\t1\tI\tY\npmu\t1\n", Refused (WrongForm 3))
-    -- a lacking line feed comes before 3 and 4
+    -- a missing line feed comes before 3 and 4
     ∷ ("grid\t65", Refused (WrongForm 1))
     ∷ ("grid\t2\nbus\t2\tI\tY", Refused (WrongForm 2))
     -- 3
@@ -144,7 +144,7 @@ laterLineTable =
     ("end\n", Read)
     ∷ ("line\t1\t2\nend\n", Read)
     ∷ ("pmu\t3\nend\n", Read)
-    -- a lacking record or line feed
+    -- a missing record or line feed
     ∷ ("", Refused (WrongForm 9))
     ∷ ("end", Refused (WrongForm 9))
     ∷ ("line\t9\t1", Refused (WrongForm 9))

@@ -1,4 +1,4 @@
--- Fields and numbers: fields are parted by one tab; numbers are 1 to 4 digits, with no leading zero except 0 itself.
+-- Fields and numbers: fields are separated by one tab; numbers are 1 to 4 digits, with no leading zero except 0 itself.
 use mathlib.Core.Bool.{Bool, true, false}
 use mathlib.Core.List.{List, [], _∷_}
 use Prim.Native.Nat.{ℕ}

@@ -71,7 +71,7 @@ abbrev pub shuffleTable : List Row
 shuffleTable =
     holds (Shuffle desks (near 2 3 ∷ own 3 ∷ own 3 ∷ []))
     ∷ holds (Shuffle desks (own 3 ∷ near 2 3 ∷ own 3 ∷ []))
-    -- a step is lacking
+    -- a step is missing
     ∷ fails (Shuffle desks (near 2 3 ∷ own 3 ∷ []))
     -- a step is new
     ∷ fails (Shuffle desks (near 4 3 ∷ near 2 3 ∷ own 3 ∷ own 3 ∷ []))
@@ -86,7 +86,7 @@ shuffleTable =
 abbrev pub wovenShuffleTable : List Row
 wovenShuffleTable =
     holds (Woven (sevenGrid (3 ∷ [])) desks (own 3 ∷ near 2 3 ∷ own 3 ∷ []))
-    -- a bus that a desk observed is lacking
+    -- a bus that a desk observed is missing
     ∷ fails (Woven (sevenGrid (3 ∷ [])) desks (own 3 ∷ []))
     -- a bus that no desk observed is reached
     ∷ fails (Woven (sevenGrid (3 ∷ [])) desks (near 2 3 ∷ own 3 ∷ near 4 3 ∷ []))

@@ -1,4 +1,4 @@
--- What each call on texts promises; for `read_steps` it is `StepsReadReply` (crate step_text).
+-- What each call on texts promises. That of `read_steps` is `StepsReadReply` (step_text), of `replay_text` `TextReplayReply` (step_replay).
 use mathlib.Core.Path.{_≡_}
 use mathlib.Core.List.{List, [], _∷_, _++_}
 use Prim.Native.Nat.{ℕ, _≤_}

@@ -1,4 +1,4 @@
-// The pieces of a text: lines parted by line feeds, fields parted by tabs, and the numbers that stand in fields.
+// The pieces of a text: lines separated by line feeds, fields separated by tabs, and the numbers that stand in fields.
 ghost use mathlib.Core.Path.{_≡_};
 ghost use Prim.Native.Nat.{_-_, _<_, _≤_};
 ghost use lib.ListN.{length};
