@@ -4,18 +4,21 @@ use mathlib.Core.Bool.{Bool, true, false, cond}
 use Prim.Native.Nat.{ℕ, _≤_}
 use native.Mathlib.Omega.{arith}
 use Rattle.busset.specs.Sets.{bit, In, Out, add, setOf, With}
-use Rattle.busset.specs.Held.{wordOf, hold, holdIf}
+use Rattle.busset.specs.Held.{SetWord, wordOf, hold, holdIf}
 use Rattle.busset.proofs.Digits.{bit-low}
 use Rattle.busset.proofs.Members.{add-here, add-there, with-add}
 use Rattle.busset.proofs.Words.{set-zero, set-inj}
 
-word-set : (s : ℕ) → Out s 0 → setOf (wordOf s) ≡ s
+pub word-set : (s : ℕ) → Out s 0 → setOf (wordOf s) ≡ s
 unfolding setOf wordOf
 word-set s z = omega (arith, bit-low s)
 
+pub word-add : (s b : ℕ) → Out s 0 → 1 ≤ b → setOf (wordOf (add s b)) ≡ add s b
+word-add s b z l = word-set (add s b) (add-there s b 0 (λ e. omega arith) ∙ z)
+
 pub set-hold : (w b : ℕ) → 1 ≤ b → setOf (hold w b) ≡ add (setOf w) b
 unfolding hold
-set-hold w b l = word-set (add (setOf w) b) (add-there (setOf w) b 0 (λ e. omega arith) ∙ set-zero w)
+set-hold w b l = word-add (setOf w) b (set-zero w) l
 
 pub hold-here : (w b : ℕ) → 1 ≤ b → In (setOf (hold w b)) b
 hold-here w b l = ap (λ (s : ℕ). bit s b) (set-hold w b l) ∙ add-here (setOf w) b
@@ -25,6 +28,11 @@ hold-there w b a l ne = ap (λ (s : ℕ). bit s a) (set-hold w b l) ∙ add-ther
 
 pub hold-is : (w b : ℕ) {r : ℕ} → 1 ≤ b → With (setOf w) b (setOf r) → r ≡ hold w b
 hold-is w b {r} l h = set-inj r (hold w b) (with-add h ∙ sym (set-hold w b l))
+
+-- the same, of a word that holds s
+pub with-is : (v : SetWord) {r : SetWord} (s b : ℕ) → 1 ≤ b → setOf v ≡ s → With (setOf v) b (setOf r) → r ≡ wordOf (add s b)
+unfolding hold
+with-is v s b l e w = hold-is v b l w ∙ ap (λ (x : ℕ). wordOf (add x b)) e
 
 -- ---- with the bus, or as it was
 

@@ -4,10 +4,10 @@ use Prim.Native.Nat.{ℕ, zero, suc, _+_, _*_, _/_, _%_, _^_, _<_}
 use native.Mathlib.Nat.{pow-suc}
 use native.Mathlib.Omega.{arith}
 use lib.Bits.{bitAnd, and-mask}
-use lib.ListN.{getD}
+use lib.ListN.{getD, length}
 use lib.Pow.{pow-add, shr-shr}
 use Rattle.busset.specs.Sets.{bit, setOf}
-use Rattle.busset.specs.Bytes.{byteOf, setBytes}
+use Rattle.busset.specs.Bytes.{byteOf, bytesFrom, setLength, setBytes}
 use Rattle.busset.proofs.Digits.{bit-mod}
 use Rattle.busset.proofs.Words.{set-suc}
 
@@ -31,14 +31,20 @@ byte-bus w i j l =
     ap (λ (x : ℕ). bit (w / x % 256) j) (bytes-shifted i) ∙ bit-mod 8 (w / 2 ^ (8 * i)) j l ∙ ap (λ (x : ℕ). x % 2) (shr-shr w (8 * i) j)
     ∙ sym (set-suc w (8 * i + j)) ∙ ap (bit (setOf w)) (omega arith)
 
+bytes-at : (k j w i : ℕ) → i < k → getD (bytesFrom j k w) i 0 ≡ byteOf w (j + i)
+unfolding bytesFrom
+bytes-at zero j w i l = absurd (omega arith)
+bytes-at (suc k) j w zero l = ap (byteOf w) (omega arith)
+bytes-at (suc k) j w (suc i) l = bytes-at k (suc j) w i (omega arith) ∙ ap (byteOf w) (omega arith)
+
 -- the byte that stands at i
-pub byte-at : (w i : ℕ) → i < 8 → getD (setBytes w) i 0 ≡ byteOf w i
-byte-at w zero l = refl
-byte-at w (suc zero) l = refl
-byte-at w (suc (suc zero)) l = refl
-byte-at w (suc (suc (suc zero))) l = refl
-byte-at w (suc (suc (suc (suc zero)))) l = refl
-byte-at w (suc (suc (suc (suc (suc zero))))) l = refl
-byte-at w (suc (suc (suc (suc (suc (suc zero)))))) l = refl
-byte-at w (suc (suc (suc (suc (suc (suc (suc zero))))))) l = refl
-byte-at w (suc (suc (suc (suc (suc (suc (suc (suc i)))))))) l = absurd (omega arith)
+pub byte-at : (w i : ℕ) → i < setLength → getD (setBytes w) i 0 ≡ byteOf w i
+byte-at w i l = bytes-at setLength 0 w i l ∙ ap (byteOf w) (omega arith)
+
+bytes-length : (k j w : ℕ) → length (bytesFrom j k w) ≡ k
+unfolding bytesFrom
+bytes-length zero j w = refl
+bytes-length (suc k) j w = ap suc (bytes-length k (suc j) w)
+
+pub set-length : (w : ℕ) → length (setBytes w) ≡ setLength
+set-length w = bytes-length setLength 0 w

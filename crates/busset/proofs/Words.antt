@@ -9,6 +9,7 @@ use lib.Bits.{bitAnd, bitOr, and-mask}
 use lib.Count.{trailingZeros, under}
 use lib.Dec.{eqb}
 use lib.Pow.{pow-lt, pow-pos, ones-lt}
+use Rattle.busset.specs.Held.{SetWord, emptyWord}
 use Rattle.basics.specs.Deciding.{Decides}
 use Rattle.busset.specs.Sets.{Bus, bit, In, Out, Sub, empty, size, setOf, Union, Both, Minus, With, Without, Lowest, All}
 use Rattle.basics.proofs.Tests.{decides-eq, decides-by}
@@ -40,9 +41,12 @@ pub set-inj : (v w : ℕ) → setOf v ≡ setOf w → v ≡ w
 unfolding setOf
 set-inj v w e = omega arith
 
-pub set-empty : setOf 0 ≡ empty
+pub set-empty : setOf emptyWord ≡ empty
 unfolding setOf
 set-empty = refl
+
+pub empty-set : {w : SetWord} → w ≡ emptyWord → setOf w ≡ empty
+empty-set e = ap setOf e ∙ set-empty
 
 -- a word of k bits holds buses 1 to k
 pub set-bus : (k : ℕ) {w : ℕ} (b : ℕ) → w < 2 ^ k → In (setOf w) b → Bus k b

@@ -1,11 +1,22 @@
 -- The bytes of the word that holds a set: lowest bus in the lowest bit of the first byte.
 use mathlib.Core.List.{List, [], _∷_}
-use Prim.Native.Nat.{ℕ, _/_, _%_, _^_}
+use Prim.Native.Nat.{ℕ, zero, suc, _/_, _%_, _^_}
+use Rattle.busset.specs.Sets.{width}
+use Rattle.busset.specs.Held.{SetWord}
 
 -- byte i of the word, counted from 0 at the lowest
-unfoldable pub byteOf : ℕ → ℕ → ℕ
+unfoldable pub byteOf : SetWord → ℕ → ℕ
 byteOf w i = w / 256 ^ i % 256
 
--- the eight of them, the lowest first
-abbrev pub setBytes : ℕ → List ℕ
-setBytes w = byteOf w 0 ∷ byteOf w 1 ∷ byteOf w 2 ∷ byteOf w 3 ∷ byteOf w 4 ∷ byteOf w 5 ∷ byteOf w 6 ∷ byteOf w 7 ∷ []
+-- how many bytes hold a set: eight buses in each
+abbrev pub setLength : ℕ
+setLength = width / 8
+
+-- k bytes of the word, from byte i on
+unfoldable pub bytesFrom : ℕ → ℕ → SetWord → List ℕ
+bytesFrom i zero w = []
+bytesFrom i (suc k) w = byteOf w i ∷ bytesFrom (suc i) k w
+
+-- all its bytes, the lowest first
+abbrev pub setBytes : SetWord → List ℕ
+setBytes w = bytesFrom 0 setLength w

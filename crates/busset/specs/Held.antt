@@ -1,16 +1,24 @@
--- The word that holds a set, and a word with one bus more.
+-- The word that holds a set: its type, the word of no bus, and a word with one bus more.
 use mathlib.Core.Bool.{Bool, cond}
 use Prim.Native.Nat.{ℕ, _/_}
 use Rattle.busset.specs.Sets.{add, setOf}
 
+-- a machine word that holds a set
+abbrev pub SetWord : Type 0
+SetWord = ℕ
+
+-- the word that holds the set with no bus
+abbrev pub emptyWord : SetWord
+emptyWord = 0
+
 -- the word that holds the set s
-unfoldable pub wordOf : ℕ → ℕ
+unfoldable pub wordOf : ℕ → SetWord
 wordOf s = s / 2
 
 -- the word of w's set with bus b
-unfoldable pub hold : ℕ → ℕ → ℕ
+unfoldable pub hold : SetWord → ℕ → SetWord
 hold w b = wordOf (add (setOf w) b)
 
 -- with bus b where t, and w itself otherwise
-abbrev pub holdIf : Bool → ℕ → ℕ → ℕ
+abbrev pub holdIf : Bool → SetWord → ℕ → SetWord
 holdIf t w b = cond t (hold w b) w

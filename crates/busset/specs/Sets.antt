@@ -104,7 +104,7 @@ pub record All (n r : ℕ) : Type 0 where
 
 -- ---- the word
 
--- how many buses a word has room for
+-- how many buses a word has room for: as many as document 01 allows a grid
 abbrev pub width : ℕ
 width = 64
 

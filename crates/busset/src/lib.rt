@@ -1,12 +1,18 @@
 // Sets of buses, held in a word: bus 1 in the lowest bit. The only shifts and masks stand here.
 ghost use mathlib.Core.Path.{_≡_};
 ghost use Prim.Native.Nat.{_≤_, _<_};
-ghost use Rattle.busset.specs.Bytes.{byteOf};
+ghost use Rattle.busset.specs.Held.{emptyWord};
+ghost use Rattle.busset.specs.Bytes.{byteOf, setLength};
 ghost use Rattle.basics.specs.Deciding.{Decides};
 ghost use Rattle.busset.specs.Sets.{Bus, In, Sub, Within, empty, upTo, width, setOf};
 ghost use Rattle.busset.specs.Sets.{Union, Both, Minus, With, Without, Lowest, Counted, All};
 
 pub type BusSet = u64;
+
+// How many buses a set has room for, and how many bytes hold it.
+pub const WIDTH: usize = 64;
+
+pub const SET_BYTES: usize = WIDTH / 8;
 
 // Whether b is a bus number, 1 to n.
 pub fn is_bus(n: usize, b: usize) -> bool
@@ -19,7 +25,7 @@ pub fn is_bus(n: usize, b: usize) -> bool
 }
 
 pub fn none() -> BusSet
-    ensures { λ r. ⌜ setOf r ≡ empty ⌝ }
+    ensures { λ r. ⌜ r ≡ emptyWord ⌝ }
 {
     0
 }
@@ -99,7 +105,7 @@ pub fn all(n: usize) -> BusSet
     requires { ⌜ n ≤ width ⌝ }
     ensures { λ r. ⌜ All n (setOf r) ⌝ }
 {
-    if n == 64 {
+    if n == WIDTH {
         return !0;
     }
     (1 << n) - 1
@@ -123,7 +129,7 @@ pub fn is_within(s: BusSet, n: usize) -> bool
 
 // Byte i of the word, counted from 0 at the lowest.
 pub fn byte_of(s: BusSet, i: usize) -> u8
-    requires { ⌜ i < 8 ⌝ }
+    requires { ⌜ i < setLength ⌝ }
     ensures { λ r. ⌜ r ≡ byteOf s i ⌝ }
 {
     ((s >> (8 * i)) & 255) as u8

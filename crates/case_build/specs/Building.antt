@@ -1,23 +1,23 @@
 -- The case, built up record by record.
-use mathlib.Core.List.{List}
-use Prim.Native.Nat.{ℕ, _-_}
-use lib.ListN.{getD, set, replicate}
-use Rattle.busset.specs.Held.{hold, holdIf}
+use Prim.Native.Nat.{ℕ}
+use Rattle.busset.specs.Sets.{add}
+use Rattle.busset.specs.Held.{emptyWord, wordOf, hold, holdIf}
 use Rattle.case_line.specs.declared.Record.{Record}
 use Rattle.case_line.specs.declared.Record.the-variants.{Grid, Bus, Line, Pmu, End, Wrong}
+use Rattle.grid.specs.Rows.{Rows, neighbours, withRow, noRows}
 use Rattle.grid.specs.declared.Case.{Case}
 use Rattle.case_build.specs.declared.Marks.{Marks}
 
--- row a with bus b
-abbrev pub withEnd : List ℕ → ℕ → ℕ → List ℕ
-withEnd rows a b = set rows (a - 1) (hold (getD rows (a - 1) 0) b)
+-- the rows with b as a neighbour of a
+abbrev pub withEnd : Rows → ℕ → ℕ → Rows
+withEnd rows a b = withRow rows a (wordOf (add (neighbours rows a) b))
 
 -- the rows with a line: a with b, and b with a
-abbrev pub withLine : List ℕ → ℕ → ℕ → List ℕ
+abbrev pub withLine : Rows → ℕ → ℕ → Rows
 withLine rows a b = withEnd (withEnd rows a b) b a
 
 -- the rows after a record
-abbrev pub nextRows : List ℕ → Record → List ℕ
+abbrev pub nextRows : Rows → Record → Rows
 nextRows rows (Grid n) = rows
 nextRows rows (Bus k zero site) = rows
 nextRows rows (Line a b) = withLine rows a b
@@ -34,16 +34,12 @@ nextMarks m (Pmu p) = record { zero = m .zero; site = m .site; units = hold (m .
 nextMarks m End = m
 nextMarks m Wrong = m
 
--- no line
-abbrev pub noRows : List ℕ
-noRows = replicate 64 0
-
 -- no class Z, site Y or unit
 abbrev pub noMarks : Marks
-noMarks = record { zero = 0; site = 0; units = 0 }
+noMarks = record { zero = emptyWord; site = emptyWord; units = emptyWord }
 
 -- a case of n buses
-abbrev pub caseWith : ℕ → List ℕ → Marks → Case
+abbrev pub caseWith : ℕ → Rows → Marks → Case
 caseWith n rows m = record { n = n; nbr = rows; zero = m .zero; site = m .site; units = m .units }
 
 -- what stands beside a refusal

@@ -2,17 +2,46 @@
 ghost use mathlib.Core.Path.{_≡_};
 ghost use Rattle.busset.specs.Sets.{Bus, width};
 ghost use Rattle.busset.specs.Held.{holdIf};
-ghost use Rattle.case_build.specs.Building.{withLine, nextRows, nextMarks};
+ghost use Rattle.case_build.specs.Building.{withEnd, withLine, nextRows, nextMarks, noMarks, noCase};
 ghost use Rattle.case_judge.specs.Judging.{Fit};
 use busset::BusSet;
 use case_judge::Place;
 use case_line::Record;
+use grid::Case;
+use grid::Rows;
 
 // The Z buses, the Y sites and the units read.
 pub struct Marks {
     pub zero: BusSet,
     pub site: BusSet,
     pub units: BusSet,
+}
+
+// No class Z, site Y or unit.
+pub fn no_marks() -> Marks
+    ensures { λ r. ⌜ r ≡ noMarks ⌝ }
+{
+    let none = busset::none();
+    Marks {
+        zero: none,
+        site: none,
+        units: none,
+    }
+}
+
+// What is beside a refusal: no bus.
+pub fn no_case() -> Case
+    ensures { λ r. ⌜ r ≡ noCase ⌝ }
+{
+    let none = busset::none();
+    let nbr = grid::no_rows();
+    Case {
+        n: 0,
+        nbr,
+        zero: none,
+        site: none,
+        units: none,
+    }
 }
 
 fn hold_if(t: bool, w: BusSet, b: usize) -> BusSet
@@ -25,16 +54,26 @@ fn hold_if(t: bool, w: BusSet, b: usize) -> BusSet
     w
 }
 
-fn add_line(rows: &mut [BusSet; 64], a: usize, b: usize)
+// b becomes a neighbour of a.
+fn add_end(rows: &mut Rows, a: usize, b: usize)
+    requires { ⌜ Bus width a × Bus width b ⌝ }
+    ensures { λ _. ⌜ now (rows .exit) ≡ withEnd (now (rows .entry)) a b ⌝ }
+{
+    let near = busset::with(grid::row(rows, a), b);
+    grid::set_row(rows, a, near);
+}
+
+// A line of a and b: each becomes a neighbour of the other.
+fn add_line(rows: &mut Rows, a: usize, b: usize)
     requires { ⌜ Bus width a × Bus width b ⌝ }
     ensures { λ _. ⌜ now (rows .exit) ≡ withLine (now (rows .entry)) a b ⌝ }
 {
-    rows[a - 1] = busset::with(rows[a - 1], b);
-    rows[b - 1] = busset::with(rows[b - 1], a);
+    add_end(rows, a, b);
+    add_end(rows, b, a);
 }
 
 // The rows after a record; the place is where the reader stood before it.
-pub fn build_rows(rows: &mut [BusSet; 64], s: Place, r: Record)
+pub fn build_rows(rows: &mut Rows, s: Place, r: Record)
     requires { ⌜ Fit s r ⌝ }
     ensures { λ _. ⌜ now (rows .exit) ≡ nextRows (now (rows .entry)) r ⌝ }
 {

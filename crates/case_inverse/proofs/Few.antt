@@ -8,7 +8,7 @@ use native.Mathlib.Omega.{arith}
 use borrow.Author.Tests.{eqb-true}
 use lib.ListN.{length}
 use Rattle.basics.proofs.Tests.{below-or, same-or}
-use Rattle.grid.specs.Cases.{neighbours}
+use Rattle.grid.specs.Rows.{neighbours}
 use Rattle.case_line.specs.declared.Record.{Record}
 use Rattle.case_line.specs.declared.Record.the-variants.{Grid, Bus, Line, Pmu, End, Wrong}
 use Rattle.case_judge.specs.Judging.{judged}

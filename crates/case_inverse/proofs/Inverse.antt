@@ -8,7 +8,9 @@ use Rattle.busset.specs.Sets.{Out, Within, setOf}
 use Rattle.busset.proofs.Members.{out-of}
 use Rattle.text_field.specs.Split.{join}
 use Rattle.case_line.specs.declared.Record.the-variants.{Pmu}
-use Rattle.grid.specs.Cases.{neighbours, gridOf, Valid, mostBytes}
+use Rattle.grid.specs.Limits.{mostBytes}
+use Rattle.grid.specs.Rows.{neighbours}
+use Rattle.grid.specs.Cases.{gridOf, Valid}
 use Rattle.grid.specs.declared.Case.{Case}
 use Rattle.rules.specs.Grids.{Proper as ProperGrid}
 use Rattle.case_read.specs.Reading.{start, got, readLines, readCase}

@@ -15,19 +15,19 @@ use Prim.Native.Nat.{ℕ, suc, zero, _+_, _-_, _*_, _≤_, _<_}
 use native.Mathlib.Omega.{arith}
 use borrow.Author.Tests.{leb-true, ltb-true, eqb-true}
 use lib.Dec.{eqb, ltb, leb}
-use lib.ListN.{length, getD, set, length-set}
-use lib.Seq.{getD-set-same, getD-set-other}
+use lib.ListN.{length, length-set}
 use Rattle.busset.specs.Sets.{bit, add, setOf, width, Bus as IsBus}
-use Rattle.busset.specs.Held.{hold}
+use Rattle.busset.specs.Held.{wordOf}
 use Rattle.basics.proofs.Tests.{same-or}
 use Rattle.busset.proofs.Members.{add-here, add-there}
-use Rattle.busset.proofs.Holding.{set-hold, hold-there, if-there}
+use Rattle.busset.proofs.Holding.{word-add, hold-there, if-there}
 use Rattle.text_field.proofs.Tested.{both}
 use Rattle.case_line.specs.declared.Record.{Record}
 use Rattle.case_line.specs.declared.Record.the-variants.{Grid, Bus, Line, Pmu, End, Wrong}
-use Rattle.grid.specs.Cases.{neighbours, mostBuses}
+use Rattle.grid.specs.Limits.{mostBuses}
+use Rattle.grid.specs.Rows.{neighbours}
 use Rattle.grid.specs.declared.Case.{Case}
-use Rattle.grid.proofs.Rows.{row-at, row-zero}
+use Rattle.grid.proofs.Rows.{row-bus, row-put-same, row-put-other}
 use Rattle.case_build.specs.Building.{withEnd, withLine}
 use Rattle.case_judge.specs.Judging.{isAfter, pastBuses}
 use Rattle.case_read.specs.Reading.{Reader, caseSoFar, nextReader}
@@ -36,17 +36,6 @@ use Rattle.case_judge.proofs.Judged.{TestsPassed, inside, line-ends, not-one}
 
 -- ---- rows
 
-module _ (rows : List ℕ) (a v : ℕ) (h : 1 ≤ a) where
-  row-same : a ≤ length rows → neighbours (set rows (a - 1) v) a ≡ setOf v
-  row-same l = sym (row-at (set rows (a - 1) v) a h) ∙ ap setOf (getD-set-same rows (a - 1) v 0 (omega arith))
-
-  row-other : (i : ℕ) → (i ≡ a → ⊥) → neighbours (set rows (a - 1) v) i ≡ neighbours rows i
-  row-other zero n = row-zero (set rows (a - 1) v) ∙ sym (row-zero rows)
-  row-other (suc i) n =
-      sym (row-at (set rows (a - 1) v) (suc i) (omega arith))
-      ∙ ap setOf (getD-set-other rows (a - 1) (suc i - 1) v 0 (λ e. n (omega arith)))
-      ∙ row-at rows (suc i) (omega arith)
-
 -- 1 where i and j are joined as seen from i, else 0
 abbrev pub joined : List ℕ → ℕ → ℕ → ℕ
 joined rows i j = bit (neighbours rows i) j
@@ -54,7 +43,7 @@ joined rows i j = bit (neighbours rows i) j
 module _ (rows : List ℕ) (a b : ℕ) (h : 1 ≤ a) (k : 1 ≤ b) (l : a ≤ length rows) where
   end-row : neighbours (withEnd rows a b) a ≡ add (neighbours rows a) b
   end-row =
-      row-same rows a (hold (getD rows (a - 1) 0) b) h l ∙ set-hold (getD rows (a - 1) 0) b k ∙ ap (λ (s : ℕ). add s b) (row-at rows a h)
+      row-put-same rows a (wordOf (add (neighbours rows a) b)) h l ∙ word-add (neighbours rows a) b (row-bus rows a) k
 
   pub end-here : joined (withEnd rows a b) a b ≡ 1
   end-here = ap (λ (s : ℕ). bit s b) end-row ∙ add-here (neighbours rows a) b
@@ -64,7 +53,7 @@ module _ (rows : List ℕ) (a b : ℕ) (h : 1 ≤ a) (k : 1 ≤ b) (l : a ≤ le
       ⊎-elim
       (λ (e : i ≡ a). subst⁻¹ (λ (x : ℕ). joined (withEnd rows a b) x j ≡ joined rows x j) e
       (ap (λ (s : ℕ). bit s j) end-row ∙ add-there (neighbours rows a) b j (n e)))
-      (λ (d : i ≡ a → ⊥). ap (λ (s : ℕ). bit s j) (row-other rows a (hold (getD rows (a - 1) 0) b) h i d))
+      (λ (d : i ≡ a → ⊥). ap (λ (s : ℕ). bit s j) (row-put-other rows a (wordOf (add (neighbours rows a) b)) h i d))
       (same-or i a)
 
 -- the number of the line from i to j: rising by i, and then by j

@@ -17,7 +17,8 @@ use Rattle.busset.proofs.Holding.{hold-there}
 use Rattle.case_line.specs.declared.Record.{Record}
 use Rattle.case_line.specs.declared.Record.the-variants.{Grid, Bus, Line, Pmu, End, Wrong}
 use Rattle.rules.specs.Grids.{Proper as ProperGrid, Line as HasLine}
-use Rattle.grid.specs.Cases.{neighbours, gridOf, Lines}
+use Rattle.grid.specs.Rows.{neighbours}
+use Rattle.grid.specs.Cases.{gridOf, Lines}
 use Rattle.grid.specs.declared.Case.{Case}
 use Rattle.case_build.specs.Building.{withLine}
 use Rattle.case_judge.specs.Judging.{inRange}

@@ -10,7 +10,7 @@ use lib.ListN.{length, getD, replicate, length-replicate}
 use Rattle.busset.specs.Sets.{bit, setOf}
 use Rattle.busset.proofs.Digits.{bit-zero}
 use Rattle.busset.proofs.Words.{set-empty}
-use Rattle.grid.specs.Cases.{neighbours}
+use Rattle.grid.specs.Rows.{neighbours, noRows}
 use Rattle.text_field.proofs.Tested.{both}
 use Rattle.text_field.specs.Split.{split}
 use Rattle.text_field.proofs.Cutting.{join-split}
@@ -19,7 +19,6 @@ use Rattle.case_line.specs.declared.Record.{Record}
 use Rattle.case_line.specs.declared.Record.the-variants.{Grid, Bus, Line, Pmu, End, Wrong}
 use Rattle.case_judge.specs.Judging.{judged, pastBuses}
 use Rattle.case_read.specs.Reading.{caseSoFar, Reader, nextReader, start, refused, got, readLines, readText, readCase}
-use Rattle.case_build.specs.Building.{noRows}
 use Rattle.case_inverse.specs.Grammar.{ReadsAs}
 use Rattle.case_inverse.specs.Grammar.ReadsAs.{ends, goes}
 use Rattle.grid.specs.declared.Case.{Case}

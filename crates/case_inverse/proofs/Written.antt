@@ -11,7 +11,7 @@ use Rattle.busset.specs.Sets.{bit, setOf, width, Bus as IsBus}
 use Rattle.busset.specs.Held.{hold, holdIf}
 use Rattle.basics.proofs.Tests.{below-or, same-or}
 use Rattle.busset.proofs.Holding.{hold-here, if-here}
-use Rattle.grid.specs.Cases.{neighbours}
+use Rattle.grid.specs.Rows.{neighbours}
 use Rattle.case_judge.specs.declared.Place.{Place}
 use Rattle.case_line.specs.declared.Record.{Record}
 use Rattle.case_line.specs.declared.Record.the-variants.{Grid, Line, Pmu, End}

@@ -12,7 +12,7 @@ use Rattle.busset.proofs.Members.{bus-more}
 use Rattle.text_field.proofs.Tested.{both}
 use Rattle.case_line.specs.declared.Record.{Record}
 use Rattle.case_line.specs.declared.Record.the-variants.{Grid, Bus, Line, Pmu, End, Wrong}
-use Rattle.grid.specs.Cases.{mostBuses, mostLines}
+use Rattle.grid.specs.Limits.{mostBuses, mostLines}
 use Rattle.case_judge.specs.Judging.{isBus, inPlace, inRange, inOrder, nextOrLast, judged, nextPlace, Fit}
 use Rattle.case_judge.specs.declared.Place.{Place}
 use Rattle.case_judge.specs.declared.Judgement.{Judgement}

@@ -5,7 +5,7 @@ use lib.Dec.{eqb, ltb, leb}
 use Rattle.busset.specs.Sets.{width, Bus as IsBus}
 use Rattle.case_line.specs.declared.Record.{Record}
 use Rattle.case_line.specs.declared.Record.the-variants.{Grid, Bus, Line, Pmu, End, Wrong}
-use Rattle.grid.specs.Cases.{mostBuses, mostLines}
+use Rattle.grid.specs.Limits.{mostBuses, mostLines}
 use Rattle.case_judge.specs.declared.Place.{Place}
 use Rattle.case_judge.specs.declared.Judgement.{Judgement}
 use Rattle.case_judge.specs.declared.Judgement.the-variants.{Next, Last, Form, Range, Order}

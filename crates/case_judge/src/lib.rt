@@ -7,6 +7,8 @@ ghost use Rattle.case_judge.specs.Judging.{isAfter, pastBuses, inPlace, 
 ghost use Rattle.case_judge.specs.Judging.{nextOrLast, judged, nextPlace, Fit};
 use busset::is_bus;
 use case_line::Record;
+use grid::limits::MOST_BUSES;
+use grid::limits::MOST_LINES;
 
 // The last bus, line and unit read of a grid of n buses, and how many lines.
 pub struct Place {
@@ -93,13 +95,16 @@ fn in_range(s: Place, r: Record) -> bool
     ensures { λ t. ⌜ t ≡ inRange s r ⌝ }
 {
     match r {
-        Record::Grid(m) => is_bus(64, m),
+        Record::Grid(m) => is_bus(MOST_BUSES, m),
         Record::Bus {
             number,
             zero: _,
             site: _,
         } => is_bus(s.n, number),
-        Record::Line(a, b) => both(both(is_bus(s.n, a), is_bus(s.n, b)), is_less(s.lines, 256)),
+        Record::Line(a, b) => both(
+            both(is_bus(s.n, a), is_bus(s.n, b)),
+            is_less(s.lines, MOST_LINES),
+        ),
         Record::Pmu(p) => is_bus(s.n, p),
         Record::End => true,
         Record::Wrong => true,

@@ -8,7 +8,7 @@ use Rattle.text_field.specs.Split.{lineFeed}
 use Rattle.case_line.specs.Record.{recordText}
 use Rattle.case_line.specs.declared.Record.{Record}
 use Rattle.case_line.specs.declared.Record.the-variants.{Grid, Bus, Line, Pmu, End}
-use Rattle.grid.specs.Cases.{neighbours}
+use Rattle.grid.specs.Rows.{neighbours}
 use Rattle.grid.specs.declared.Case.{Case}
 
 -- bus k is in the set s

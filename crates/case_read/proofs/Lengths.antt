@@ -5,12 +5,21 @@ use mathlib.Core.List.{List, [], _∷_}
 use Prim.Native.Nat.{ℕ, suc, zero, _+_, _*_, _≤_}
 use native.Mathlib.Omega.{arith}
 use lib.ListN.{length, length-append}
+use Rattle.grid.specs.Limits.{mostBuses}
 use Rattle.case_line.specs.declared.Record.{Record}
 use Rattle.case_line.specs.declared.Record.the-variants.{Line}
 use Rattle.case_line.proofs.Lengths.{record-length}
 use Rattle.case_line.specs.CaseText.{has, busRecords, members, lineRecords, linesText}
 
-pub lines-length : (rs : List Record) → length (linesText rs) ≤ 15 * length rs
+-- no record is longer than this, with its line feed
+abbrev pub lineRoom : ℕ
+lineRoom = 15
+
+-- nor are the lines of one bus than this
+abbrev pub rowRoom : ℕ
+rowRoom = lineRoom * mostBuses
+
+pub lines-length : (rs : List Record) → length (linesText rs) ≤ lineRoom * length rs
 unfolding linesText
 lines-length [] = omega arith
 lines-length (r ∷ rs) = simp length-append (omega (arith, record-length r, lines-length rs))
@@ -29,20 +38,20 @@ members-length f s k (suc m) = shorter (has s k) (f k) (members f s (k + 1) m) (
     shorter true x xs h = omega arith
     shorter false x xs h = omega arith
 
-rows-length : (nbr : ℕ → ℕ) (a m : ℕ) → m ≤ 64 → length (lineRecords nbr a m) ≤ 64 * m
+rows-length : (nbr : ℕ → ℕ) (a m : ℕ) → m ≤ mostBuses → length (lineRecords nbr a m) ≤ mostBuses * m
 unfolding lineRecords
 rows-length nbr a zero h = omega arith
 rows-length nbr a (suc m) h =
     simp length-append (omega (arith, members-length (Line a) (nbr a) (a + 1) m, rows-length nbr (a + 1) m (omega arith)))
 
--- ---- bounds for up to 64 buses
+-- ---- bounds for a grid
 
-module _ (n : ℕ) (h : n ≤ 64) where
-  pub buses-most : (zeros sites : ℕ) → length (linesText (busRecords zeros sites 1 n)) ≤ 960
+module _ (n : ℕ) (h : n ≤ mostBuses) where
+  pub buses-most : (zeros sites : ℕ) → length (linesText (busRecords zeros sites 1 n)) ≤ rowRoom
   buses-most zeros sites = omega (arith, lines-length (busRecords zeros sites 1 n), buses-length zeros sites 1 n)
 
-  pub rows-most : (nbr : ℕ → ℕ) → length (linesText (lineRecords nbr 1 n)) ≤ 61440
+  pub rows-most : (nbr : ℕ → ℕ) → length (linesText (lineRecords nbr 1 n)) ≤ rowRoom * mostBuses
   rows-most nbr = omega (arith, lines-length (lineRecords nbr 1 n), rows-length nbr 1 n h)
 
-  pub members-most : (f : ℕ → Record) (s : ℕ) → length (linesText (members f s 1 n)) ≤ 960
+  pub members-most : (f : ℕ → Record) (s : ℕ) → length (linesText (members f s 1 n)) ≤ rowRoom
   members-most f s = omega (arith, lines-length (members f s 1 n), members-length f s 1 n)

@@ -1,5 +1,5 @@
 -- Line after line: what is read of the whole text is what is read from where the reader stands.
-use mathlib.Core.Path.{_≡_, refl, sym, _∙_}
+use mathlib.Core.Path.{_≡_, refl, sym, ap₂, _∙_}
 use mathlib.Core.Bool.{Bool, true, false}
 use mathlib.Core.List.{List, [], _∷_}
 use Prim.Native.Nat.{ℕ, suc, _+_, _≤_, _<_}
@@ -9,14 +9,15 @@ use borrow.Author.Tests.{lt-ltb, le-ltb}
 use lib.Dec.{eqb}
 use lib.ListN.{length, getD, drop, drop-of-length-le}
 use lib.Seq.{drop-cons}
+use Rattle.grid.specs.Rows.{Rows, noRows}
 use Rattle.text_field.specs.Split.{split, part, PieceEnd}
 use Rattle.text_field.proofs.Cutting.{after-none, after-some}
 use Rattle.case_line.specs.Record.{recordOf}
 use Rattle.case_line.specs.declared.Record.{Record}
-use Rattle.grid.specs.Cases.{mostBuses, mostBytes}
+use Rattle.grid.specs.Limits.{mostBuses, mostBytes}
 use Rattle.grid.specs.declared.Case.{Case}
 use Rattle.refusals.specs.declared.Refusal.the-variants.{TextTooLong, WrongForm}
-use Rattle.case_build.specs.Building.{nextRows, nextMarks, noRows, noMarks}
+use Rattle.case_build.specs.Building.{nextRows, nextMarks, noMarks}
 use Rattle.case_judge.specs.Judging.{judged, nextPlace}
 use Rattle.case_read.specs.Reading.{Reader, start, caseSoFar, refused, caseEnded, recordSaid, readLines, readText, readCase}
 use Rattle.case_build.specs.declared.Marks.{Marks}
@@ -56,7 +57,7 @@ module _ {A : Type 0} (f : List ℕ → List (List ℕ) → A) (text : List ℕ)
 -- ---- the loop
 
 -- line k starts at index at; a reader at s, with these rows and marks, has read the text from index from up to there
-pub record Going (text : List ℕ) (from′ first : ℕ) (s : Place) (rows : List ℕ) (m : Marks) (k at : ℕ) : Type 0 where
+pub record Going (text : List ℕ) (from′ first : ℕ) (s : Place) (rows : Rows) (m : Marks) (k at : ℕ) : Type 0 where
   pub high : at ≤ length text
   pub few : k ≤ first + at
   pub long : length text ≤ mostBytes
@@ -64,10 +65,17 @@ pub record Going (text : List ℕ) (from′ first : ℕ) (s : Place) (rows : Lis
   pub small : s .n ≤ mostBuses
   pub is : readText first (drop from′ text) ≡ from (record { place = s; rows = rows; marks = m }) k (drop at text)
 
-pub going-first : {text : List ℕ} {from′ first : ℕ} → from′ ≤ length text → length text ≤ mostBytes → first ≤ mostBytes
-    → Going text from′ first (start .place) noRows noMarks first from′
+pub going-first : {text : List ℕ} {from′ first : ℕ} {rows : Rows} {m : Marks} → from′ ≤ length text → length text ≤ mostBytes
+    → first ≤ mostBytes → rows ≡ noRows → m ≡ noMarks → Going text from′ first (start .place) rows m first from′
 unfolding readText
-going-first h l f = record { high = h; few = omega arith; long = l; soon = f; small = omega arith; is = refl }
+going-first {text} {from′} {first} h l f r e = record {
+  high = h;
+  few = omega arith;
+  long = l;
+  soon = f;
+  small = omega arith;
+  is = ap₂ (λ (x : Rows) (y : Marks). from (record { place = start .place; rows = x; marks = y }) first (drop from′ text)) (sym r) (sym e);
+}
 
 module _ {text : List ℕ} {f₀ k₀ : ℕ} {s : Place} {rows : List ℕ} {m : Marks} {k at e : ℕ} (g : Going text f₀ k₀ s rows m k at)
     (p : PieceEnd 10 text at e) where

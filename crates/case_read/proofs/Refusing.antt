@@ -17,7 +17,7 @@ use Rattle.refusals.specs.Refusals.{placeOf}
 use Rattle.case_judge.specs.Judging.{judged}
 use Rattle.case_read.specs.Reading.{Reader, nextReader, start, caseSoFar, refused, caseEnded, recordSaid, readLines, readText}
 use Rattle.case_read.specs.Reading.{readCase}
-use Rattle.grid.specs.Cases.{mostBytes}
+use Rattle.grid.specs.Limits.{mostBytes}
 use Rattle.case_judge.specs.declared.Judgement.{Judgement}
 use Rattle.case_judge.specs.declared.Judgement.the-variants.{Next, Last, Form, Range, Order}
 use Rattle.case_read.specs.declared.ReadAnswer.{ReadAnswer}

@@ -4,10 +4,11 @@ use mathlib.Core.List.{List, [], _∷_}
 use Prim.Native.Nat.{ℕ, _+_}
 use lib.Dec.{ltb}
 use lib.ListN.{length, drop}
+use Rattle.grid.specs.Rows.{noRows}
 use Rattle.text_field.specs.Split.{split, lineFeed}
 use Rattle.case_line.specs.Record.{recordOf}
 use Rattle.case_line.specs.declared.Record.{Record}
-use Rattle.grid.specs.Cases.{mostBytes}
+use Rattle.grid.specs.Limits.{mostBytes}
 use Rattle.grid.specs.declared.Case.{Case}
 use Rattle.refusals.specs.declared.Refusal.{Refusal}
 use Rattle.refusals.specs.declared.Refusal.the-variants.{TextTooLong, WrongForm, OutOfRange, OutOfOrder}
@@ -15,7 +16,7 @@ use Rattle.case_judge.specs.Judging.{judged, nextPlace}
 use Rattle.case_judge.specs.declared.Place.{Place}
 use Rattle.case_judge.specs.declared.Judgement.{Judgement}
 use Rattle.case_judge.specs.declared.Judgement.the-variants.{Next, Last, Form, Range, Order}
-use Rattle.case_build.specs.Building.{nextRows, nextMarks, noRows, noMarks, caseWith, noCase}
+use Rattle.case_build.specs.Building.{nextRows, nextMarks, noMarks, caseWith, noCase}
 use Rattle.case_build.specs.declared.Marks.{Marks}
 use Rattle.case_read.specs.declared.ReadAnswer.the-variants.{Read, Refused}
 use Rattle.case_read.specs.declared.CaseRead.{CaseRead}

@@ -2,14 +2,15 @@
 ghost use mathlib.Core.Path.{_≡_};
 ghost use Prim.Native.Nat.{_<_, _≤_};
 ghost use lib.ListN.{length, drop};
-ghost use Rattle.grid.specs.Cases.{mostBytes};
+ghost use Rattle.grid.specs.Limits.{mostBytes};
 ghost use Rattle.case_read.specs.Reading.{refused, caseEndedAfter, readText, readCase};
-use busset::BusSet;
 use case_build::Marks;
 use case_judge::Judgement;
 use case_judge::Place;
 use case_line::Record;
 use grid::Case;
+use grid::Rows;
+use grid::limits::MOST_BYTES;
 use refusals::Refusal;
 use text_field::piece_end;
 
@@ -30,18 +31,12 @@ pub fn refusal(r: Refusal) -> CaseRead
 {
     CaseRead {
         answer: ReadAnswer::Refused(r),
-        case: Case {
-            n: 0,
-            nbr: [0; 64],
-            zero: 0,
-            site: 0,
-            units: 0,
-        },
+        case: case_build::no_case(),
     }
 }
 
 // What was read, where the line feed of `end` stands at e and line k would follow.
-fn at_end(text: &[u8], e: usize, s: Place, rows: &[BusSet; 64], m: Marks, k: usize) -> CaseRead
+fn at_end(text: &[u8], e: usize, s: Place, rows: &Rows, m: Marks, k: usize) -> CaseRead
     requires { ⌜ e < length (now text) ⌝ }
     ensures { λ r. ⌜ r ≡ caseEndedAfter (record { place = s; rows = now (rows .entry); marks = m })
         k (now (text .entry)) e ⌝ }
@@ -75,12 +70,8 @@ pub fn read_text(text: &[u8], from: usize, first: usize) -> CaseRead
         lines: 0,
         unit: 0,
     };
-    let mut rows: [BusSet; 64] = [0; 64];
-    let mut m = Marks {
-        zero: 0,
-        site: 0,
-        units: 0,
-    };
+    let mut rows = grid::no_rows();
+    let mut m = case_build::no_marks();
     let mut k = first;
     let mut at = from;
     loop {
@@ -117,7 +108,7 @@ pub fn read_text(text: &[u8], from: usize, first: usize) -> CaseRead
 pub fn read_case(text: &[u8]) -> CaseRead
     ensures { λ r. ⌜ r ≡ readCase (now (text .entry)) ⌝ }
 {
-    if 8192 < text.len() {
+    if MOST_BYTES < text.len() {
         return refusal(Refusal::TextTooLong);
     }
     read_text(text, 0, 1)

@@ -6,6 +6,7 @@ use Prim.Native.Nat.{ℕ, suc, _+_, _-_, _*_, _≤_, _<_}
 use native.Mathlib.Omega.{arith}
 use borrow.Author.Tests.{eq-eqb, ne-eqb}
 use lib.ListN.{length, length-append}
+use Rattle.grid.specs.Limits.{mostBuses}
 use Rattle.basics.specs.Deciding.{Decides}
 use Rattle.busset.specs.Sets.{bit, In}
 use Rattle.basics.proofs.Tests.{refutes}
@@ -14,7 +15,7 @@ use Rattle.case_line.specs.declared.Record.{Record}
 use Rattle.case_line.specs.declared.Record.the-variants.{Line}
 use Rattle.case_line.proofs.Lengths.{record-length}
 use Rattle.case_line.specs.CaseText.{has, busRecord, busRecords, members, lineRecords, linesText}
-use Rattle.case_read.proofs.Lengths.{lines-length, members-length}
+use Rattle.case_read.proofs.Lengths.{lines-length, members-length, rowRoom}
 use Rattle.text_put.specs.Put.{Put}
 use Rattle.case_write.specs.Lines.{lineText}
 use Rattle.text_put.proofs.Left.{Left, left-none, left-more, left-all}
@@ -103,8 +104,8 @@ module _ {first count n : ℕ} {l m o : List ℕ} {at end k b q : ℕ} where
       taken true rs = lines-cons _ _
       taken false rs = refl
 
-  pub turn-row : (nbr : ℕ → ℕ) {s : ℕ} → Turn (lineRecords nbr) 960 first count n l at end m k b → b < end → n ≤ 64 → s ≡ nbr b →
-      Put m k (linesText (members (Line b) s (b + 1) (n - b))) o q → Turn (lineRecords nbr) 960 first count n l at end o q (b + 1)
+  pub turn-row : (nbr : ℕ → ℕ) {s : ℕ} → Turn (lineRecords nbr) rowRoom first count n l at end m k b → b < end → n ≤ mostBuses → s ≡ nbr b →
+      Put m k (linesText (members (Line b) s (b + 1) (n - b))) o q → Turn (lineRecords nbr) rowRoom first count n l at end o q (b + 1)
   unfolding lineRecords
   turn-row nbr w h c e p =
       let rs = members (Line b) (nbr b) (b + 1) (n - b) in

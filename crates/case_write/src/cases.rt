@@ -6,7 +6,7 @@ ghost use Prim.Native.Nat.{_+_, _-_, _<_, _≤_, _^_};
 ghost use Rattle.busset.specs.Sets.{Bus, width, setOf};
 ghost use Rattle.case_line.specs.Record.{Formed};
 ghost use Rattle.case_line.specs.declared.Record.the-variants.{Line, Pmu};
-ghost use Rattle.grid.specs.Cases.{neighbours};
+ghost use Rattle.grid.specs.Rows.{neighbours};
 ghost use lib.ListN.{length};
 ghost use Rattle.case_line.specs.CaseText.{busRecord, busRecords, members, lineRecords, linesText, caseText};
 ghost use Rattle.text_put.specs.Put.{Put};
@@ -14,6 +14,7 @@ ghost use Rattle.case_write.specs.Lines.{lineText};
 use busset::BusSet;
 use case_line::Record;
 use grid::Case;
+use grid::Rows;
 
 // A record and its line feed where t, and nothing otherwise.
 fn put_if(out: &mut [u8], at: usize, t: bool, r: Record) -> usize
@@ -70,7 +71,7 @@ fn put_row(out: &mut [u8], at: usize, n: usize, row: BusSet, a: usize) -> usize
 }
 
 // The lines of the buses 1 to n, each at its lower bus.
-fn put_lines(out: &mut [u8], at: usize, n: usize, nbr: &[BusSet; 64]) -> usize
+fn put_lines(out: &mut [u8], at: usize, n: usize, nbr: &Rows) -> usize
     requires { ⌜ (at < 2 ^ 15) × (n ≤ width) ⌝ }
     ensures { λ k. ⌜ Put (now (out .entry)) at
         (linesText (lineRecords (neighbours (now (nbr .entry))) 1 n))

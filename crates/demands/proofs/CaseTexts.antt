@@ -12,7 +12,7 @@ use Rattle.refusals.specs.declared.Refusal.the-variants.{WrongForm, OutOfRange,
 use Rattle.refusals.specs.Refusals.{Check, checkThat}
 use Rattle.refusals.proofs.Orders.{itself}
 use Rattle.case_judge.specs.Judging.{inPlace, inRange, inOrder, nextOrLast, judged}
-use Rattle.grid.specs.Cases.{mostBytes}
+use Rattle.grid.specs.Limits.{mostBytes}
 use Rattle.case_read.specs.Reading.{Reader, start, nextReader, caseSoFar, got, refused, caseEnded, recordSaid, readLines, readText}
 use Rattle.case_read.specs.Reading.{readCase}
 use Rattle.case_read.specs.declared.CaseRead.{CaseRead}

@@ -20,7 +20,8 @@ use Rattle.rules.proofs.Leasts.{all-closed}
 use Rattle.rules.proofs.Lists.{accepted-inside, accepted-length, finished-length}
 use Rattle.grid.specs.declared.Case.{Case}
 use Rattle.refusals.specs.declared.Refusal.{Refusal}
-use Rattle.grid.specs.Cases.{mostSteps, gridOf, Valid, mostBudget}
+use Rattle.grid.specs.Limits.{mostSteps, mostBudget}
+use Rattle.grid.specs.Cases.{gridOf, Valid}
 use Rattle.refusals.specs.Refusals.{Is, Passed, Failed}
 use Rattle.refusals.proofs.Orders.{failed-or-passed}
 use Rattle.list_follow.specs.Following.{checksFrom}
@@ -89,19 +90,19 @@ replay-exact c xs r v p = record {
 
 -- ---- the fewest
 
-refused-none : (c : Case) (budget : ℕ) (q : Refusal) → Valid c → budget ≤ mostBudget → Failed (fewestChecks c budget) q
+refused-none : (c : Case) (budget : ℕ) (q : Refusal) → Valid c → budget ≤ mostBudget (c .n) → Failed (fewestChecks c budget) q
     → Is 11 0 q × (placing.SomeAddition (gridOf c) budget → ⊥)
 refused-none c budget q v l (inl a) = absurd (a .0 v)
 refused-none c budget q v l (inr (_, inl a)) = absurd (a .0 l)
 refused-none c budget q v l (inr (_, inr (_, inl a))) = (a .1, a .0)
 refused-none c budget q v l (inr (_, inr (_, inr (_, a)))) = absurd a
 
-none-refused : (c : Case) (budget : ℕ) (r : Fewest) → Valid c → budget ≤ mostBudget → FewestReply c budget r
+none-refused : (c : Case) (budget : ℕ) (r : Fewest) → Valid c → budget ≤ mostBudget (c .n) → FewestReply c budget r
     → (placing.SomeAddition (gridOf c) budget → ⊥) → Refuses fewest.Refused r 11 0
 none-refused c budget (fewest.Sites m) v l p n = absurd (n (p .0 .1 .1 .0))
 none-refused c budget (fewest.Refused q) v l p n = (q, refl, refused-none c budget q v l p .0)
 
-too-small : (c : Case) (budget : ℕ) (r : Fewest) → Valid c → budget ≤ mostBudget → FewestReply c budget r
+too-small : (c : Case) (budget : ℕ) (r : Fewest) → Valid c → budget ≤ mostBudget (c .n) → FewestReply c budget r
     → TooSmallExactly (gridOf c) budget r
 too-small c budget r v l p =
     record { due = none-refused c budget r v l p; given = λ q e. refused-none c budget q v l (subst (FewestReply c budget) e p) }

@@ -1,5 +1,6 @@
 -- What document 01 says besides the demands: each sentence is a theorem of a lower crate, said of the call's promise.
 use mathlib.Core.Path.{sym, _∙_, subst⁻¹}
+use Rattle.grid.specs.Limits.{mostBuses}
 use Rattle.rules.specs.Figures.{Runs}
 use Rattle.rules.proofs.Leasts.{least-empty}
 use Rattle.rules.proofs.Figures.{figure-runs, figure-one, one-figure}
@@ -14,7 +15,7 @@ pub document-01 : Document01
 document-01 = record {
   least-empty = least-empty;
   figure-range = λ c s i j z p.
-      subst⁻¹ (Runs 62) (p .1) (figure-runs (gridOf c) 62 (stated c s) i j (p .0 .0 .proper) (p .0 .0 .buses .most) (p .0 .1 .1 .0));
+      subst⁻¹ (Runs (mostBuses - 2)) (p .1) (figure-runs (gridOf c) (mostBuses - 2) (stated c s) i j (p .0 .0 .proper) (p .0 .0 .buses .most) (p .0 .1 .1 .0));
   figure-usable = λ c s i j z p. record {
     observed = λ e. one-figure (gridOf c .neighbours) (stated c s) i j (p .0 .1 .1 .0) (sym (p .1) ∙ e);
     one = λ h b. p .1 ∙ figure-one (gridOf c .neighbours) (stated c s) i j (p .0 .1 .1 .0) h b;

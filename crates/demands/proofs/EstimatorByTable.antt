@@ -7,7 +7,7 @@ use Prim.Native.Nat.{ℕ, _+_, _*_, _≤_}
 use native.Mathlib.Omega.{arith}
 use lib.Dec.{T, lit<, lit≤, ltb, ltb→lt, nltb→le}
 use lib.ListN.{length, drop}
-use Rattle.busset.specs.Bytes.{setBytes}
+use Rattle.busset.specs.Bytes.{setBytes, setLength}
 use Rattle.grid.specs.declared.Case.{Case}
 use Rattle.refusals.specs.declared.Refusal.{Refusal}
 use Rattle.refusals.specs.Refusals.{numberOf, placeOf, Is, Check, Failed}
@@ -68,22 +68,22 @@ code-ends checks lent r n k f e s l =
     (λ m o h. coded-is r n k m o e l h)
 
 -- a set's: 0, or 6 where fewer than eight bytes are lent
-set-ends : (lent : List ℕ) (b : Bool) (r : ℕ) → ltb (length lent) 8 ≡ b → r ≡ cond b 6 0 → Ends (roomForSet lent) (Coded r)
+set-ends : (lent : List ℕ) (b : Bool) (r : ℕ) → ltb (length lent) setLength ≡ b → r ≡ cond b 6 0 → Ends (roomForSet lent) (Coded r)
 set-ends lent true r h e =
     inr (
       6,
       0,
-      inl (λ l. omega (arith, l, ltb→lt (length lent) 8 (subst⁻¹ T h tt)), refl, refl),
+      inl (λ l. omega (arith, l, ltb→lt (length lent) setLength (subst⁻¹ T h tt)), refl, refl),
       record { is = e; some = lit≤ tt; most = lit< tt },
       λ m o k. coded-is r 6 0 m o e (lit≤ tt) k,
     )
 set-ends lent false r h e =
-    inl ((nltb→le (length lent) 8 (subst⁻¹ (λ (b : Bool). T (not b)) h tt), tt), λ n k c. omega (arith, e, c .is, c .some))
+    inl ((nltb→le (length lent) setLength (subst⁻¹ (λ (b : Bool). T (not b)) h tt), tt), λ n k c. omega (arith, e, c .is, c .some))
 
 result-ends : (checks : List Check) (a : Answer) (lent left : List ℕ) (r : ℕ) → Ends checks (AnswerRefuses a) → Replied a lent left r
     → Ends (checks ++ roomForSet lent) (Coded r)
 result-ends checks (Set s) lent left r (inl h) p =
-    ends-later checks (roomForSet lent) (Coded r) (h .0) (set-ends lent (ltb (length lent) 8) r refl (p .result))
+    ends-later checks (roomForSet lent) (Coded r) (h .0) (set-ends lent (ltb (length lent) setLength) r refl (p .result))
 result-ends checks (Refused q) lent left r (inl h) p = absurd (h .1 (numberOf q) (placeOf q) (itself q))
 result-ends checks (Unread q) lent left r (inl h) p =
     absurd (h .1 (numberOf q + 50) (placeOf q) (record { numbered = refl; placed = refl }))
@@ -97,9 +97,9 @@ result-ends checks (Unread q) lent left r (inr (n, k, f, h, one)) p =
 
 -- a result that is a refusal leaves every byte
 bytes-kept : (a : Answer) (lent left : List ℕ) (r : ℕ) → Replied a lent left r → (n k : ℕ) → Coded r n k → left ≡ lent
-bytes-kept (Set s) lent left r p n k c = p .bytes ∙ go (ltb (length lent) 8) (p .result)
+bytes-kept (Set s) lent left r p n k c = p .bytes ∙ go (ltb (length lent) setLength) (p .result)
   where
-    go : (b : Bool) → r ≡ cond b 6 0 → cond b lent (setBytes s ++ drop 8 lent) ≡ lent
+    go : (b : Bool) → r ≡ cond b 6 0 → cond b lent (setBytes s ++ drop setLength lent) ≡ lent
     go true e = refl
     go false e = absurd (omega (arith, e, c .is, c .some))
 bytes-kept (Refused q) lent left r p n k c = p .bytes

@@ -7,7 +7,8 @@ use native.Mathlib.Omega.{arith}
 use lib.Dec.{lit<, lit≤}
 use lib.ListN.{length, drop}
 use Rattle.grid.specs.declared.Case.{Case}
-use Rattle.grid.specs.Cases.{mostSteps, Valid}
+use Rattle.grid.specs.Limits.{mostSteps}
+use Rattle.grid.specs.Cases.{Valid}
 use Rattle.refusals.specs.Refusals.{Check, checkThat, Passed}
 use Rattle.refusals.proofs.Orders.{failed-or-passed}
 use Rattle.case_read.specs.Reading.{refused, readCase}

@@ -4,6 +4,8 @@ use mathlib.Core.List.{List}
 use Prim.Native.Nat.{ℕ, _≤_}
 use native.Mathlib.Omega.{arith}
 use lib.ListN.{length}
+use Rattle.report_plan.specs.Plan.{planRoom}
+use Rattle.report_day.specs.Day.{dayRoom}
 use Rattle.refusals.specs.declared.Written.{Written}
 use Rattle.refusals.specs.declared.Written.the-variants.{Bytes, Refused}
 use Rattle.report_lines.specs.Printing.{PrintedReply}
@@ -25,6 +27,6 @@ programs = record {
   plan-replies = met-plan.met;
   day-prints = λ κs text out. (tt, λ k left told. told);
   plan-prints = λ κs input out. (tt, λ k left told. told);
-  day-room = λ text lent left r e. has-room _ 860 (day-fits text) lent left r (omega (arith, e));
-  plan-room = λ input lent left r e. has-room _ 69 (plan-fits input) lent left r (omega (arith, e));
+  day-room = λ text lent left r e. has-room _ dayRoom (day-fits text) lent left r (omega (arith, e));
+  plan-room = λ input lent left r e. has-room _ planRoom (plan-fits input) lent left r (omega (arith, e));
 }

@@ -15,7 +15,7 @@ use Rattle.refusals.specs.declared.Refusal.{Refusal}
 use Rattle.refusals.specs.declared.Refusal.the-variants.{TextTooLong, WrongForm}
 use Rattle.refusals.specs.Refusals.{Check, checkThat, Passed, Failed}
 use Rattle.refusals.proofs.Orders.{itself, failed-unique, failed-or-passed, passed-then, failed-sooner, failed-later}
-use Rattle.grid.specs.Cases.{mostBytes}
+use Rattle.grid.specs.Limits.{mostBytes}
 use Rattle.case_read.specs.Reading.{start, refused, readLines, readCase}
 use Rattle.case_read.specs.declared.CaseRead.{CaseRead}
 use Rattle.report_lines.specs.Printing.{IsRefusedText, PrintedReply}

@@ -9,7 +9,7 @@ use Rattle.text_field.specs.Split.{split, lineFeed}
 use Rattle.step_line.specs.StepLine.{stepLineOf}
 use Rattle.step_line.specs.declared.StepLine.{StepLine}
 use Rattle.step_line.specs.declared.StepLine.the-variants as line
-use Rattle.grid.specs.Cases.{mostSteps, mostStepBytes}
+use Rattle.grid.specs.Limits.{mostSteps, mostStepBytes}
 use Rattle.refusals.specs.declared.Refusal.the-variants.{WrongForm, OutOfRange, TooManySteps}
 use Rattle.refusals.specs.Refusals.{Check, checkThat}
 use Rattle.refusals.proofs.Orders.{itself}

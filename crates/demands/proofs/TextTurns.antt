@@ -17,7 +17,7 @@ use Rattle.case_line.specs.declared.Record.the-variants.{Grid, Bus, Line, Pmu, 
 use Rattle.step_line.specs.declared.StepLine.{StepLine}
 use Rattle.step_line.specs.declared.StepLine.the-variants as line
 use Rattle.case_judge.specs.Judging.{inOrder}
-use Rattle.grid.specs.Cases.{mostBytes}
+use Rattle.grid.specs.Limits.{mostBytes}
 use Rattle.case_read.specs.Reading.{Reader, start, nextReader}
 use Rattle.demands.specs.Order.{turnOf12, turn, Precedes, InTableOrder}
 use Rattle.demands.proofs.Turns.{in-table, Ahead, ahead-most, ahead-first, TurnsBy, ComesAfter, later-follows}

@@ -11,7 +11,7 @@ use Rattle.step.specs.declared.Step.{Step}
 use Rattle.busset.specs.Sets.{empty, add}
 use Rattle.rules.specs.Weaving.{woven}
 use Rattle.grid.specs.declared.Case.{Case}
-use Rattle.grid.specs.Cases.{mostSteps}
+use Rattle.grid.specs.Limits.{mostSteps}
 use Rattle.refusals.specs.Refusals.{Check, checkThat}
 use Rattle.list_follow.specs.Following.{checksFrom}
 use Rattle.list_follow.specs.Replies.{replayChecks, weaveChecks}

@@ -14,7 +14,8 @@ use Rattle.rules.specs.Steps.{reached, Accepted, Finished}
 use Rattle.rules.specs.Placing as placing
 use Rattle.grid.specs.declared.Case.{Case}
 use Rattle.refusals.specs.declared.Refusal.{Refusal}
-use Rattle.grid.specs.Cases.{mostBuses, gridOf, Valid, mostBudget}
+use Rattle.grid.specs.Limits.{mostBuses, mostBudget}
+use Rattle.grid.specs.Cases.{gridOf, Valid}
 use Rattle.refusals.specs.Refusals.{Is}
 use Rattle.list_follow.specs.Replies.{ReplayReply}
 use Rattle.list_follow.specs.declared.Replayed.{Replayed}
@@ -57,7 +58,7 @@ pub record Demand2 : Type 0 where
   pub fewest : (c : Case) (budget sites : ℕ) → FewestReply c budget (fewest.Sites sites)
       → placing.FewestSites (gridOf c) budget (setOf sites)
   -- for a valid case, a budget of at most 8 is refused as too small exactly when none within it does
-  pub too-small : (c : Case) (budget : ℕ) (r : Fewest) → Valid c → budget ≤ mostBudget → FewestReply c budget r
+  pub too-small : (c : Case) (budget : ℕ) (r : Fewest) → Valid c → budget ≤ mostBudget (c .n) → FewestReply c budget r
       → TooSmallExactly (gridOf c) budget r
   -- case texts read and written are inverse: what is written is read back
   pub read-back : (c : Case) (lent left : List ℕ) (count : ℕ) → Sized c → CaseWrittenReply c lent (written.Bytes count) left

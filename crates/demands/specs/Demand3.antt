@@ -14,7 +14,8 @@ use Rattle.rules.specs.Steps.{reached, Accepted, Finished}
 use Rattle.basics.specs.Lists.{Each, Some}
 use Rattle.rules.specs.Weaving.{woven, Shuffle}
 use Rattle.grid.specs.declared.Case.{Case}
-use Rattle.grid.specs.Cases.{mostSteps, gridOf, Valid}
+use Rattle.grid.specs.Limits.{mostSteps}
+use Rattle.grid.specs.Cases.{gridOf, Valid}
 use Rattle.list_follow.specs.Replies.{WeaveReply}
 use Rattle.list_follow.specs.declared.Wove.{Wove}
 use Rattle.list_follow.specs.declared.Wove.the-variants as wove

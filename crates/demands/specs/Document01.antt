@@ -11,7 +11,8 @@ use Rattle.rules.specs.Observation.{AllBut, ObservedSet}
 use Rattle.rules.specs.Steps.{Names}
 use Rattle.rules.specs.Figures.{Runs}
 use Rattle.grid.specs.declared.Case.{Case}
-use Rattle.grid.specs.Cases.{mostBuses, mostSteps, mostBytes, gridOf, Valid}
+use Rattle.grid.specs.Limits.{mostBuses, mostSteps, mostBytes}
+use Rattle.grid.specs.Cases.{gridOf, Valid}
 use Rattle.case_read.specs.Reading.{got}
 use Rattle.case_line.specs.CaseText.{caseText}
 use Rattle.step_text.specs.Steps.{stepsOf}
@@ -37,7 +38,7 @@ pub record Document01 : Type 0 where
   -- with no units the observed set is empty
   pub least-empty : (g : Grid) → g .units ≡ empty → ObservedSet g empty
   -- the firing figure runs from -62 to 1
-  pub figure-range : (c : Case) (s i j : ℕ) (z : ℤ) → FigureReply c s i j (figured.Figure z) → Runs 62 z
+  pub figure-range : (c : Case) (s i j : ℕ) (z : ℤ) → FigureReply c s i j (figured.Figure z) → Runs (mostBuses - 2) z
   -- it is 1 exactly when i and all its other neighbours are observed
   pub figure-usable : (c : Case) (s i j : ℕ) (z : ℤ) → FigureReply c s i j (figured.Figure z) → OneExactly (gridOf c) (stated c s) i j z
   -- two different texts never give the same case

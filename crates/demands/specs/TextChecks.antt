@@ -4,6 +4,7 @@ use mathlib.Core.Bool.{Bool, true, false}
 use mathlib.Core.List.{List, [], _∷_, _++_}
 use Prim.Native.Nat.{ℕ, _+_, _≤_}
 use lib.ListN.{length}
+use Rattle.busset.specs.Bytes.{setLength}
 use Rattle.text_field.specs.Split.{split, lineFeed}
 use Rattle.text_field.specs.declared.Numeral.{Numeral}
 use Rattle.text_field.specs.declared.Numeral.the-variants as numeral
@@ -14,7 +15,7 @@ use Rattle.case_line.specs.declared.Record.the-variants.{Grid, Bus, Line, Pmu, 
 use Rattle.step_line.specs.declared.StepLine.{StepLine}
 use Rattle.step_line.specs.declared.StepLine.the-variants as line
 use Rattle.grid.specs.declared.Case.{Case}
-use Rattle.grid.specs.Cases.{mostSteps, mostBytes, mostStepBytes}
+use Rattle.grid.specs.Limits.{mostSteps, mostBytes, mostStepBytes}
 use Rattle.refusals.specs.Refusals.{Check, checkThat}
 use Rattle.case_judge.specs.Judging.{inPlace, inRange, inOrder}
 use Rattle.case_read.specs.Reading.{Reader, start, nextReader, readCase}
@@ -114,7 +115,7 @@ textReplayChecks c text = withFifty (stepTextChecks text) ++ replayChecks c (ste
 
 -- the set has room, or 6
 abbrev pub roomForSet : List ℕ → List Check
-roomForSet lent = checkThat (8 ≤ length lent) 6 0 ∷ []
+roomForSet lent = checkThat (setLength ≤ length lent) 6 0 ∷ []
 
 -- the case text, then what the call on its case checks, then 6
 abbrev pub estimatorChecks : List ℕ → (Case → List Check) → List ℕ → List Check

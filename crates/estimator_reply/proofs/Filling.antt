@@ -4,14 +4,14 @@ use mathlib.Core.List.{List, _++_}
 use Prim.Native.Nat.{ℕ, _+_, _≤_, _<_}
 use native.Mathlib.Omega.{arith}
 use lib.ListN.{length, drop, set}
-use Rattle.busset.specs.Bytes.{byteOf, setBytes}
+use Rattle.busset.specs.Bytes.{byteOf, setBytes, setLength}
 use Rattle.busset.proofs.Packing.{byte-at}
 use Rattle.step.proofs.Writing.{WrittenSoFar, written-more}
 
-pub filled-more : (s : ℕ) {lent room : List ℕ} {i b : ℕ} → WrittenSoFar (setBytes s) lent room i → i < 8 → 8 ≤ length lent → b ≡ byteOf s i
+pub filled-more : (s : ℕ) {lent room : List ℕ} {i b : ℕ} → WrittenSoFar (setBytes s) lent room i → i < setLength → setLength ≤ length lent → b ≡ byteOf s i
     → WrittenSoFar (setBytes s) lent (set room i b) (i + 1)
 filled-more s {lent} {room} {i} {b} w l m e =
     subst (λ (x : ℕ). WrittenSoFar (setBytes s) lent (set room i x) (i + 1)) (byte-at s i l ∙ sym e) (written-more 0 w l (omega arith))
 
-pub filled-all : (s : ℕ) {lent room : List ℕ} {i : ℕ} → WrittenSoFar (setBytes s) lent room i → i ≡ 8 → room ≡ setBytes s ++ drop 8 lent
+pub filled-all : (s : ℕ) {lent room : List ℕ} {i : ℕ} → WrittenSoFar (setBytes s) lent room i → i ≡ setLength → room ≡ setBytes s ++ drop setLength lent
 filled-all s {lent} {room} w e = subst (λ (k : ℕ). WrittenSoFar (setBytes s) lent room k) e w .is

@@ -8,7 +8,7 @@ use native.Mathlib.Omega.{arith}
 use lib.Dec.{ltb}
 use borrow.Author.Tests.{lt-ltb, le-ltb}
 use lib.ListN.{length, drop}
-use Rattle.busset.specs.Bytes.{setBytes}
+use Rattle.busset.specs.Bytes.{setBytes, setLength}
 use Rattle.basics.proofs.Tests.{below-or}
 use Rattle.refusals.specs.declared.Refusal.{Refusal}
 use Rattle.refusals.specs.declared.Refusal.the-variants.{NoRoom}
@@ -25,37 +25,37 @@ code-small q h = omega (arith, number-most q)
 code-some : (q : Refusal) → codeOf q ≡ 0 → ⊥
 code-some q e = omega (arith, number-some q)
 
-no-room : {A : Type 0} {room : ℕ} (x y : A) → room < 8 → cond (ltb room 8) x y ≡ x
+no-room : {A : Type 0} {room : ℕ} (x y : A) → room < setLength → cond (ltb room setLength) x y ≡ x
 no-room x y l = rw (lt-ltb _ _ l) refl
 
-has-room : {A : Type 0} {room : ℕ} (x y : A) → 8 ≤ room → cond (ltb room 8) x y ≡ y
+has-room : {A : Type 0} {room : ℕ} (x y : A) → setLength ≤ room → cond (ltb room setLength) x y ≡ y
 has-room x y l = rw (le-ltb _ _ l) refl
 
 -- a result of 0 says that there is room for a set
-pub room-for : (a : Answer) (room : ℕ) → resultOf a room ≡ 0 → 8 ≤ room
+pub room-for : (a : Answer) (room : ℕ) → resultOf a room ≡ 0 → setLength ≤ room
 room-for (Set s) room e =
-    ⊎-elim (λ (l : room < 8). absurd (code-some NoRoom (sym (no-room _ _ l) ∙ e))) (λ (l : 8 ≤ room). l) (below-or room 8)
+    ⊎-elim (λ (l : room < setLength). absurd (code-some NoRoom (sym (no-room _ _ l) ∙ e))) (λ (l : setLength ≤ room). l) (below-or room setLength)
 room-for (Refused q) room e = absurd (code-some q e)
 room-for (Unread q) room e = absurd (omega arith)
 
 -- the bytes where the result is 0, and where it is not
-pub bytes-filled : (a : Answer) (lent : List ℕ) → resultOf a (length lent) ≡ 0 → setBytes (setIn a) ++ drop 8 lent ≡ leftBy a lent
+pub bytes-filled : (a : Answer) (lent : List ℕ) → resultOf a (length lent) ≡ 0 → setBytes (setIn a) ++ drop setLength lent ≡ leftBy a lent
 bytes-filled (Set s) lent e = sym (has-room _ _ (room-for (Set s) (length lent) e))
 bytes-filled (Refused q) lent e = absurd (code-some q e)
 bytes-filled (Unread q) lent e = absurd (omega arith)
 
 pub bytes-kept : (a : Answer) (lent : List ℕ) → (resultOf a (length lent) ≡ 0 → ⊥) → lent ≡ leftBy a lent
 bytes-kept (Set s) lent n =
-    ⊎-elim (λ (l : length lent < 8). sym (no-room _ _ l)) (λ (l : 8 ≤ length lent). absurd (n (has-room _ _ l))) (below-or (length lent) 8)
+    ⊎-elim (λ (l : length lent < setLength). sym (no-room _ _ l)) (λ (l : setLength ≤ length lent). absurd (n (has-room _ _ l))) (below-or (length lent) setLength)
 bytes-kept (Refused q) lent n = refl
 bytes-kept (Unread q) lent n = refl
 
 -- the result, by the answer
 module _ {a : Answer} (room : ℕ) where
-  pub result-short : {s r : ℕ} → a ≡ Set s → room < 8 → r ≡ codeOf NoRoom → r ≡ resultOf a room
+  pub result-short : {s r : ℕ} → a ≡ Set s → room < setLength → r ≡ codeOf NoRoom → r ≡ resultOf a room
   result-short {r = r} t l e = subst⁻¹ (λ (x : Answer). r ≡ resultOf x room) t (e ∙ sym (no-room _ _ l))
 
-  pub result-set : {s : ℕ} → a ≡ Set s → 8 ≤ room → 0 ≡ resultOf a room
+  pub result-set : {s : ℕ} → a ≡ Set s → setLength ≤ room → 0 ≡ resultOf a room
   result-set t l = subst⁻¹ (λ (x : Answer). 0 ≡ resultOf x room) t (sym (has-room _ _ l))
 
   pub result-refused : {q : Refusal} {r : ℕ} → a ≡ Refused q → r ≡ codeOf q → r ≡ resultOf a room

@@ -5,11 +5,11 @@ use mathlib.Core.List.{List, _++_}
 use Prim.Native.Nat.{ℕ, _+_, _*_, _≤_}
 use lib.Dec.{ltb}
 use lib.ListN.{length, drop}
-use Rattle.busset.specs.Bytes.{setBytes}
+use Rattle.busset.specs.Bytes.{setBytes, setLength}
 use Rattle.refusals.specs.declared.Refusal.{Refusal}
 use Rattle.refusals.specs.declared.Refusal.the-variants.{NoRoom}
 use Rattle.refusals.specs.Refusals.{numberOf, placeOf}
-use Rattle.grid.specs.Cases.{mostStepBytes}
+use Rattle.grid.specs.Limits.{mostStepBytes}
 use Rattle.estimator_reply.specs.declared.Answer.{Answer}
 use Rattle.estimator_reply.specs.declared.Answer.the-variants.{Set, Refused, Unread}
 
@@ -19,13 +19,13 @@ codeOf q = 100 * placeOf q + numberOf q
 
 -- the result if `room` bytes are lent: 0, or a refusal, plus 50 in reading the step text; fewer than eight bytes are 6, after all others
 abbrev pub resultOf : Answer → ℕ → ℕ
-resultOf (Set s) room = cond (ltb room 8) (codeOf NoRoom) 0
+resultOf (Set s) room = cond (ltb room setLength) (codeOf NoRoom) 0
 resultOf (Refused q) room = codeOf q
 resultOf (Unread q) room = codeOf q + 50
 
 -- the bytes lent, afterwards: the set in the first eight and the others as they were; a refusal leaves all
 abbrev pub leftBy : Answer → List ℕ → List ℕ
-leftBy (Set s) lent = cond (ltb (length lent) 8) lent (setBytes s ++ drop 8 lent)
+leftBy (Set s) lent = cond (ltb (length lent) setLength) lent (setBytes s ++ drop setLength lent)
 leftBy (Refused q) lent = lent
 leftBy (Unread q) lent = lent
 

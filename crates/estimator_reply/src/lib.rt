@@ -3,10 +3,11 @@ ghost use mathlib.Core.Path.{_≡_};
 ghost use mathlib.Core.List.{_++_};
 ghost use Prim.Native.Nat.{_≤_};
 ghost use lib.ListN.{length, drop};
-ghost use Rattle.busset.specs.Bytes.{setBytes};
+ghost use Rattle.busset.specs.Bytes.{setBytes, setLength};
 ghost use Rattle.refusals.specs.Refusals.{placeOf};
 ghost use Rattle.estimator_reply.specs.Results.{farthest, PlaceInRange, codeOf, resultOf, setIn, Replied};
 use busset::BusSet;
+use busset::SET_BYTES;
 use refusals::Refusal;
 
 // A set, a refusal, or a refusal in reading the step text.
@@ -28,10 +29,10 @@ fn code(q: Refusal) -> u32
 
 // The set goes into the first eight bytes lent.
 fn fill(s: BusSet, set: &mut [u8])
-    requires { ⌜ 8 ≤ length (now set) ⌝ }
-    ensures { λ _. ⌜ now (set .exit) ≡ setBytes s ++ drop 8 (now (set .entry)) ⌝ }
+    requires { ⌜ setLength ≤ length (now set) ⌝ }
+    ensures { λ _. ⌜ now (set .exit) ≡ setBytes s ++ drop setLength (now (set .entry)) ⌝ }
 {
-    for i in 0..8 {
+    for i in 0..SET_BYTES {
         set[i] = busset::byte_of(s, i);
     }
 }
@@ -54,7 +55,7 @@ fn result(answer: Answer, room: usize) -> u32
 {
     match answer {
         Answer::Set(_) => {
-            if room < 8 {
+            if room < SET_BYTES {
                 return code(Refusal::NoRoom);
             }
             0

@@ -10,7 +10,9 @@ use Rattle.basics.proofs.Tests.{below-or, decides-by}
 use Rattle.busset.proofs.Digits.{bit-zero}
 use Rattle.busset.proofs.Members.{without-of, without-sub}
 use Rattle.rules.specs.Grids.{Line, lineCount}
-use Rattle.grid.specs.Cases.{mostBuses, mostLines, neighbours, LinesAt, Lines, Valid}
+use Rattle.grid.specs.Limits.{mostBuses, mostLines}
+use Rattle.grid.specs.Rows.{neighbours}
+use Rattle.grid.specs.Cases.{LinesAt, Lines, Valid}
 use Rattle.grid.specs.declared.Case.{Case}
 
 -- ---- one line

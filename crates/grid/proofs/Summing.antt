@@ -2,7 +2,7 @@
 use mathlib.Core.Path.{_≡_, refl, ap, _∙_}
 use Prim.Native.Nat.{ℕ, zero, suc, _+_, _-_, _*_, _≤_}
 use native.Mathlib.Omega.{arith}
-use Rattle.busset.specs.Sets.{size, upTo}
+use Rattle.busset.specs.Sets.{size, upTo, width}
 use Rattle.rules.specs.Grids.{total, lineCount}
 
 total-step : (b : ℕ) (f : ℕ → ℕ) → 1 ≤ b → total b f ≡ total (b - 1) f + f b
@@ -14,13 +14,13 @@ total-step (suc b) f l = let e : b ≡ suc b - 1 = omega arith in ap (λ (k : �
 pub record Summed (nbr : ℕ → ℕ) (b sum : ℕ) : Type 0 where
   pub low : 1 ≤ b
   pub is : sum ≡ lineCount (b - 1) nbr
-  pub most : sum ≤ 64 * b
+  pub most : sum ≤ width * b
 
 pub summed-none : (nbr : ℕ → ℕ) → Summed nbr 1 0
 unfolding total
 summed-none nbr = record { low = omega arith; is = refl; most = omega arith }
 
-pub summed-more : {nbr : ℕ → ℕ} {b sum r u m : ℕ} → Summed nbr b sum → m ≡ nbr b → u ≡ upTo b m → r ≡ size u → r ≤ 64
+pub summed-more : {nbr : ℕ → ℕ} {b sum r u m : ℕ} → Summed nbr b sum → m ≡ nbr b → u ≡ upTo b m → r ≡ size u → r ≤ width
     → Summed nbr (b + 1) (sum + r)
 summed-more {nbr} {b} {sum} {r} {u} {m} s em eu er l = record {
   low = omega arith;

@@ -1,4 +1,8 @@
--- the case value: the limits, its view as a grid, and when it is valid
+-- the limits of document 01
+pub mod Limits
+-- the neighbours of all buses
+pub mod Rows
+-- the case value: its view as a grid, and when it is valid
 pub mod Cases
 -- a set of buses with their neighbours
 pub mod Near

@@ -4,32 +4,53 @@ ghost use Prim.Native.Nat.{_≤_};
 ghost use Rattle.basics.specs.Deciding.{Decides};
 ghost use Rattle.busset.specs.Sets.{Bus, width, setOf};
 ghost use Rattle.rules.specs.Placing.{Full};
-ghost use Rattle.grid.specs.Cases.{neighbours};
+ghost use Rattle.grid.specs.Rows.{neighbours, withRow, noRows};
 ghost use Rattle.grid.specs.Near.{WithNeighbours};
 
+pub mod limits;
 pub mod validity;
 
 use busset::BusSet;
+use limits::MOST_BUSES;
 
-// A grid as a caller lends it: the neighbours of bus b stand at b - 1.
+// The neighbours of all buses: those of bus b are at b - 1. No other crate reads or writes a place of it.
+pub type Rows = [BusSet; MOST_BUSES];
+
+// A grid as a caller lends it.
 pub struct Case {
     pub n: usize,
-    pub nbr: [BusSet; 64],
+    pub nbr: Rows,
     pub zero: BusSet,
     pub site: BusSet,
     pub units: BusSet,
 }
 
 // The neighbours of bus b.
-pub fn row(nbr: &[BusSet; 64], b: usize) -> BusSet
+pub fn row(nbr: &Rows, b: usize) -> BusSet
     requires { ⌜ Bus width b ⌝ }
     ensures { λ r. ⌜ setOf r ≡ neighbours (now (nbr .entry)) b ⌝ }
 {
     nbr[b - 1]
 }
 
+// Puts the neighbours of bus b.
+pub fn set_row(rows: &mut Rows, b: usize, s: BusSet)
+    requires { ⌜ Bus width b ⌝ }
+    ensures { λ _. ⌜ now (rows .exit) ≡ withRow (now (rows .entry)) b s ⌝ }
+{
+    rows[b - 1] = s;
+}
+
+// No line.
+pub fn no_rows() -> Rows
+    ensures { λ r. ⌜ r ≡ noRows ⌝ }
+{
+    let none = busset::none();
+    [none; MOST_BUSES]
+}
+
 // These buses and their neighbours.
-pub fn with_neighbours(nbr: &[BusSet; 64], buses: BusSet) -> BusSet
+pub fn with_neighbours(nbr: &Rows, buses: BusSet) -> BusSet
     ensures { λ r. ⌜ WithNeighbours (neighbours (now (nbr .entry))) (setOf buses) (setOf r) ⌝ }
 {
     let mut near = busset::none();

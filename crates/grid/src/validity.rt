@@ -2,15 +2,19 @@
 ghost use mathlib.Core.Path.{_≡_};
 ghost use Prim.Native.Nat.{_≤_};
 ghost use lib.ListN.{length};
+ghost use Rattle.grid.specs.Limits.{mostBuses};
 ghost use Rattle.basics.specs.Deciding.{Decides};
 ghost use Rattle.busset.specs.Sets.{Bus, width};
 ghost use Rattle.rules.specs.Grids.{Line, lineCount};
-ghost use Rattle.grid.specs.Cases.{neighbours, Valid, Lines, LinesAt};
+ghost use Rattle.grid.specs.Rows.{neighbours};
+ghost use Rattle.grid.specs.Cases.{Valid, Lines, LinesAt};
 use crate::Case;
-use busset::BusSet;
+use crate::Rows;
+use crate::limits::MOST_BUSES;
+use crate::limits::MOST_LINES;
 
 // Whether a and b, joined as seen from a, have a line.
-pub fn is_line(n: usize, nbr: &[BusSet; 64], a: usize, b: usize) -> bool
+pub fn is_line(n: usize, nbr: &Rows, a: usize, b: usize) -> bool
     requires { ⌜ Bus width a × Bus width b ⌝ }
     ensures { λ r. ⌜ Decides (Line n (neighbours (now (nbr .entry))) a b) r ⌝ }
 {
@@ -27,7 +31,7 @@ pub fn is_line(n: usize, nbr: &[BusSet; 64], a: usize, b: usize) -> bool
 }
 
 // Whether all that b is joined to is joined to it by a line.
-pub fn has_lines(n: usize, nbr: &[BusSet; 64], b: usize) -> bool
+pub fn has_lines(n: usize, nbr: &Rows, b: usize) -> bool
     requires { ⌜ Bus width b ⌝ }
     ensures { λ r. ⌜ Decides (LinesAt n (neighbours (now (nbr .entry))) b) r ⌝ }
 {
@@ -43,11 +47,11 @@ pub fn has_lines(n: usize, nbr: &[BusSet; 64], b: usize) -> bool
 }
 
 // Whether all that is joined is joined by a line.
-pub fn all_lines(n: usize, nbr: &[BusSet; 64]) -> bool
-    requires { ⌜ length (now nbr) ≡ 64 ⌝ }
+pub fn all_lines(n: usize, nbr: &Rows) -> bool
+    requires { ⌜ length (now nbr) ≡ mostBuses ⌝ }
     ensures { λ r. ⌜ Decides (Lines n (neighbours (now (nbr .entry)))) r ⌝ }
 {
-    for b in 1..=64 {
+    for b in 1..=MOST_BUSES {
         if !has_lines(n, nbr, b) {
             return false;
         }
@@ -55,7 +59,7 @@ pub fn all_lines(n: usize, nbr: &[BusSet; 64]) -> bool
     true
 }
 
-pub fn count_lines(n: usize, nbr: &[BusSet; 64]) -> usize
+pub fn count_lines(n: usize, nbr: &Rows) -> usize
     requires { ⌜ n ≤ width ⌝ }
     ensures { λ r. ⌜ r ≡ lineCount n (neighbours (now (nbr .entry))) ⌝ }
 {
@@ -73,7 +77,7 @@ pub fn is_valid(case: Case) -> bool
     if n < 1 {
         return false;
     }
-    if 64 < n {
+    if MOST_BUSES < n {
         return false;
     }
     if !busset::is_within(case.zero, n) {
@@ -89,5 +93,5 @@ pub fn is_valid(case: Case) -> bool
     if !all_lines(n, &nbr) {
         return false;
     }
-    count_lines(n, &nbr) <= 256
+    count_lines(n, &nbr) <= MOST_LINES
 }

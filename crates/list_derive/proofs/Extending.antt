@@ -4,6 +4,7 @@ use mathlib.Core.List.{List, [], _∷_, _++_, append-nil, append-assoc}
 use Prim.Native.Nat.{ℕ, _+_, _≤_, _<_}
 use native.Mathlib.Omega.{arith}
 use lib.ListN.{length, length-append}
+use Rattle.grid.specs.Limits.{mostBuses}
 use Rattle.busset.specs.Sets.{Bus, bit, Within, With, empty, add, size}
 use Rattle.busset.proofs.Digits.{bit-zero}
 use Rattle.busset.proofs.Members.{with-add, add-of}
@@ -36,14 +37,14 @@ extends-none g {s} {l} e q = record {
 }
 
 -- as many steps as buses, which are those of the grid
-pub extends-few : {g : Grid} {s : ℕ} {l : StepList} {x : Step} → Proper g → g .n ≤ 64 → NextIs g s x → Extends g s l → size s < 64
+pub extends-few : {g : Grid} {s : ℕ} {l : StepList} {x : Step} → Proper g → g .n ≤ mostBuses → NextIs g s x → Extends g s l → size s < mostBuses
 extends-few {g} {s} {l} {x} v most n e =
     omega (arith, size-add s (x .bus) (n .allowed .new), size-most (g .n) (add s (x .bus)) (grown v n e))
   where
     grown : Proper g → NextIs g s x → Extends g s l → Within (g .n) (add s (x .bus))
     grown v n e = add-of {P = Bus (g .n)} s (x .bus) (allowed-bus v (n .allowed)) (e .within)
 
-pub extends-more : {g : Grid} {s : ℕ} {l : StepList} {x : Step} {m : StepList} {t : ℕ} → Proper g → g .n ≤ 64 → NextIs g s x → Extends g s l
+pub extends-more : {g : Grid} {s : ℕ} {l : StepList} {x : Step} {m : StepList} {t : ℕ} → Proper g → g .n ≤ mostBuses → NextIs g s x → Extends g s l
     → m ≡ pushed l x → With s (x .bus) t → Extends g t m
 extends-more {g} {s} {l} {x} {m} {t} v most n e p w = record {
   sofar = e .sofar ++ (x ∷ []);

@@ -9,6 +9,7 @@ use lib.Dec.{leb}
 use lib.ListN.{length, drop, replicate, length-append}
 use lib.Seq.{take-at}
 use borrow.Author.Tests.{le-leb, lt-leb}
+use Rattle.grid.specs.Limits.{mostBuses}
 use Rattle.basics.specs.Deciding.{Decides}
 use Rattle.busset.specs.Sets.{Sub, setOf}
 use Rattle.basics.proofs.Tests.{decides-le, decides-by, decides-no, refutes}
@@ -47,7 +48,7 @@ use Rattle.list_follow.proofs.Joining.{all-within, woven-reaches, woven
 -- ---- finished is closed: it has what O1 gives, and a sweep of O2 changes nothing
 
 started-in : {g : Grid} {s o : ℕ} → WithNeighbours (g .neighbours) (g .units) o → Closed g s → Sub o s
-started-in {g} {s} st cl = st .least s (sub-of (g .units) s (cl .o1 .own)) (cl .o1 .near)
+started-in {g} {s} st cl = st .least s (sub-of (g .units) s (cl .direct .own)) (cl .direct .near)
 
 pub finished-unless-started : {g : Grid} {s o : ℕ} → WithNeighbours (g .neighbours) (g .units) o → (Sub o s → ⊥)
     → Decides (Finished g s) false
@@ -59,10 +60,10 @@ pub finished-test : {g : Grid} {s o r : ℕ} {b : Bool} → WithNeighbours (g .n
 finished-test {g} {s} {o} {r} st sub sw d =
     decides-by
     (λ e. closed-finished g s (record {
-      o1 = record { own = λ b h. omega (arith, st .own b, sub b); near = λ b h a. omega (arith, st .near b h a, sub a) };
-      o2 = sw .settled e;
+      direct = record { own = λ b h. omega (arith, st .own b, sub b); near = λ b h a. omega (arith, st .near b h a, sub a) };
+      zeros = sw .settled e;
     }))
-    (λ fin. sub-antisym r s (sw .sound s (λ b. omega arith) (finished-closed g s fin .o2)) (sw .grows)) d
+    (λ fin. sub-antisym r s (sw .sound s (λ b. omega arith) (finished-closed g s fin .zeros)) (sw .grows)) d
 
 -- ---- replay
 
@@ -103,10 +104,10 @@ count-fits st room Good = go (leb (st .list .n) room) (decides-le (st .list .n) 
 count-fits st room (Bad q) = omega arith
 
 -- a list by value, put into records
-put-list : (ys before : List Step) → length ys ≤ 64 → length ys ≤ length before
+put-list : (ys before : List Step) → length ys ≤ mostBuses → length ys ≤ length before
     → putFirst (length ys) (nthOf (listOf ys)) before ≡ writtenInto ys before
 put-list ys before few room =
-    let blanks = replicate (64 - length ys) noStep in
+    let blanks = replicate (mostBuses - length ys) noStep in
     put-first (listOf ys .steps) before (nthOf (listOf ys)) (length ys) (λ i l. sym (nth-in (listOf ys) i (omega arith)))
     (omega (arith, length-append ys blanks)) room
     ∙ ap (λ (zs : List Step). zs ++ drop (length ys) before) (take-at ys blanks (length ys) refl)
@@ -128,7 +129,7 @@ module _ (c : Case) (st : Following) (xs before after : List Step) where
   fits : Passed checks → Carries xs st → st .list .n ≤ length before → Right (wove.Written (st .list .n) (st .set))
   fits ok h l put =
       let enough : length (woven xs) ≤ length before = omega (arith, l, count h) in
-      let few : length (woven xs) ≤ 64 =
+      let few : length (woven xs) ≤ mostBuses =
       omega (arith, woven-size xs, size-most (c .n) (reached xs) (all-within Weave c (length xs) xs ok), ok .0 .buses .most) in (
         passed-then checks room ok (enough, tt),
         count h,

@@ -15,7 +15,7 @@ use Rattle.step.specs.declared.Step.{Step}
 use Rattle.rules.specs.Steps.{reached}
 use Rattle.rules.specs.Weaving.{unlessSeen, woven}
 use Rattle.grid.specs.declared.Case.{Case}
-use Rattle.grid.specs.Cases.{mostSteps}
+use Rattle.grid.specs.Limits.{mostSteps, mostBuses}
 use Rattle.refusals.specs.declared.Refusal.{Refusal}
 use Rattle.refusals.specs.Refusals.{numberOf, Check, Passed, Failed}
 use Rattle.refusals.proofs.Orders.{failed-sooner}
@@ -100,7 +100,7 @@ one-further {c} {st} {r} {x} e f = record {
 }
 
 -- the grid has at most 64 buses
-pub small-grid : {c : Case} {st r : Following} {x : Step} → st .standing ≡ Good → 64 < c .n → Follows c st (x ∷ []) r
+pub small-grid : {c : Case} {st r : Following} {x : Step} → st .standing ≡ Good → mostBuses < c .n → Follows c st (x ∷ []) r
 small-grid {c} {st} {r} {x} e l = one-further e (λ task count ys h. absurd (omega (arith, h .passed .0 .buses .most)))
 
 module _ (c : Case) (st : Following) (x : Step) (k : ℕ) (good : st .standing ≡ Good) (nth : st .read < mostSteps → k ≡ suc (st .read)) where
@@ -131,7 +131,7 @@ module _ (c : Case) (st : Following) (x : Step) (k : ℕ) (good : st .standing �
     new ys h = subst (λ (s : ℕ). Out s (x .bus)) (h .set) (ok .1 .0)
 
     -- the list has as many steps as buses are reached, and one of the grid's is not
-    few : (task : Task) (count : ℕ) (ys : List Step) → Here c st task count ys → length (woven ys) < 64
+    few : (task : Task) (count : ℕ) (ys : List Step) → Here c st task count ys → length (woven ys) < mostBuses
     few task count ys h =
         omega (
           arith,
@@ -142,7 +142,7 @@ module _ (c : Case) (st : Following) (x : Step) (k : ℕ) (good : st .standing �
           h .passed .0 .buses .most,
         )
 
-    pub room-left : {r : Following} → 64 ≤ st .list .n → Follows c st (x ∷ []) r
+    pub room-left : {r : Following} → mostBuses ≤ st .list .n → Follows c st (x ∷ []) r
     room-left {r} l =
         one-further good
         (λ task count ys h. absurd (omega (arith, few task count ys h, ap (λ (m : StepList). m .n) (h .carries .list))))

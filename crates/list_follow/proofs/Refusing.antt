@@ -10,7 +10,7 @@ use Rattle.grid.specs.declared.Case.{Case}
 use Rattle.refusals.specs.declared.Refusal.{Refusal}
 use Rattle.refusals.specs.Refusals.{placeOf}
 use Rattle.refusals.proofs.Orders.{PlacesBy, failed-place}
-use Rattle.grid.specs.Cases.{mostSteps}
+use Rattle.grid.specs.Limits.{mostSteps}
 use Rattle.list_follow.specs.Following.{checksFrom}
 use Rattle.list_follow.specs.Replies.{ReplayReply}
 use Rattle.list_follow.specs.declared.Task.the-variants.{Replay}

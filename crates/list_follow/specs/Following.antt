@@ -10,7 +10,8 @@ use Rattle.step.specs.declared.Step.{Step}
 use Rattle.rules.specs.Steps.{Holds, Names, reached}
 use Rattle.rules.specs.Weaving.{woven}
 use Rattle.grid.specs.declared.Case.{Case}
-use Rattle.grid.specs.Cases.{mostSteps, gridOf, Valid}
+use Rattle.grid.specs.Limits.{mostSteps}
+use Rattle.grid.specs.Cases.{gridOf, Valid}
 use Rattle.refusals.specs.declared.Refusal.{Refusal}
 use Rattle.refusals.specs.Refusals.{numberOf, Check, checkThat, Passed, Failed}
 use Rattle.observe.specs.Testing.{stepChecksAt}

@@ -2,6 +2,7 @@
 ghost use mathlib.Core.Path.{_≡_};
 ghost use mathlib.Core.List.{[], _∷_};
 ghost use Prim.Native.Nat.{suc, _<_};
+ghost use Rattle.grid.specs.Limits.{mostSteps};
 ghost use Rattle.basics.specs.Deciding.{Decides};
 ghost use Rattle.busset.specs.Sets.{setOf};
 ghost use Rattle.rules.specs.Steps.{Finished};
@@ -10,6 +11,8 @@ ghost use Rattle.list_follow.specs.Following.{beginChecks, StandingBy, S
 ghost use Rattle.list_follow.specs.Replies.{AnswersReplay, woveAt, countWritten};
 use busset::BusSet;
 use grid::Case;
+use grid::limits::MOST_BUSES;
+use grid::limits::MOST_STEPS;
 use list_value::StepList;
 use list_value::no_steps;
 use list_value::push;
@@ -58,7 +61,7 @@ fn opening(case: Case, count: usize) -> Standing
     if !grid::validity::is_valid(case) {
         return Standing::Bad(Refusal::InvalidCase);
     }
-    if 1024 < count {
+    if MOST_STEPS < count {
         return Standing::Bad(Refusal::TooManySteps(0));
     }
     Standing::Good
@@ -81,9 +84,9 @@ pub fn begin(case: Case, task: Task, count: usize) -> Following
 
 // The number of the step after those read.
 fn next_number(read: usize) -> usize
-    ensures { λ r. ⌜ (read < 1024 → r ≡ suc read) ⌝ }
+    ensures { λ r. ⌜ (read < mostSteps → r ≡ suc read) ⌝ }
 {
-    if read < 1024 {
+    if read < MOST_STEPS {
         return read + 1;
     }
     read
@@ -113,13 +116,13 @@ pub fn apply(case: Case, st: Following, x: Step) -> Following
     let Standing::Good = standing else {
         return st;
     };
-    if 64 < n {
+    if MOST_BUSES < n {
         return st;
     }
     let k = next_number(st.read);
     match tested_at(case, st.set, x, k) {
         Tested::Allowed => {
-            if 64 <= list.n {
+            if MOST_BUSES <= list.n {
                 return st;
             }
             let more = push(list, x);

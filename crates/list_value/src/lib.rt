@@ -1,15 +1,17 @@
-// A list of at most 64 steps, by value.
+// A list of steps by value: at most one for each bus.
 // No list that replay accepts or weaving writes is longer than the grid has buses.
 ghost use mathlib.Core.Path.{_≡_};
 ghost use mathlib.Core.List.{[]};
 ghost use Prim.Native.Nat.{_<_};
+ghost use Rattle.grid.specs.Limits.{mostBuses};
 ghost use Rattle.list_value.specs.Lists.{nthOf, listOf, pushed};
+use grid::limits::MOST_BUSES;
 use step::Reason;
 use step::Step;
 
 pub struct StepList {
     pub n: usize,
-    pub steps: [Step; 64],
+    pub steps: [Step; MOST_BUSES],
 }
 
 // The list with no step, and blanks alone.
@@ -20,13 +22,13 @@ pub fn no_steps() -> StepList
         bus: 0,
         reason: Reason::OwnUnit,
     };
-    let steps = [blank; 64];
+    let steps = [blank; MOST_BUSES];
     StepList { n: 0, steps }
 }
 
 // The list with one step more.
 pub fn push(l: StepList, x: Step) -> StepList
-    requires { ⌜ l .n < 64 ⌝ }
+    requires { ⌜ l .n < mostBuses ⌝ }
     ensures { λ r. ⌜ r ≡ pushed l x ⌝ }
 {
     let mut m = l;
@@ -40,7 +42,7 @@ pub fn push(l: StepList, x: Step) -> StepList
 pub fn nth(l: StepList, i: usize) -> Step
     ensures { λ r. ⌜ r ≡ nthOf l i ⌝ }
 {
-    if 64 <= i {
+    if MOST_BUSES <= i {
         return Step {
             bus: 0,
             reason: Reason::OwnUnit,

@@ -7,7 +7,7 @@ use Rattle.busset.specs.Sets.{bit, In, Out, Sub, empty, Both, Without}
 use Rattle.busset.proofs.Digits.{bit-zero, ext}
 use Rattle.busset.proofs.Members.{sub-of, without-of, without-sub}
 use Rattle.rules.specs.Grids.{Grid}
-use Rattle.rules.specs.Observation.{ObservedSet, Fired, O2}
+use Rattle.rules.specs.Observation.{ObservedSet, Fired, ZeroRules}
 use Rattle.grid.specs.Near.{WithNeighbours}
 use Rattle.observe.specs.Passes.{Fires, Swept, Spread}
 
@@ -17,7 +17,7 @@ pub record Sweeping (nbr : ℕ → ℕ) (zeros s r left : ℕ) : Type 0 where
   pub zero : Sub left zeros
   pub seen : Sub left s
   pub grows : Sub s r
-  pub sound : (t : ℕ) → Sub s t → O2 nbr zeros t → Sub r t
+  pub sound : (t : ℕ) → Sub s t → ZeroRules nbr zeros t → Sub r t
   pub settled : r ≡ s → (w : ℕ) → Out left w → In zeros w → In s w → Fired (nbr w) s
 
 pub sweeping-none : (nbr : ℕ → ℕ) {zeros s left : ℕ} → Both zeros s left → Sweeping nbr zeros s s left
@@ -37,7 +37,7 @@ sweeping-more {nbr} {zeros} {s} {r} {left} {w} {m} {r′} {rest} inv here e f o 
   grows = λ b. omega (arith, inv .grows b, f .grows b);
   sound =
       λ t sub full. f .sound t (inv .sound t sub full)
-      (subst (λ (x : ℕ). Fired x t) (sym e) (full w (omega (arith, inv .zero w)) (omega (arith, inv .seen w, sub w))));
+      (subst (λ (x : ℕ). Fired x t) (sym e) (full .o2 w (omega (arith, inv .zero w)) (omega (arith, inv .seen w, sub w))));
   settled = λ q. still q (ext r s (λ b. omega (arith, inv .grows b, f .grows b, ap (λ (x : ℕ). bit x b) q)));
 }
   where
@@ -51,15 +51,15 @@ pub sweeping-all : {nbr : ℕ → ℕ} {zeros s r left : ℕ} → Sweeping nbr z
 sweeping-all inv e = record {
   grows = inv .grows;
   sound = inv .sound;
-  settled = λ q w. inv .settled q w (ap (λ (x : ℕ). bit x w) e ∙ bit-zero w);
+  settled = λ q. record { o2 = λ w. inv .settled q w (ap (λ (x : ℕ). bit x w) e ∙ bit-zero w) };
 }
 
 -- ---- sweep after sweep
 
--- t holds s, and no more than O2 gives
+-- t holds s, and no more than Z buses give
 pub record Spreading (nbr : ℕ → ℕ) (zeros s t : ℕ) : Type 0 where
   pub grows : Sub s t
-  pub sound : (v : ℕ) → Sub s v → O2 nbr zeros v → Sub t v
+  pub sound : (v : ℕ) → Sub s v → ZeroRules nbr zeros v → Sub t v
 
 pub spreading-none : (nbr : ℕ → ℕ) (zeros s : ℕ) → Spreading nbr zeros s s
 spreading-none nbr zeros s = record { grows = λ b. le-refl (bit s b); sound = λ v sub full. sub }
@@ -80,11 +80,11 @@ pub spread-observed : {g : Grid} {o s : ℕ} → WithNeighbours (g .neighbours) 
     → ObservedSet g s
 spread-observed {g} w sp = record {
   closed = record {
-    o1 = record {
+    direct = record {
       own = λ b h. omega (arith, w .own b, sp .grows b);
       near = λ b h a. omega (arith, w .near b h a, sp .grows a);
     };
-    o2 = sp .fired;
+    zeros = sp .fired;
   };
-  least = λ t cl. sp .least t (w .least t (sub-of (g .units) t (cl .o1 .own)) (cl .o1 .near)) (cl .o2);
+  least = λ t cl. sp .least t (w .least t (sub-of (g .units) t (cl .direct .own)) (cl .direct .near)) (cl .zeros);
 }

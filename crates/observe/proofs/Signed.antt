@@ -9,7 +9,7 @@ use lib.Signed.{mag}
 use mir.Syntax.{w32}
 use mir.Val.{SFits, toZ, ofZ}
 use mir.Facts.{toZ-ofZ}
-use Rattle.busset.specs.Sets.{bit, meet, less, size, Both, Without}
+use Rattle.busset.specs.Sets.{bit, meet, less, size, Both, Without, width}
 use Rattle.busset.proofs.Members.{both-meet, without-less}
 use Rattle.rules.specs.Figures.{figure}
 
@@ -42,7 +42,7 @@ mag-sub z w = omega (arith, mag-add z (negℤ w), mag-neg w)
 to-pos : (n : ℕ) → n < 2 ^ 31 → toZ w32 n ≡ pos n
 to-pos n h = toZ-ofZ {w = w32} {z = pos n} (record { sfits = h })
 
-module _ (degree observed : ℕ) (hd : degree ≤ 64) (ho : observed ≤ 65) where
+module _ (degree observed : ℕ) (hd : degree ≤ width) (ho : observed ≤ suc width) where
   degree-is : toZ w32 degree ≡ pos degree
   degree-is = to-pos degree (omega arith)
 

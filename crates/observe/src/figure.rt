@@ -1,11 +1,12 @@
 // The firing figure.
 ghost use mathlib.Core.Path.{_≡_};
-ghost use Prim.Native.Nat.{_≤_};
+ghost use Prim.Native.Nat.{suc, _≤_};
 ghost use lib.IntN.{pos, _+ℤ_, _-ℤ_};
 ghost use Rattle.busset.specs.Sets.{Bus, bit, width, setOf};
 ghost use Rattle.rules.specs.Figures.{figure};
-ghost use Rattle.grid.specs.Cases.{neighbours};
+ghost use Rattle.grid.specs.Rows.{neighbours};
 use busset::BusSet;
+use grid::Rows;
 
 // 1 if bus i is in s, else 0.
 pub fn seen(s: BusSet, i: usize) -> usize
@@ -17,14 +18,14 @@ pub fn seen(s: BusSet, i: usize) -> usize
 
 // 1, less the degree, plus what is observed.
 pub fn signed_sum(degree: usize, observed: usize) -> i32
-    requires { ⌜ (degree ≤ 64) × (observed ≤ 65) ⌝ }
+    requires { ⌜ (degree ≤ width) × (observed ≤ suc width) ⌝ }
     ensures { λ r. ⌜ r ≡ pos 1 -ℤ pos degree +ℤ pos observed ⌝ }
 {
     1 - (degree as i32) + (observed as i32)
 }
 
 // The firing figure of bus i towards j where s is observed.
-pub fn figure_of(nbr: &[BusSet; 64], s: BusSet, i: usize, j: usize) -> i32
+pub fn figure_of(nbr: &Rows, s: BusSet, i: usize, j: usize) -> i32
     requires { ⌜ Bus width i × Bus width j ⌝ }
     ensures { λ r. ⌜ r ≡ figure (neighbours (now (nbr .entry))) (setOf s) i j ⌝ }
 {

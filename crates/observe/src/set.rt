@@ -3,9 +3,11 @@ ghost use mathlib.Core.Path.{_≡_};
 ghost use Prim.Native.Nat.{ℕ};
 ghost use Rattle.busset.specs.Sets.{lack, size, setOf};
 ghost use Rattle.rules.specs.Observation.{ObservedSet};
-ghost use Rattle.grid.specs.Cases.{neighbours, gridWith};
+ghost use Rattle.grid.specs.Rows.{neighbours};
+ghost use Rattle.grid.specs.Cases.{gridWith};
 ghost use Rattle.observe.specs.Passes.{Fires, Swept, Spread};
 use busset::BusSet;
+use grid::Rows;
 
 // The buses m that are not in s, gathered and counted one after another.
 pub fn count_unknown(m: BusSet, s: BusSet) -> usize
@@ -33,7 +35,7 @@ pub fn fire(m: BusSet, s: BusSet) -> BusSet
 }
 
 // Each Z bus of s fires, where it can.
-pub fn sweep(nbr: &[BusSet; 64], zero: BusSet, s: BusSet) -> BusSet
+pub fn sweep(nbr: &Rows, zero: BusSet, s: BusSet) -> BusSet
     ensures { λ r. ⌜ Swept (neighbours (now (nbr .entry))) (setOf zero) (setOf s) (setOf r) ⌝ }
 {
     let mut r = s;
@@ -47,7 +49,7 @@ pub fn sweep(nbr: &[BusSet; 64], zero: BusSet, s: BusSet) -> BusSet
 }
 
 // The smallest set that holds s and satisfies O2: sweeps, until one changes nothing.
-pub fn spread(nbr: &[BusSet; 64], zero: BusSet, s: BusSet) -> BusSet
+pub fn spread(nbr: &Rows, zero: BusSet, s: BusSet) -> BusSet
     ensures { λ r. ⌜ Spread (neighbours (now (nbr .entry))) (setOf zero) (setOf s) (setOf r) ⌝ }
 {
     let mut t = s;
@@ -61,7 +63,7 @@ pub fn spread(nbr: &[BusSet; 64], zero: BusSet, s: BusSet) -> BusSet
 }
 
 // The observed set, whatever n and the sites are: no rule reads them.
-pub fn observed(nbr: &[BusSet; 64], zero: BusSet, units: BusSet) -> BusSet
+pub fn observed(nbr: &Rows, zero: BusSet, units: BusSet) -> BusSet
     ensures { λ r. ⌜ ((n sites : ℕ) → ObservedSet (gridWith n (now (nbr .entry)) zero sites units) (setOf r)) ⌝ }
 {
     spread(nbr, zero, grid::with_neighbours(nbr, units))

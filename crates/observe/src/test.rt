@@ -3,10 +3,12 @@ ghost use Prim.Native.Nat.{_≤_};
 ghost use Rattle.basics.specs.Deciding.{Decides};
 ghost use Rattle.busset.specs.Sets.{Bus, width, setOf};
 ghost use Rattle.rules.specs.Steps.{ByUnit, ByZero, Holds, Names};
-ghost use Rattle.grid.specs.Cases.{neighbours, gridOf};
+ghost use Rattle.grid.specs.Rows.{neighbours};
+ghost use Rattle.grid.specs.Cases.{gridOf};
 ghost use Rattle.observe.specs.Testing.{stepChecksAt, TestedBy};
 use busset::BusSet;
 use grid::Case;
+use grid::Rows;
 use refusals::Refusal;
 use step::Reason;
 use step::Step;
@@ -34,7 +36,7 @@ pub fn names(n: usize, x: Step) -> bool
 }
 
 // Whether a unit stands at p, joined to b.
-pub fn by_unit(nbr: &[BusSet; 64], units: BusSet, b: usize, p: usize) -> bool
+pub fn by_unit(nbr: &Rows, units: BusSet, b: usize, p: usize) -> bool
     requires { ⌜ Bus width b × Bus width p ⌝ }
     ensures { λ r. ⌜ Decides (ByUnit (neighbours (now (nbr .entry))) (setOf units) b p) r ⌝ }
 {
@@ -45,7 +47,7 @@ pub fn by_unit(nbr: &[BusSet; 64], units: BusSet, b: usize, p: usize) -> bool
 }
 
 // Whether w is Z, observed and joined to b, and every other neighbour of w is observed.
-pub fn by_zero(nbr: &[BusSet; 64], zero: BusSet, s: BusSet, b: usize, w: usize) -> bool
+pub fn by_zero(nbr: &Rows, zero: BusSet, s: BusSet, b: usize, w: usize) -> bool
     requires { ⌜ Bus width b × Bus width w ⌝ }
     ensures { λ r. ⌜ Decides (ByZero (neighbours (now (nbr .entry))) (setOf zero) (setOf s) b w) r ⌝ }
 {

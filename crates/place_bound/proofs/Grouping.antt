@@ -36,11 +36,11 @@ shrunk-spread u sp lacks = record { grows = λ b. omega (arith, u .at b, sp .gro
 
 pub shrunk-closed : {g : Grid} {c r : ℕ} → Closed g c → Shrunk (g .n) (g .neighbours) (g .zeros) c r → Closed g r
 shrunk-closed cl sh = record {
-  o1 = record {
-    own = λ b h. omega (arith, cl .o1 .own b h, sh .grows b);
-    near = λ b h a. omega (arith, cl .o1 .near b h a, sh .grows a);
+  direct = record {
+    own = λ b h. omega (arith, cl .direct .own b h, sh .grows b);
+    near = λ b h a. omega (arith, cl .direct .near b h a, sh .grows a);
   };
-  o2 = sh .fired (cl .o2);
+  zeros = sh .fired (cl .zeros);
 }
 
 -- ---- the group of a set: a site that is not on or next to a bus that c lacks is idle

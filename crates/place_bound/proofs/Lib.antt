@@ -1,4 +1,3 @@
-pub mod Storing
 pub mod Thinning
 pub mod Grouping
 pub mod Cutting

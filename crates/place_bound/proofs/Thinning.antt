@@ -1,23 +1,24 @@
 -- Why a site is not needed from which no more is lit than from another: row after row, and site after site.
 use mathlib.Core.Path.{_≡_, sym, ap, _∙_, subst, subst⁻¹}
-use mathlib.Core.List.{List}
 use mathlib.Core.Logic.{⊎-elim}
-use Prim.Native.Nat.{ℕ, _-_}
+use Prim.Native.Nat.{ℕ}
 use native.Mathlib.Omega.{arith}
 use native.Mathlib.Nat.{le-refl}
-use lib.ListN.{length, length-set, set}
-use Rattle.busset.specs.Sets.{Bus, bit, In, Out, Sub, empty, add, less, setOf, Without}
+use lib.ListN.{length}
+use Rattle.busset.specs.Sets.{Bus, bit, In, Out, Sub, empty, add, less, setOf, width, Without}
+use Rattle.busset.specs.Held.{SetWord}
 use Rattle.basics.proofs.Tests.{same-or}
 use Rattle.busset.proofs.Digits.{bit-zero}
 use Rattle.busset.proofs.Members.{in-or, add-sub, without-sub}
-use Rattle.grid.specs.Cases.{neighbours}
+use Rattle.grid.specs.Limits.{mostBuses}
+use Rattle.grid.specs.Rows.{Rows, neighbours, withRow, noRows}
+use Rattle.grid.proofs.Rows.{row-put-same, row-put-other, row-put-length, no-rows-length}
 use Rattle.place_light.specs.Lights.{Lit}
 use Rattle.place_light.specs.Spares.{Spares}
 use Rattle.place_light.proofs.Lighting.{lit-gives}
 use Rattle.place_light.proofs.Covers.{cover-other}
 use Rattle.place_light.proofs.Sparing.{spares-same, spares-more, without-less, without-out}
 use Rattle.place_bound.specs.Rows.{LitRows, Outlit}
-use Rattle.place_bound.proofs.Storing.{row-set-same, row-set-other}
 
 -- x is not needed beside y, from which at least as much is lit
 pub spares-lit : (n : ℕ) {nbr : ℕ → ℕ} {zeros s sites x y a b rest : ℕ} (k : ℕ) → Lit nbr zeros s x a → Lit nbr zeros s y b → Sub a b
@@ -33,26 +34,28 @@ spares-lit n {nbr} {zeros} {s} {sites} {x} {y} {a} {b} {rest} k lx ly sub h w = 
 
 -- ---- row after row: what is lit from each site that is not left
 
-pub record Lighting (nbr : ℕ → ℕ) (zeros s sites : ℕ) (rows : List ℕ) (left : ℕ) : Type 0 where
-  pub long : length rows ≡ 64
+pub record Lighting (nbr : ℕ → ℕ) (zeros s sites : ℕ) (rows : Rows) (left : ℕ) : Type 0 where
+  pub long : length rows ≡ mostBuses
   pub at : (x : ℕ) → Out left x → In sites x → Lit nbr zeros s x (neighbours rows x)
 
-pub lighting-none : (nbr : ℕ → ℕ) (zeros s sites : ℕ) {rows : List ℕ} → length rows ≡ 64 → Lighting nbr zeros s sites rows sites
-lighting-none nbr zeros s sites l = record { long = l; at = λ x o h. absurd (omega arith) }
+pub lighting-none : (nbr : ℕ → ℕ) (zeros s sites : ℕ) {rows : Rows} → rows ≡ noRows → Lighting nbr zeros s sites rows sites
+lighting-none nbr zeros s sites e = record { long = ap length e ∙ no-rows-length; at = λ x o h. absurd (omega arith) }
 
-pub lighting-more : {nbr : ℕ → ℕ} {zeros s sites x left rest : ℕ} {rows : List ℕ} (w : ℕ) → Lighting nbr zeros s sites rows left → Bus 64 x
-    → Lit nbr zeros s x (setOf w) → Without left x rest
-    → Lighting nbr zeros s sites (set rows (x - 1) w) rest
-lighting-more {nbr} {zeros} {s} {sites} {x} {left} {rest} {rows} w li bus lit o = record {
-  long = simp length-set (li .long);
-  at = λ y out h. ⊎-elim
-      (λ (e : y ≡ x). subst⁻¹ (λ (z : ℕ). Lit nbr zeros s z (neighbours (set rows (x - 1) w) z)) e
-      (subst (Lit nbr zeros s x) (sym (row-set-same rows w bus (omega (arith, li .long)))) lit))
-      (λ (ne : y ≡ x → ⊥). subst (Lit nbr zeros s y) (sym (row-set-other rows x w y bus ne)) (li .at y (omega (arith, o .there y ne)) h))
-      (same-or y x);
-}
+pub lighting-more : {nbr : ℕ → ℕ} {zeros s sites x left rest : ℕ} {rows rows′ : Rows} (w : SetWord) → Lighting nbr zeros s sites rows left
+    → Bus width x → Lit nbr zeros s x (setOf w) → rows′ ≡ withRow rows x w → Without left x rest
+    → Lighting nbr zeros s sites rows′ rest
+lighting-more {nbr} {zeros} {s} {sites} {x} {left} {rest} {rows} w li bus lit put o =
+    subst⁻¹ (λ (r : Rows). Lighting nbr zeros s sites r rest) put (record {
+      long = row-put-length rows x w (li .long);
+      at = λ y out h. ⊎-elim
+          (λ (e : y ≡ x). subst⁻¹ (λ (z : ℕ). Lit nbr zeros s z (neighbours (withRow rows x w) z)) e
+          (subst (Lit nbr zeros s x) (sym (row-put-same rows x w (bus .some) (omega (arith, li .long, bus .most)))) lit))
+          (λ (ne : y ≡ x → ⊥). subst (Lit nbr zeros s y) (sym (row-put-other rows x w (bus .some) y ne))
+          (li .at y (omega (arith, o .there y ne)) h))
+          (same-or y x);
+    })
 
-pub lighting-all : {nbr : ℕ → ℕ} {zeros s sites left : ℕ} {rows : List ℕ} → Lighting nbr zeros s sites rows left → left ≡ empty
+pub lighting-all : {nbr : ℕ → ℕ} {zeros s sites left : ℕ} {rows : Rows} → Lighting nbr zeros s sites rows left → left ≡ empty
     → LitRows nbr zeros s sites rows
 lighting-all li e = record { at = λ x. li .at x (ap (λ (s : ℕ). bit s x) e ∙ bit-zero x) }
 
@@ -65,7 +68,7 @@ pub record Thinned (n : ℕ) (nbr : ℕ → ℕ) (zeros s sites k kept left : �
 pub thinned-none : (n : ℕ) (nbr : ℕ → ℕ) (zeros s sites k : ℕ) → Thinned n nbr zeros s sites k sites sites
 thinned-none n nbr zeros s sites k = record { of = λ b. le-refl (bit sites b); spares = spares-same n nbr zeros s sites k }
 
-pub thinned-yes : {n : ℕ} {nbr : ℕ → ℕ} {zeros s sites k kept left x others rest : ℕ} {rows : List ℕ}
+pub thinned-yes : {n : ℕ} {nbr : ℕ → ℕ} {zeros s sites k kept left x others rest : ℕ} {rows : Rows}
     → Thinned n nbr zeros s sites k kept left → LitRows nbr zeros s sites rows → In left x
     → Without kept x others → Outlit (neighbours rows) others x → Without left x rest → Thinned n nbr zeros s sites k others rest
 thinned-yes {n} {nbr} {zeros} {s} {sites} {k} {kept} {left} {x} {others} {rest} t li h w out o = record {

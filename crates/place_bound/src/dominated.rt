@@ -3,27 +3,28 @@ ghost use mathlib.Core.Path.{_≡_};
 ghost use mathlib.Core.Bool.{true};
 ghost use Prim.Native.Nat.{ℕ};
 ghost use Rattle.busset.specs.Sets.{Bus, width, setOf};
-ghost use Rattle.grid.specs.Cases.{neighbours};
+ghost use Rattle.grid.specs.Rows.{neighbours};
 ghost use Rattle.place_light.specs.Spares.{Spares};
 ghost use Rattle.place_bound.specs.Rows.{LitRows, Outlit};
 use busset::BusSet;
+use grid::Rows;
 
 // What a unit at each of the sites makes observed where s is.
-pub fn lit_rows(nbr: &[BusSet; 64], zero: BusSet, s: BusSet, sites: BusSet) -> [BusSet; 64]
+pub fn lit_rows(nbr: &Rows, zero: BusSet, s: BusSet, sites: BusSet) -> Rows
     ensures { λ r. ⌜ LitRows (neighbours (now (nbr .entry))) (setOf zero) (setOf s) (setOf sites) r ⌝ }
 {
-    let mut rows: [BusSet; 64] = [0; 64];
+    let mut rows = grid::no_rows();
     let mut left = sites;
     while !busset::is_none(left) {
         let x = busset::lowest(left);
-        rows[x - 1] = place_light::lit(nbr, zero, s, x);
+        grid::set_row(&mut rows, x, place_light::lit(nbr, zero, s, x));
         left = busset::without(left, x);
     }
     rows
 }
 
 // Whether from some of the others at least as much is lit as from x.
-pub fn is_outlit(rows: &[BusSet; 64], others: BusSet, x: usize) -> bool
+pub fn is_outlit(rows: &Rows, others: BusSet, x: usize) -> bool
     requires { ⌜ Bus width x ⌝ }
     ensures { λ r. ⌜ (r ≡ true → Outlit (neighbours (now (rows .entry))) (setOf others) x) ⌝ }
 {
@@ -40,7 +41,7 @@ pub fn is_outlit(rows: &[BusSet; 64], others: BusSet, x: usize) -> bool
 }
 
 // The sites less those beside which another lights at least as much. For one unit that is not worth its while.
-pub fn undominated(nbr: &[BusSet; 64], zero: BusSet, s: BusSet, sites: BusSet, k: usize) -> BusSet
+pub fn undominated(nbr: &Rows, zero: BusSet, s: BusSet, sites: BusSet, k: usize) -> BusSet
     ensures { λ r. ⌜ ((n : ℕ)
         → Spares n (neighbours (now (nbr .entry))) (setOf zero) (setOf s) (setOf sites) k (setOf r)) ⌝ }
 {

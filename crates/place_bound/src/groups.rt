@@ -1,14 +1,16 @@
 // Groups of sites of which every cover has one.
 ghost use Prim.Native.Nat.{_≤_};
 ghost use Rattle.busset.specs.Sets.{Bus, Within, width, setOf};
-ghost use Rattle.grid.specs.Cases.{neighbours, Lines};
+ghost use Rattle.grid.specs.Rows.{neighbours};
+ghost use Rattle.grid.specs.Cases.{Lines};
 ghost use Rattle.place_light.specs.Ways.{Group};
 ghost use Rattle.place_light.specs.Spares.{Spares};
 ghost use Rattle.place_bound.specs.Shrinking.{Shrunk};
 use busset::BusSet;
+use grid::Rows;
 
 // c with a trial unit at x, unless c then has all buses.
-pub fn tried(n: usize, nbr: &[BusSet; 64], zero: BusSet, c: BusSet, x: usize) -> BusSet
+pub fn tried(n: usize, nbr: &Rows, zero: BusSet, c: BusSet, x: usize) -> BusSet
     requires { ⌜ (n ≤ width) × Bus width x ⌝ }
     ensures { λ r. ⌜ Shrunk n (neighbours (now (nbr .entry))) (setOf zero) (setOf c) (setOf r) ⌝ }
 {
@@ -24,7 +26,7 @@ pub fn tried(n: usize, nbr: &[BusSet; 64], zero: BusSet, c: BusSet, x: usize) ->
 }
 
 // c with trial units, as many as leave a bus missing: what it lacks becomes small.
-pub fn shrunk(n: usize, nbr: &[BusSet; 64], zero: BusSet, c: BusSet) -> BusSet
+pub fn shrunk(n: usize, nbr: &Rows, zero: BusSet, c: BusSet) -> BusSet
     requires { ⌜ n ≤ width ⌝ }
     ensures { λ r. ⌜ Shrunk n (neighbours (now (nbr .entry))) (setOf zero) (setOf c) (setOf r) ⌝ }
 {
@@ -39,7 +41,7 @@ pub fn shrunk(n: usize, nbr: &[BusSet; 64], zero: BusSet, c: BusSet) -> BusSet
 }
 
 // The sites on or next to a bus that c lacks.
-pub fn group(n: usize, nbr: &[BusSet; 64], sites: BusSet, c: BusSet) -> BusSet
+pub fn group(n: usize, nbr: &Rows, sites: BusSet, c: BusSet) -> BusSet
     requires { ⌜ (n ≤ width) × Lines n (neighbours (now nbr)) × Within n (setOf sites) ⌝ }
     ensures { λ r. ⌜ Group (neighbours (now (nbr .entry))) (setOf sites) (setOf c) (setOf r) ⌝ }
 {
@@ -48,14 +50,7 @@ pub fn group(n: usize, nbr: &[BusSet; 64], sites: BusSet, c: BusSet) -> BusSet
 }
 
 // The sites of k groups, each of which has a site of every cover; all the sites where fewer than k groups are found.
-pub fn narrowed(
-    n: usize,
-    nbr: &[BusSet; 64],
-    zero: BusSet,
-    s: BusSet,
-    sites: BusSet,
-    k: usize,
-) -> BusSet
+pub fn narrowed(n: usize, nbr: &Rows, zero: BusSet, s: BusSet, sites: BusSet, k: usize) -> BusSet
     requires { ⌜ (n ≤ width) × Lines n (neighbours (now nbr)) × Within n (setOf sites) ⌝ }
     ensures { λ r. ⌜ Spares n (neighbours (now (nbr .entry))) (setOf zero) (setOf s) (setOf sites) k (setOf r) ⌝ }
 {

@@ -2,20 +2,15 @@
 ghost use Prim.Native.Nat.{_≤_};
 ghost use Rattle.busset.specs.Sets.{Within, width, setOf};
 ghost use Rattle.rules.specs.Observation.{ObservedSet};
-ghost use Rattle.grid.specs.Cases.{neighbours, Lines};
+ghost use Rattle.grid.specs.Rows.{neighbours};
+ghost use Rattle.grid.specs.Cases.{Lines};
 ghost use Rattle.place_light.specs.Ways.{Whatever, Cut};
 use busset::BusSet;
+use grid::Rows;
 
 // Says yes only where no k of the sites, added where s is observed, make all buses observed.
 // Such a cover has a site of the group, and each of these, tried in turn, leaves no cover of k - 1.
-pub fn is_hopeless(
-    n: usize,
-    nbr: &[BusSet; 64],
-    zero: BusSet,
-    s: BusSet,
-    sites: BusSet,
-    k: usize,
-) -> bool
+pub fn is_hopeless(n: usize, nbr: &Rows, zero: BusSet, s: BusSet, sites: BusSet, k: usize) -> bool
     requires { ⌜ (n ≤ width) × Lines n (neighbours (now nbr)) × Within n (setOf sites) ⌝ }
     ensures { λ r. ⌜ Whatever n (neighbours (now (nbr .entry))) (setOf zero)
         (λ g. ObservedSet g (setOf s) → Cut g (setOf sites) k r) ⌝ }

@@ -8,7 +8,8 @@ use Rattle.rules.specs.Confirming.{UnconfirmedSet}
 use Rattle.rules.specs.Placing as placing
 use Rattle.rules.specs.Choosing as choosing
 use Rattle.grid.specs.declared.Case.{Case}
-use Rattle.grid.specs.Cases.{mostBudget, mostGreedyBudget, gridOf, Valid}
+use Rattle.grid.specs.Limits.{mostBudget, mostGreedyBudget}
+use Rattle.grid.specs.Cases.{gridOf, Valid}
 use Rattle.refusals.specs.Refusals.{Check, checkThat, Passed, Failed}
 use Rattle.place_calls.specs.declared.Verdict.{Verdict}
 use Rattle.place_calls.specs.declared.Verdict.the-variants as verdict
@@ -56,7 +57,7 @@ GreedyReply c budget entry exit (greedy.Refused r) = Failed (greedyChecks c budg
 -- 5; the budget is at most 8, or 10; some addition within it covers, or 11
 abbrev pub fewestChecks : Case → ℕ → List Check
 fewestChecks c budget =
-    checkThat (Valid c) 5 0 ∷ checkThat (budget ≤ mostBudget) 10 0 ∷ checkThat (placing.SomeAddition (gridOf c) budget) 11 0 ∷ []
+    checkThat (Valid c) 5 0 ∷ checkThat (budget ≤ mostBudget (c .n)) 10 0 ∷ checkThat (placing.SomeAddition (gridOf c) budget) 11 0 ∷ []
 
 -- the set of the sites of the first of the smallest additions that cover
 abbrev pub FewestReply : Case → ℕ → Fewest → Type 0

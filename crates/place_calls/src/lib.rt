@@ -2,6 +2,8 @@
 ghost use Rattle.place_calls.specs.Replies.{VerdictReply, GreedyReply, FewestReply};
 use busset::BusSet;
 use grid::Case;
+use grid::limits::MOST_GREEDY_BUDGET;
+use grid::limits::most_budget;
 use refusals::Refusal;
 
 pub enum Verdict {
@@ -37,7 +39,7 @@ pub fn place_greedy(case: Case, budget: usize, room: &mut [usize]) -> Greedy
     if !grid::validity::is_valid(case) {
         return Greedy::Refused(Refusal::InvalidCase);
     }
-    if 64 < budget {
+    if MOST_GREEDY_BUDGET < budget {
         return Greedy::Refused(Refusal::OverBudget(0));
     }
     let nbr = case.nbr;
@@ -56,7 +58,7 @@ pub fn place_fewest(case: Case, budget: usize) -> Fewest
     if !grid::validity::is_valid(case) {
         return Fewest::Refused(Refusal::InvalidCase);
     }
-    if 8 < budget {
+    if most_budget(case.n) < budget {
         return Fewest::Refused(Refusal::OverBudget(0));
     }
     let nbr = case.nbr;

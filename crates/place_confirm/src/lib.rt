@@ -2,11 +2,13 @@
 ghost use Rattle.basics.specs.Deciding.{Decides};
 ghost use Rattle.busset.specs.Sets.{In, setOf};
 ghost use Rattle.rules.specs.Confirming.{Unconfirmed, UnconfirmedSet};
-ghost use Rattle.grid.specs.Cases.{neighbours, Lines};
+ghost use Rattle.grid.specs.Rows.{neighbours};
+ghost use Rattle.grid.specs.Cases.{Lines};
 use busset::BusSet;
+use grid::Rows;
 
 // Whether no other unit confirms the unit at p: none of them is at a neighbour of p, or at a neighbour of one.
-pub fn is_unconfirmed(n: usize, nbr: &[BusSet; 64], units: BusSet, p: usize) -> bool
+pub fn is_unconfirmed(n: usize, nbr: &Rows, units: BusSet, p: usize) -> bool
     requires { ⌜ Lines n (neighbours (now nbr)) × In (setOf units) p ⌝ }
     ensures { λ r. ⌜ Decides (Unconfirmed (neighbours (now (nbr .entry))) (setOf units) p) r ⌝ }
 {
@@ -16,7 +18,7 @@ pub fn is_unconfirmed(n: usize, nbr: &[BusSet; 64], units: BusSet, p: usize) -> 
 }
 
 // The units that no other unit confirms.
-pub fn unconfirmed(n: usize, nbr: &[BusSet; 64], units: BusSet) -> BusSet
+pub fn unconfirmed(n: usize, nbr: &Rows, units: BusSet) -> BusSet
     requires { ⌜ Lines n (neighbours (now nbr)) ⌝ }
     ensures { λ r. ⌜ UnconfirmedSet (neighbours (now (nbr .entry))) (setOf units) (setOf r) ⌝ }
 {

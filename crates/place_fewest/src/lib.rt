@@ -1,12 +1,15 @@
 // The fewest units: the search, and its sizes tried one after another.
 ghost use Prim.Native.Nat.{_≤_};
+ghost use Rattle.grid.specs.Limits.{mostBudget};
 ghost use Rattle.busset.specs.Sets.{Within, width, setOf};
 ghost use Rattle.rules.specs.Grids.{Proper};
 ghost use Rattle.rules.specs.Observation.{ObservedSet};
-ghost use Rattle.grid.specs.Cases.{neighbours, gridWith, Lines};
+ghost use Rattle.grid.specs.Rows.{neighbours};
+ghost use Rattle.grid.specs.Cases.{gridWith, Lines};
 ghost use Rattle.place_light.specs.Ways.{Whatever};
 ghost use Rattle.place_fewest.specs.Answers.{FoundIs, FewestIs};
 use busset::BusSet;
+use grid::Rows;
 
 pub enum Found {
     Sites(BusSet),
@@ -14,14 +17,7 @@ pub enum Found {
 }
 
 // The first k of the sites, by their rising lists, that make all buses observed where s is.
-pub fn search(
-    n: usize,
-    nbr: &[BusSet; 64],
-    zero: BusSet,
-    s: BusSet,
-    sites: BusSet,
-    k: usize,
-) -> Found
+pub fn search(n: usize, nbr: &Rows, zero: BusSet, s: BusSet, sites: BusSet, k: usize) -> Found
     requires { ⌜ (n ≤ width) × Lines n (neighbours (now nbr)) × Within n (setOf sites) ⌝ }
     ensures { λ r. ⌜ Whatever n (neighbours (now (nbr .entry))) (setOf zero)
         (λ g. ObservedSet g (setOf s) → FoundIs g (setOf sites) k r) ⌝ }
@@ -52,13 +48,13 @@ pub fn search(
 // The fewest units within the budget: the sizes are tried from 0 on.
 pub fn fewest(
     n: usize,
-    nbr: &[BusSet; 64],
+    nbr: &Rows,
     zero: BusSet,
     site: BusSet,
     units: BusSet,
     budget: usize,
 ) -> Found
-    requires { ⌜ (n ≤ width) × Proper (gridWith n (now nbr) zero site units) × (budget ≤ 8) ⌝ }
+    requires { ⌜ (n ≤ width) × Proper (gridWith n (now nbr) zero site units) × (budget ≤ mostBudget n) ⌝ }
     ensures { λ r. ⌜ FewestIs (gridWith n (now (nbr .entry)) zero site units) budget r ⌝ }
 {
     let s = observe::set::observed(nbr, zero, units);

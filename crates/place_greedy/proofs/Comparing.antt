@@ -6,6 +6,7 @@ use native.Mathlib.Numerals.{add-one}
 use native.Mathlib.Omega.{arith}
 use lib.ListN.{length, length-set, take, set}
 use lib.Seq.{take-suc-set, length-take-le}
+use Rattle.grid.specs.Limits.{mostGreedyBudget}
 use Rattle.busset.specs.Sets.{bit, In, Out, Minus, Lowest, Without, With, empty, add, size}
 use Rattle.busset.proofs.Digits.{bit-zero}
 use Rattle.busset.proofs.Members.{without-of, without-sub}
@@ -115,12 +116,12 @@ chosen-site g (suc i) b ne = b .with .free .site
 
 -- with the units u and what greedy adds to them within the rest of the budget, the list is what greedy adds in all
 pub record Adding (g : Grid) (budget count u s : ℕ) (sites : List ℕ) : Type 0 where
-  pub room : length sites ≡ 64
+  pub room : length sites ≡ mostGreedyBudget
   pub most : count ≤ budget
   pub least : ObservedSet (withUnits g u) s
   pub rest : (ys : List ℕ) → GreedyList (withUnits g u) (budget - count) ys → GreedyList g budget (take count sites ++ ys)
 
-pub adding-none : {g : Grid} {s : ℕ} (budget : ℕ) {sites : List ℕ} → length sites ≡ 64 → ObservedSet g s
+pub adding-none : {g : Grid} {s : ℕ} (budget : ℕ) {sites : List ℕ} → length sites ≡ mostGreedyBudget → ObservedSet g s
     → Adding g budget 0 (g .units) s sites
 adding-none {g} budget r l = record {
   room = r;
@@ -133,7 +134,7 @@ adding-none {g} budget r l = record {
     whole budget = omega arith
 
 pub adding-more : {g : Grid} {budget count u s v t : ℕ} {sites : List ℕ} (x : ℕ) → Adding g budget count u s sites → count < budget
-    → count < 64
+    → count < mostGreedyBudget
     → (x ≡ 0 → ⊥) → ChosenIs (withUnits g u) x → v ≡ add u x → ObservedSet (withUnits g (add u x)) t
     → Adding g budget (count + 1) v t (set sites count x)
 adding-more zero a l r ne b e lt = absurd (ne refl)
@@ -187,7 +188,7 @@ adding-all {g} {budget} {count} {u} {s} {sites} a l = record {
 
 -- ---- how long the list is
 
-module _ {g : Grid} {budget count : ℕ} {sites : List ℕ} (l : AddedSites g budget count sites) (few : budget ≤ 64) where
+module _ {g : Grid} {budget count : ℕ} {sites : List ℕ} (l : AddedSites g budget count sites) (few : budget ≤ mostGreedyBudget) where
   pub listed-count : length (take count sites) ≡ count
   listed-count = length-take-le count sites (omega (arith, l .most, l .room))
 

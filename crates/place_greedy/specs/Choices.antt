@@ -3,6 +3,7 @@ use Prim.Native.Nat.{ℕ, zero, suc, _≤_}
 use mathlib.Core.List.{List}
 use mathlib.Core.Path.{_≡_}
 use lib.ListN.{length, take}
+use Rattle.grid.specs.Limits.{mostGreedyBudget}
 use Rattle.busset.specs.Sets.{Minus}
 use Rattle.rules.specs.Grids.{Grid}
 use Rattle.rules.specs.Observation.{ObservedSet}
@@ -20,6 +21,6 @@ Chooses nbr zeros s free r = (n : ℕ) → Whatever n nbr zeros (λ g. Minus (g 
 
 -- the first `count` of the 64 sites are what greedy adds
 pub record AddedSites (g : Grid) (budget count : ℕ) (sites : List ℕ) : Type 0 where
-  pub room : length sites ≡ 64
+  pub room : length sites ≡ mostGreedyBudget
   pub most : count ≤ budget
   pub greedy : GreedyList g budget (take count sites)

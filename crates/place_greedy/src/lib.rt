@@ -3,20 +3,24 @@ ghost use Prim.Native.Nat.{ℕ, _≤_};
 ghost use mathlib.Core.Path.{_≡_};
 ghost use mathlib.Core.List.{_++_};
 ghost use lib.ListN.{length, take, drop};
+ghost use Rattle.grid.specs.Limits.{mostGreedyBudget};
 ghost use Rattle.busset.specs.Sets.{setOf};
-ghost use Rattle.grid.specs.Cases.{neighbours, gridWith};
+ghost use Rattle.grid.specs.Rows.{neighbours};
+ghost use Rattle.grid.specs.Cases.{gridWith};
 ghost use Rattle.place_greedy.specs.Choices.{Chooses, AddedSites};
 use busset::BusSet;
+use grid::Rows;
+use grid::limits::MOST_GREEDY_BUDGET;
 
 // Sites in the order added: the first `count` of `sites`.
 pub struct SiteList {
     pub count: usize,
-    pub sites: [usize; 64],
+    pub sites: [usize; MOST_GREEDY_BUDGET],
 }
 
 // The free site that makes the observed set largest where s is observed, the lowest number on a tie;
 // 0 where none adds a bus.
-pub fn best(nbr: &[BusSet; 64], zero: BusSet, s: BusSet, free: BusSet) -> usize
+pub fn best(nbr: &Rows, zero: BusSet, s: BusSet, free: BusSet) -> usize
     ensures { λ r. ⌜ Chooses (neighbours (now (nbr .entry))) (setOf zero) (setOf s) (setOf free) r ⌝ }
 {
     let mut site: usize = 0;
@@ -35,20 +39,14 @@ pub fn best(nbr: &[BusSet; 64], zero: BusSet, s: BusSet, free: BusSet) -> usize
 }
 
 // The sites that greedy adds within the budget.
-pub fn greedy(
-    nbr: &[BusSet; 64],
-    zero: BusSet,
-    site: BusSet,
-    units: BusSet,
-    budget: usize,
-) -> SiteList
-    requires { ⌜ budget ≤ 64 ⌝ }
+pub fn greedy(nbr: &Rows, zero: BusSet, site: BusSet, units: BusSet, budget: usize) -> SiteList
+    requires { ⌜ budget ≤ mostGreedyBudget ⌝ }
     ensures { λ r. ⌜ ((n : ℕ)
         → AddedSites (gridWith n (now (nbr .entry)) zero site units) budget (r .count) (r .sites)) ⌝ }
 {
     let mut placed = units;
     let mut s = observe::set::observed(nbr, zero, units);
-    let mut sites: [usize; 64] = [0; 64];
+    let mut sites: [usize; MOST_GREEDY_BUDGET] = [0; MOST_GREEDY_BUDGET];
     let mut count: usize = 0;
     while count < budget {
         let x = best(nbr, zero, s, busset::minus(site, placed));
@@ -65,7 +63,7 @@ pub fn greedy(
 
 // Writes the sites, in order, into the room lent; what lies past them stays.
 pub fn write(order: SiteList, out: &mut [usize])
-    requires { ⌜ (length (order .sites) ≡ 64) × (order .count ≤ 64) × (order .count ≤ length (now out)) ⌝ }
+    requires { ⌜ (length (order .sites) ≡ mostGreedyBudget) × (order .count ≤ mostGreedyBudget) × (order .count ≤ length (now out)) ⌝ }
     ensures { λ _. ⌜ now (out .exit) ≡ take (order .count) (order .sites) ++ drop (order .count) (now (out .entry)) ⌝ }
 {
     let sites = order.sites;

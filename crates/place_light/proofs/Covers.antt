@@ -19,7 +19,7 @@ use Rattle.place_light.specs.Ways.{Way, NoWay, Idle, Group, Cover, Uncov
 
 -- units that are placed are idle in a set that satisfies the rules for them
 pub closed-idle : {g : Grid} {c x : ℕ} → Closed g c → In (g .units) x → Idle (g .neighbours) c x
-closed-idle {g} {c} {x} cl h = record { own = cl .o1 .own x h; near = cl .o1 .near x h }
+closed-idle {g} {c} {x} cl h = record { own = cl .direct .own x h; near = cl .direct .near x h }
 
 idle-more : {nbr : ℕ → ℕ} {c d x : ℕ} → Sub c d → Idle nbr c x → Idle nbr d x
 idle-more {nbr} {c} {d} {x} sub i = record { own = omega (arith, sub x, i .own); near = λ b. omega (arith, sub b, i .near b) }
@@ -37,7 +37,7 @@ way-cover {g} {sites} {k} {xs} w = record {
   few = omega (arith, size-placed xs empty, size-empty, w .many);
   full =
       λ s cl idle. w .covers s (record
-      { o1 = record { own = λ b h. all s cl idle b h .own; near = λ b h. all s cl idle b h .near }; o2 = cl .o2 });
+      { direct = record { own = λ b h. all s cl idle b h .own; near = λ b h. all s cl idle b h .near }; zeros = cl .zeros });
 }
   where
     all : (s : ℕ) → Closed g s → ((x : ℕ) → In (placed empty xs) x → Idle (g .neighbours) s x) → (b : ℕ) → In (placed (g .units) xs) b
@@ -125,7 +125,7 @@ cover-less {g} {sites} {rest} {k} {v} x w h sub p = record {
   full = λ s cl idle. w .full s (closed-fewer g (add-grows (g .units) x) cl)
       (λ y i. ⊎-elim
       (λ (e : y ≡ x). subst⁻¹ (Idle (g .neighbours) s) e
-      (record { own = cl .o1 .own x (add-here (g .units) x); near = cl .o1 .near x (add-here (g .units) x) }))
+      (record { own = cl .direct .own x (add-here (g .units) x); near = cl .direct .near x (add-here (g .units) x) }))
       (λ (ne : y ≡ x → ⊥). idle y (less-there v x y ne ∙ i))
       (same-or y x));
 }

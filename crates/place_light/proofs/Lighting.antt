@@ -36,16 +36,16 @@ lit-by {nbr} {zeros} {s} {x} {m} {here} {t} {r} e w j sp = record {
 pub lit-least : {g : Grid} {s x r : ℕ} → ObservedSet g s → Lit (g .neighbours) (g .zeros) s x r
     → ObservedSet (withUnits g (add (g .units) x)) r
 lit-least {g} {s} {x} {r} l li = record {
-  closed = record { o1 = record { own = λ b h. both b h .own; near = λ b h. both b h .near }; o2 = li .fired };
+  closed = record { direct = record { own = λ b h. both b h .own; near = λ b h. both b h .near }; zeros = li .fired };
   least = λ t cl. li .least t (l .least t (closed-fewer g (add-grows (g .units) x) cl))
-      (cl .o1 .own x (add-here (g .units) x)) (cl .o1 .near x (add-here (g .units) x)) (cl .o2);
+      (cl .direct .own x (add-here (g .units) x)) (cl .direct .near x (add-here (g .units) x)) (cl .zeros);
 }
   where
     both : (b : ℕ) → In (add (g .units) x) b → Idle (g .neighbours) r b
     both = add-of {P = Idle (g .neighbours) r} (g .units) x (record { own = li .own; near = li .near })
         (λ b h. record {
-          own = omega (arith, l .closed .o1 .own b h, li .grows b);
-          near = λ a. omega (arith, l .closed .o1 .near b h a, li .grows a);
+          own = omega (arith, l .closed .direct .own b h, li .grows b);
+          near = λ a. omega (arith, l .closed .direct .near b h a, li .grows a);
         })
 
 -- a set that satisfies the rules, and in which a unit at y is idle, holds what is lit from y: where that holds what is lit from x, x is
@@ -59,7 +59,7 @@ lit-gives {g} {s} {x} {y} {a} {b} l lx ly sub t cl i = record {
 }
   where
     holds : Sub a t
-    holds c = omega (arith, sub c, ly .least t (l .least t cl) (i .own) (i .near) (cl .o2) c)
+    holds c = omega (arith, sub c, ly .least t (l .least t cl) (i .own) (i .near) (cl .zeros) c)
 
 -- ---- units at the buses u
 
@@ -74,9 +74,9 @@ lit-all-by {nbr} {zeros} {s} {u} {v} {t} {r} w j sp = record {
 -- what is lit satisfies the rules for the units that are there
 pub lit-all-closed : {g : Grid} {s u r : ℕ} → Closed g s → LitAll (g .neighbours) (g .zeros) s u r → Closed g r
 lit-all-closed {g} {s} {u} {r} cl l = record {
-  o1 = record {
-    own = λ b h. omega (arith, cl .o1 .own b h, l .grows b);
-    near = λ b h a. omega (arith, cl .o1 .near b h a, l .grows a);
+  direct = record {
+    own = λ b h. omega (arith, cl .direct .own b h, l .grows b);
+    near = λ b h a. omega (arith, cl .direct .near b h a, l .grows a);
   };
-  o2 = l .fired;
+  zeros = l .fired;
 }

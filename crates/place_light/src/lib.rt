@@ -1,11 +1,12 @@
 // Observed sets made from one another, as units are added.
 ghost use Rattle.busset.specs.Sets.{Bus, width, setOf};
-ghost use Rattle.grid.specs.Cases.{neighbours};
+ghost use Rattle.grid.specs.Rows.{neighbours};
 ghost use Rattle.place_light.specs.Lights.{Lit, LitAll};
 use busset::BusSet;
+use grid::Rows;
 
 // What is observed if s is and a unit is at x.
-pub fn lit(nbr: &[BusSet; 64], zero: BusSet, s: BusSet, x: usize) -> BusSet
+pub fn lit(nbr: &Rows, zero: BusSet, s: BusSet, x: usize) -> BusSet
     requires { ⌜ Bus width x ⌝ }
     ensures { λ r. ⌜ Lit (neighbours (now (nbr .entry))) (setOf zero) (setOf s) x (setOf r) ⌝ }
 {
@@ -14,7 +15,7 @@ pub fn lit(nbr: &[BusSet; 64], zero: BusSet, s: BusSet, x: usize) -> BusSet
 }
 
 // What is observed if s is and units are at the buses u.
-pub fn lit_all(nbr: &[BusSet; 64], zero: BusSet, s: BusSet, u: BusSet) -> BusSet
+pub fn lit_all(nbr: &Rows, zero: BusSet, s: BusSet, u: BusSet) -> BusSet
     ensures { λ r. ⌜ LitAll (neighbours (now (nbr .entry))) (setOf zero) (setOf s) (setOf u) (setOf r) ⌝ }
 {
     observe::set::spread(nbr, zero, busset::union(s, grid::with_neighbours(nbr, u)))

@@ -13,7 +13,8 @@ use Rattle.text_field.specs.declared.Numeral.{Numeral}
 use Rattle.text_field.specs.declared.Numeral.the-variants.{Is, Wrong}
 use Rattle.text_field.proofs.Cutting.{after-none, after-some, rest-few}
 use Rattle.case_line.specs.Fields.{ifOneField, oneNumber}
-use Rattle.grid.specs.Cases.{Valid, mostBytes}
+use Rattle.grid.specs.Limits.{mostBytes}
+use Rattle.grid.specs.Cases.{Valid}
 use Rattle.refusals.specs.declared.Refusal.{Refusal}
 use Rattle.refusals.specs.declared.Refusal.the-variants.{TextTooLong, WrongForm}
 use Rattle.case_read.specs.Reading.{start, refused, readLines, readText}

@@ -1,4 +1,4 @@
--- The planning program's input: a line `plan budget`, or `plan` alone for budget 8, and then a case text whose lines count from 2.
+-- The planning program's input: a line `plan budget`, or `plan` alone for the default, and then a case text whose lines count from 2.
 use mathlib.Core.Bool.{cond}
 use mathlib.Core.List.{List, [], _∷_}
 use Prim.Native.Nat.{ℕ}
@@ -10,14 +10,18 @@ use Rattle.text_field.specs.declared.Numeral.{Numeral}
 use Rattle.text_field.specs.declared.Numeral.the-variants.{Is, Wrong}
 use Rattle.refusals.specs.declared.Refusal.{Refusal}
 use Rattle.refusals.specs.declared.Refusal.the-variants.{TextTooLong, WrongForm}
-use Rattle.grid.specs.Cases.{mostBudget, mostBytes}
+use Rattle.grid.specs.Limits.{mostBytes}
 use Rattle.case_read.specs.Reading.{start, refused, readLines}
 use Rattle.case_read.specs.declared.CaseRead.{CaseRead}
 use Rattle.plan_input.specs.declared.Asked.{Asked}
 
--- what follows the word `plan`: nothing stands for the most
+-- the budget of `plan` alone
+abbrev pub defaultBudget : ℕ
+defaultBudget = 8
+
+-- the budget in what follows the word `plan`
 unfoldable pub planFields : List (List ℕ) → Numeral
-planFields [] = Is mostBudget
+planFields [] = Is defaultBudget
 planFields (f ∷ []) = numeralOf f
 planFields (f ∷ g ∷ fs) = Wrong
 

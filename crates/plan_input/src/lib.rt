@@ -3,9 +3,13 @@ ghost use mathlib.Core.Path.{_≡_};
 ghost use Rattle.text_field.specs.Split.{after};
 ghost use Rattle.plan_input.specs.Asking.{planFields, budgetOf, unasked, readPlan};
 use case_read::CaseRead;
+use grid::limits::MOST_BYTES;
 use refusals::Refusal;
 use text_field::Numeral;
 use text_field::piece_end;
+
+// The budget of `plan` alone.
+pub const DEFAULT_BUDGET: usize = 8;
 
 // What an input asks: the fewest of a case within a budget, which is 0 where the input is refused.
 pub struct Asked {
@@ -27,7 +31,7 @@ fn plan_fields(line: &[u8], at: usize) -> Numeral
     ensures { λ r. ⌜ r ≡ planFields (after 9 (now (line .entry)) at) ⌝ }
 {
     if line.len() <= at {
-        return Numeral::Is(8);
+        return Numeral::Is(DEFAULT_BUDGET);
     }
     case_line::one_number(line, at)
 }
@@ -47,7 +51,7 @@ fn budget_of(line: &[u8]) -> Numeral
 pub fn read_plan(input: &[u8]) -> Asked
     ensures { λ r. ⌜ r ≡ readPlan (now (input .entry)) ⌝ }
 {
-    if 8192 < input.len() {
+    if MOST_BYTES < input.len() {
         return not_asked(Refusal::TextTooLong);
     }
     let e = piece_end(input, 0, b'\n');

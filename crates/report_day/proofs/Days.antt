@@ -1,4 +1,4 @@
--- What the day report asks for is one text, of at most 860 bytes.
+-- What the day report asks for is one text, and how long it is at most.
 use mathlib.Core.Path.{_≡_, refl, sym, ap, _∙_}
 use mathlib.Core.List.{List, [], _∷_, _++_}
 use Prim.Native.Nat.{ℕ, _+_, _≤_}
@@ -22,7 +22,7 @@ use Rattle.case_read.specs.declared.ReadAnswer.{ReadAnswer}
 use Rattle.case_read.specs.declared.ReadAnswer.the-variants.{Read, Refused}
 use Rattle.report_lines.specs.Printing.{printedLine}
 use Rattle.report_lines.proofs.Printed.{refused-length}
-use Rattle.report_day.specs.Day.{stepsText, verdictFields, dayText, DayReport, DayFor, DayPrinted}
+use Rattle.report_day.specs.Day.{stepsText, verdictFields, dayText, dayRoom, DayReport, DayFor, DayPrinted}
 use Rattle.report_day.proofs.Texts.{steps-length, verdict-length, observed-length}
 use Rattle.report_day.proofs.Reports.{observed-few, derivation-named, read-good}
 
@@ -45,7 +45,7 @@ day-unique text s t = go (readCase text .answer) (readCase text .case)
 -- ---- how long it is
 
 text-fits : (count n alone : ℕ) (xs : List Step) → count ≤ width → n ≤ width → alone ≤ width → length xs ≤ width → Each (Names width) xs
-    → length (dayText count n xs alone) ≤ 860
+    → length (dayText count n xs alone) ≤ dayRoom
 text-fits count n alone xs h k l m e =
     let first = printedLine (bytes "observed") (numberText count ∷ numberText n ∷ []) in
     let verdict = printedLine (bytes "xv") (verdictFields alone) in
@@ -64,8 +64,8 @@ text-fits count n alone xs h k l m e =
     end-length : length (printedLine (bytes "end") []) ≡ 4
     end-length = unfold join in refl
 
--- a report of a valid case: 15 bytes, 13 for each of 64 steps, 9 and 4
-pub report-fits : (c : Case) (t : List ℕ) → Valid c → DayReport c t → length t ≤ 860
+-- a report of a valid case: 15 bytes, 13 for each step, 9 and 4
+pub report-fits : (c : Case) (t : List ℕ) → Valid c → DayReport c t → length t ≤ dayRoom
 report-fits c t v p =
     let seen = observed-few (v .proper) (p .least) in
     let alone = size-most (c .n) (p .unconfirmed) (λ b h. v .proper .units b (p .verdict .only b h .unit)) in
@@ -79,9 +79,9 @@ report-fits c t v p =
           (derivation-named (v .proper) most (p .derived)),
     )
 
-pub day-fits : (text t : List ℕ) → DayPrinted text t → length t ≤ 860
+pub day-fits : (text t : List ℕ) → DayPrinted text t → length t ≤ dayRoom
 day-fits text t = go (readCase text .answer) refl
   where
-    go : (a : ReadAnswer) → readCase text .answer ≡ a → DayFor a (readCase text .case) t → length t ≤ 860
+    go : (a : ReadAnswer) → readCase text .answer ≡ a → DayFor a (readCase text .case) t → length t ≤ dayRoom
     go Read e p = report-fits (readCase text .case) t (read-good text (readCase text) refl e) p
     go (Refused q) e p = omega (arith, ap length p, refused-length q)

@@ -19,7 +19,8 @@ use Rattle.rules.proofs.Reasons.{names-more}
 use Rattle.rules.proofs.Leasts.{least-bus}
 use Rattle.rules.proofs.Lists.{accepted-names}
 use Rattle.rules.proofs.Derivations.{derived-accepted, derivation-least, derivation-length}
-use Rattle.grid.specs.Cases.{neighbours, gridOf, Valid}
+use Rattle.grid.specs.Rows.{neighbours}
+use Rattle.grid.specs.Cases.{gridOf, Valid}
 use Rattle.refusals.specs.Refusals.{placeOf}
 use Rattle.grid.specs.declared.Case.{Case}
 use Rattle.refusals.specs.declared.Refusal.{Refusal}
@@ -46,12 +47,12 @@ each-more : {n m : ℕ} → n ≤ m → (xs : List Step) → Each (Names n) xs �
 each-more h [] e = tt
 each-more h (x ∷ xs) e = (names-more (e .0) h, each-more h xs (e .1))
 
--- its steps name buses 1 to 64
+-- its steps name buses 1 to width
 pub derivation-named : {g : Grid} {xs : List Step} → Proper g → g .n ≤ width → Derivation g xs → Each (Names width) xs
 derivation-named {g} {xs} v h d = each-more h xs (accepted-names v empty xs (derived-accepted d .0))
 
 listed-of : (xs : List Step) → listedSteps (listOf xs) ≡ xs
-listed-of xs = take-append-seam xs (replicate (64 - length xs) noStep)
+listed-of xs = take-append-seam xs (replicate (width - length xs) noStep)
 
 pub derived-named : {c : Case} {l : StepList} → Valid c → Derives (gridOf c) l → Named l
 derived-named {c} {l} v d =
@@ -73,8 +74,8 @@ derived-named {c} {l} v d =
           v .buses .most,
         )
 
-    room : length (xs ++ replicate (64 - length xs) noStep) ≡ width
-    room = omega (arith, length-append xs (replicate (64 - length xs) noStep), length-replicate (64 - length xs) noStep, few)
+    room : length (xs ++ replicate (width - length xs) noStep) ≡ width
+    room = omega (arith, length-append xs (replicate (width - length xs) noStep), length-replicate (width - length xs) noStep, few)
 
 -- ---- its text
 

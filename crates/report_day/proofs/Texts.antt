@@ -74,7 +74,7 @@ module _ (l : StepList) (h : Named l) where
   unfolding restSteps stepsText
   rest-all i k = ap stepsText (drop-of-length-le (listedSteps l) {i = i} (omega (arith, listed-length)))
 
-  pub list-length : length (stepsText (listedSteps l)) ≤ 832
+  pub list-length : length (stepsText (listedSteps l)) ≤ 13 * width
   list-length = omega (arith, steps-length (listedSteps l) (h .named), listed-length, h .few)
 
 -- ---- the verdict

@@ -1,7 +1,8 @@
 -- The day report: `observed count n`, the derivation's steps, `xv yes` or `xv no` followed by the number of unconfirmed units, and `end`.
 use mathlib.Core.Path.{_≡_}
 use mathlib.Core.List.{List, [], _∷_, _++_}
-use Prim.Native.Nat.{ℕ, zero, suc}
+use Prim.Native.Nat.{ℕ, zero, suc, _+_, _*_}
+use Rattle.grid.specs.Limits.{mostBuses}
 use Rattle.busset.specs.Sets.{size}
 use Rattle.step.specs.declared.Step.{Step}
 use Rattle.rules.specs.Observation.{ObservedSet}
@@ -40,6 +41,10 @@ dayText count n steps alone =
 -- t is that report
 abbrev pub IsDayText : ℕ → ℕ → List Step → ℕ → List ℕ → Type 0
 IsDayText count n steps alone t = t ≡ dayText count n steps alone
+
+-- the most bytes of a report: 13 for each step, and 28 for the other lines
+abbrev pub dayRoom : ℕ
+dayRoom = 28 + 13 * mostBuses
 
 -- ---- what is printed
 

@@ -8,7 +8,7 @@ use Rattle.basics.specs.Lists.{Each}
 use Rattle.list_value.specs.Lists.{listedSteps}
 use Rattle.list_value.specs.declared.StepList.{StepList}
 
--- at most 64 steps, which name buses 1 to 64
+-- at most one step for each bus, which name buses
 pub record Named (l : StepList) : Type 0 where
   pub few : l .n ≤ width
   pub room : length (l .steps) ≡ width

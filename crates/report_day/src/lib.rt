@@ -11,6 +11,7 @@ pub mod lines;
 
 use case_read::ReadAnswer;
 use grid::Case;
+use grid::limits::MOST_BUSES;
 use lines::put_day;
 use list_value::StepList;
 use refusals::Refusal;
@@ -57,8 +58,11 @@ pub fn day_report(text: &[u8], out: &mut [u8]) -> Written
     }
 }
 
+// The most bytes of a report.
+pub const DAY_ROOM: usize = 28 + 13 * MOST_BUSES;
+
 // What the program prints, in the bytes that it lends, and its length: no report is longer than they are.
-pub fn program_report(text: &[u8], out: &mut [u8; 1024]) -> usize
+pub fn program_report(text: &[u8], out: &mut [u8; DAY_ROOM]) -> usize
     ensures { λ k. ⌜ Printed (DayPrinted (now (text .entry))) (now (out .entry)) (now (out .exit)) k ⌝ }
 {
     let r = day_report(text, out);

@@ -1,10 +1,11 @@
--- How long what the planning program prints is: `fewest` with one digit, at most 8 lines `pmu` with two digits each, and `end`.
+-- How long what the planning program prints is: `fewest` with one digit, lines `pmu` with two digits each, and `end`.
 use mathlib.Core.Path.{_≡_, refl, ap}
 use mathlib.Core.Bool.{Bool, true, false, cond}
 use mathlib.Core.List.{List, _∷_}
 use Prim.Native.Nat.{ℕ, suc, zero, _+_, _*_, _≤_, _<_}
 use native.Mathlib.Omega.{arith}
 use lib.ListN.{length, length-append}
+use Rattle.grid.specs.Limits.{mostBuses, largestBudget}
 use Rattle.busset.specs.Sets.{size, empty}
 use Rattle.busset.proofs.Sizes.{size-empty}
 use Rattle.rules.specs.Placing.{FewestSites}
@@ -22,7 +23,7 @@ use Rattle.case_read.specs.declared.ReadAnswer.{ReadAnswer}
 use Rattle.case_read.specs.declared.ReadAnswer.the-variants.{Read, Refused}
 use Rattle.case_inverse.proofs.Counts.{members-few}
 use Rattle.report_lines.proofs.Printed.{refused-length}
-use Rattle.report_plan.specs.Plan.{planText, PlanReport, PlanFor, PlanPrinted}
+use Rattle.report_plan.specs.Plan.{planText, planRoom, PlanReport, PlanFor, PlanPrinted}
 use Rattle.plan_input.specs.Asking.{readPlan}
 use Rattle.report_plan.specs.Plan.PlanReport.{found, none}
 use Rattle.plan_input.proofs.Inputs.{plan-valid}
@@ -38,7 +39,7 @@ unfolding members linesText
 unit-lines s k zero h = omega arith
 unit-lines s k (suc m) h = one-line (has s k) k (members Pmu s (k + 1) m) (omega arith) (unit-lines s (k + 1) m (omega arith))
 
-text-fits : (n s : ℕ) → n ≤ 64 → size s ≤ 8 → length (planText n s) ≤ 69
+text-fits : (n s : ℕ) → n ≤ mostBuses → size s ≤ largestBudget → length (planText n s) ≤ planRoom
 unfolding join
 text-fits n s h k =
     simp length-append (omega (arith, ap length (text-few (size s) (omega arith)), unit-lines s 1 n (omega arith), members-few Pmu s n))
@@ -46,16 +47,16 @@ text-fits n s h k =
 fewest-few : {g : Grid} {budget m : ℕ} → FewestSites g budget m → size m ≤ budget
 fewest-few f = omega (arith, ap size (f .set), size-placed (f .list) empty, size-empty, f .addition .within)
 
-report-fits : (c : Case) (budget : ℕ) (t : List ℕ) → Valid c → PlanReport c budget t → length t ≤ 69
+report-fits : (c : Case) (budget : ℕ) (t : List ℕ) → Valid c → PlanReport c budget t → length t ≤ planRoom
 report-fits c budget t v (found m p f i) =
     omega (arith, ap length i, text-fits (c .n) m (v .buses .most) (omega (arith, fewest-few f, p .0)))
 report-fits c budget t v (none q p i) = omega (arith, ap length i, refused-length q)
 
--- 69 bytes are room for whatever is printed
-pub plan-fits : (input t : List ℕ) → PlanPrinted input t → length t ≤ 69
+-- that is room for whatever is printed
+pub plan-fits : (input t : List ℕ) → PlanPrinted input t → length t ≤ planRoom
 plan-fits input t = go (readPlan input .read .answer) refl
   where
     go : (a : ReadAnswer) → readPlan input .read .answer ≡ a → PlanFor a (readPlan input .read .case) (readPlan input .budget) t
-        → length t ≤ 69
+        → length t ≤ planRoom
     go Read e p = report-fits (readPlan input .read .case) (readPlan input .budget) t (plan-valid input e) p
     go (Refused q) e p = omega (arith, ap length p, refused-length q)

@@ -4,6 +4,7 @@ use mathlib.Core.Logic.{inl, inr}
 use mathlib.Core.List.{List, [], _∷_}
 use Prim.Native.Nat.{ℕ, _≤_, _<_}
 use native.Mathlib.Omega.{arith}
+use Rattle.grid.specs.Limits.{mostBudget}
 use Rattle.busset.specs.Sets.{Counted, width, setOf}
 use Rattle.rules.proofs.Ordering.{fewest-some}
 use Rattle.text_field.specs.Split.{join, bytes, tab, lineFeed}
@@ -33,11 +34,11 @@ pub plan-put : {l m₁ m₂ m₃ m₄ : List ℕ} {k₁ k₂ k₃ k₄ count sit
     → Put l 0 (planText n sites) m₄ k₄
 plan-put n c p q u e = rw (← c .is) (put-then (put-then p q) (put-then u e))
 
-pub over-budget : {c : Case} {budget : ℕ} → 8 < budget → (t : List ℕ) → IsRefusedText (OverBudget 1) t → PlanReport c budget t
+pub over-budget : {c : Case} {budget : ℕ} → mostBudget (c .n) < budget → (t : List ℕ) → IsRefusedText (OverBudget 1) t → PlanReport c budget t
 over-budget h t e = none (OverBudget 1) (inl ((λ l. omega arith), itself (OverBudget 1))) e
 
 -- what the search says, by its answer
-module _ (c : Case) (budget : ℕ) {r : Found} (h : budget ≤ 8) (is : FewestIs (gridOf c) budget r) where
+module _ (c : Case) (budget : ℕ) {r : Found} (h : budget ≤ mostBudget (c .n)) (is : FewestIs (gridOf c) budget r) where
   pub no-cover : r ≡ Nothing → (t : List ℕ) → IsRefusedText NoCover t → PlanReport c budget t
   no-cover e t i = none NoCover (inr (h, inl (rw e at is, itself NoCover))) i
 

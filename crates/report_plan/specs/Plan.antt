@@ -1,7 +1,7 @@
 -- What the planning program prints.
 use mathlib.Core.Path.{_≡_}
 use mathlib.Core.List.{List, [], _∷_, _++_}
-use Prim.Native.Nat.{ℕ, _≤_}
+use Prim.Native.Nat.{ℕ, _+_, _*_, _≤_}
 use Rattle.busset.specs.Sets.{size}
 use Rattle.rules.specs.Placing.{SomeAddition, FewestSites}
 use Rattle.text_field.specs.Split.{bytes}
@@ -9,7 +9,8 @@ use Rattle.text_field.specs.Number.{numberText}
 use Rattle.case_line.specs.declared.Record.the-variants.{Pmu}
 use Rattle.grid.specs.declared.Case.{Case}
 use Rattle.refusals.specs.declared.Refusal.{Refusal}
-use Rattle.grid.specs.Cases.{mostBudget, gridOf}
+use Rattle.grid.specs.Limits.{largestBudget, mostBudget}
+use Rattle.grid.specs.Cases.{gridOf}
 use Rattle.refusals.specs.Refusals.{Check, checkThat, Passed, Failed}
 use Rattle.case_line.specs.CaseText.{members, linesText}
 use Rattle.case_read.specs.declared.ReadAnswer.{ReadAnswer}
@@ -17,9 +18,9 @@ use Rattle.case_read.specs.declared.ReadAnswer.the-variants.{Read, Refused}
 use Rattle.report_lines.specs.Printing.{printedLine, IsRefusedText}
 use Rattle.plan_input.specs.Asking.{readPlan}
 
--- the budget is at most 8, or 10 at line 1; some addition within it covers, or 11
+-- the budget is at most the grid's limit, or 10 at line 1; some addition within it covers, or 11
 abbrev pub planChecks : Case → ℕ → List Check
-planChecks c budget = checkThat (budget ≤ mostBudget) 10 1 ∷ checkThat (SomeAddition (gridOf c) budget) 11 0 ∷ []
+planChecks c budget = checkThat (budget ≤ mostBudget (c .n)) 10 1 ∷ checkThat (SomeAddition (gridOf c) budget) 11 0 ∷ []
 
 -- `fewest count`, one `pmu` line for each added site, and `end`
 abbrev pub planText : ℕ → ℕ → List ℕ
@@ -29,6 +30,10 @@ planText n sites =
 -- t is that text
 abbrev pub IsPlanText : ℕ → ℕ → List ℕ → Type 0
 IsPlanText n sites t = t ≡ planText n sites
+
+-- the most bytes of a reply: 7 for each added site, and 13 for the other lines
+abbrev pub planRoom : ℕ
+planRoom = 13 + 7 * largestBudget
 
 -- t is what is printed for the fewest of the case c within the budget
 pub data PlanReport (c : Case) (budget : ℕ) (t : List ℕ) : Type 0 where

@@ -7,6 +7,8 @@ mod printing;
 
 use case_read::ReadAnswer;
 use grid::Case;
+use grid::limits::LARGEST_BUDGET;
+use grid::limits::most_budget;
 use place_fewest::Found;
 use place_fewest::fewest;
 use refusals::Refusal;
@@ -18,10 +20,10 @@ fn report(case: Case, budget: usize, out: &mut [u8]) -> Written
     requires { ⌜ Valid case ⌝ }
     ensures { λ r. ⌜ PrintedReply (PlanReport case budget) (now (out .entry)) (now (out .exit)) r ⌝ }
 {
-    if 8 < budget {
+    let n = case.n;
+    if most_budget(n) < budget {
         return print_refused(out, Refusal::OverBudget(1));
     }
-    let n = case.n;
     let nbr = case.nbr;
     let found = fewest(n, &nbr, case.zero, case.site, case.units, budget);
     match found {
@@ -46,8 +48,11 @@ pub fn plan_report(input: &[u8], out: &mut [u8]) -> Written
     }
 }
 
-// What the program prints, in the bytes that it lends, and its length: no report is longer than they are.
-pub fn program_report(input: &[u8], out: &mut [u8; 69]) -> usize
+// The most bytes of a reply.
+pub const PLAN_ROOM: usize = 13 + 7 * LARGEST_BUDGET;
+
+// What the program prints, in the bytes that it lends, and its length: no reply is longer than they are.
+pub fn program_report(input: &[u8], out: &mut [u8; PLAN_ROOM]) -> usize
     ensures { λ k. ⌜ Printed (PlanPrinted (now (input .entry))) (now (out .entry)) (now (out .exit)) k ⌝ }
 {
     let r = plan_report(input, out);

@@ -18,8 +18,8 @@ use Rattle.rules.specs.Placing.{withUnits, Full, Covers, Rising, placed}
 -- a set that satisfies the rules for more units satisfies them for fewer
 pub closed-fewer : (g : Grid) {u v s : ℕ} → Sub u v → Closed (withUnits g v) s → Closed (withUnits g u) s
 closed-fewer g {u} {v} {s} sub cl = record {
-  o1 = record { own = λ b h. cl .o1 .own b (omega (arith, sub b)); near = λ b h. cl .o1 .near b (omega (arith, sub b)) };
-  o2 = cl .o2;
+  direct = record { own = λ b h. cl .direct .own b (omega (arith, sub b)); near = λ b h. cl .direct .near b (omega (arith, sub b)) };
+  zeros = cl .zeros;
 }
 
 -- units cover exactly when the observed set has all buses

@@ -15,8 +15,8 @@ least-unique g s t p q = sub-antisym s t (p .least t (q .closed)) (q .least s (p
 pub least-empty : (g : Grid) → g .units ≡ empty → ObservedSet g empty
 least-empty g e = record {
   closed = record {
-    o1 = record { own = λ b h. absurd (bare b h); near = λ b h. absurd (bare b h) };
-    o2 = λ w z o. absurd (omega (arith, bit-zero w));
+    direct = record { own = λ b h. absurd (bare b h); near = λ b h. absurd (bare b h) };
+    zeros = record { o2 = λ w z o. absurd (omega (arith, bit-zero w)) };
   };
   least = λ t cl. empty-sub t;
 }
@@ -27,8 +27,8 @@ least-empty g e = record {
 -- the buses of the grid satisfy both rules
 pub all-closed : {g : Grid} {a : ℕ} → Proper g → All (g .n) a → Closed g a
 all-closed {g} {a} v all = record {
-  o1 = record { own = λ b h. all .has b (v .units b h); near = λ b h. sub-of (g .neighbours b) a (λ c j. all .has c (v .lines b c j .to)) };
-  o2 = λ w z o b j rest. all .has b (v .lines w b j .to);
+  direct = record { own = λ b h. all .has b (v .units b h); near = λ b h. sub-of (g .neighbours b) a (λ c j. all .has c (v .lines b c j .to)) };
+  zeros = record { o2 = λ w z o b j rest. all .has b (v .lines w b j .to) };
 }
 
 -- so the observed set has buses of the grid alone

@@ -27,17 +27,17 @@ holds-more g s t b sub (ZeroInjection w) h = record {
 }
 
 pub closed-reasoned : (g : Grid) (s : ℕ) → Closed g s → HasReasoned g s
-closed-reasoned g s cl b OwnUnit h = cl .o1 .own b h
-closed-reasoned g s cl b (NeighbourOf p) h = omega (arith, cl .o1 .near p (h .unit) b, h .joined)
-closed-reasoned g s cl b (ZeroInjection w) h = cl .o2 w (h .class) (h .observed) b (h .joined) (h .others)
+closed-reasoned g s cl b OwnUnit h = cl .direct .own b h
+closed-reasoned g s cl b (NeighbourOf p) h = omega (arith, cl .direct .near p (h .unit) b, h .joined)
+closed-reasoned g s cl b (ZeroInjection w) h = cl .zeros .o2 w (h .class) (h .observed) b (h .joined) (h .others)
 
 pub reasoned-closed : (g : Grid) (s : ℕ) → HasReasoned g s → Closed g s
 reasoned-closed g s has = record {
-  o1 = record {
+  direct = record {
     own = λ b h. has b OwnUnit h;
     near = λ p h. sub-of (g .neighbours p) s (λ b j. has b (NeighbourOf p) (record { unit = h; joined = j }));
   };
-  o2 = λ w z o b j rest. has b (ZeroInjection w) (record { class = z; observed = o; joined = j; others = rest });
+  zeros = record { o2 = λ w z o b j rest. has b (ZeroInjection w) (record { class = z; observed = o; joined = j; others = rest }) };
 }
 
 -- a bus for which a reason holds is a bus of the grid, and so is the one that the reason names

@@ -11,6 +11,10 @@ pub record Grid : Type 0 where
   pub sites : ℕ
   pub units : ℕ
 
+-- g with these sites and units: every other grid with its buses, lines and Z buses is one of these
+abbrev pub withSitesAndUnits : Grid → ℕ → ℕ → Grid
+withSitesAndUnits g sites units = record { n = g .n; neighbours = g .neighbours; zeros = g .zeros; sites = sites; units = units }
+
 -- a and b, joined as seen from a, have a line: they are two different buses, 1 to n, and it is the same seen from b
 pub record Line (n : ℕ) (neighbours : ℕ → ℕ) (a b : ℕ) : Type 0 where
   pub from : Bus n a

@@ -21,10 +21,14 @@ Fired m s = (b : ℕ) → In m b → AllBut m b s → In s b
 abbrev pub O2 : (ℕ → ℕ) → ℕ → ℕ → Type 0
 O2 neighbours zeros s = (w : ℕ) → In zeros w → In s w → Fired (neighbours w) s
 
--- s satisfies both rules
+-- what Z buses give is in s
+pub record ZeroRules (neighbours : ℕ → ℕ) (zeros s : ℕ) : Type 0 where
+  pub o2 : O2 neighbours zeros s
+
+-- s satisfies both rules: what units give directly is in it, and what Z buses give
 pub record Closed (g : Grid) (s : ℕ) : Type 0 where
-  pub o1 : O1 (g .neighbours) (g .units) s
-  pub o2 : O2 (g .neighbours) (g .zeros) s
+  pub direct : O1 (g .neighbours) (g .units) s
+  pub zeros : ZeroRules (g .neighbours) (g .zeros) s
 
 -- s is the observed set: it satisfies both rules and is contained in every set that does
 pub record ObservedSet (g : Grid) (s : ℕ) : Type 0 where

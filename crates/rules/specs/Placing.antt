@@ -5,14 +5,14 @@ use mathlib.Core.List.{List, [], _∷_}
 use Prim.Native.Nat.{ℕ, _≤_, _<_}
 use lib.ListN.{length}
 use Rattle.busset.specs.Sets.{Bus, In, Out, empty, add}
-use Rattle.rules.specs.Grids.{Grid}
+use Rattle.rules.specs.Grids.{Grid, withSitesAndUnits}
 use Rattle.rules.specs.Observation.{Closed}
 
 -- ---- other units
 
 -- g with the units u
 abbrev pub withUnits : Grid → ℕ → Grid
-withUnits g u = record { n = g .n; neighbours = g .neighbours; zeros = g .zeros; sites = g .sites; units = u }
+withUnits g u = withSitesAndUnits g (g .sites) u
 
 -- s has all n buses
 abbrev pub Full : ℕ → ℕ → Type 0

@@ -17,7 +17,7 @@ use Rattle.rules.specs.Steps.{Names, ReasonNames}
 use Rattle.step_line.specs.StepLine.{stepLineOf}
 use Rattle.step_line.specs.declared.StepLine.{StepLine}
 use Rattle.step_line.specs.declared.StepLine.the-variants.{Step as StepOf, End, Wrong}
-use Rattle.grid.specs.Cases.{mostBuses, mostSteps, mostStepBytes}
+use Rattle.grid.specs.Limits.{mostBuses, mostSteps, mostStepBytes}
 use Rattle.refusals.specs.declared.Refusal.{Refusal}
 use Rattle.refusals.specs.declared.Refusal.the-variants.{TextTooLong, OutOfRange, TooManySteps}
 use Rattle.case_judge.specs.Judging.{isBus}

@@ -15,7 +15,7 @@ use Rattle.step_line.specs.declared.StepLine.the-variants.{Step as StepOf, End,
 use Rattle.refusals.specs.declared.Refusal.{Refusal}
 use Rattle.refusals.specs.declared.Refusal.the-variants.{TextTooLong, OutOfRange, TooManySteps}
 use Rattle.refusals.specs.Refusals.{placeOf}
-use Rattle.grid.specs.Cases.{mostSteps, mostStepBytes}
+use Rattle.grid.specs.Limits.{mostSteps, mostStepBytes}
 use Rattle.step_text.specs.Steps.{stepInRange, ended, lineSaid, stepLines, readSteps}
 use Rattle.step_text.specs.declared.StepsRead.{StepsRead}
 use Rattle.step_text.specs.declared.StepsRead.the-variants.{Steps, Refused}

@@ -13,7 +13,7 @@ use Rattle.step.specs.declared.Step.{Step}
 use Rattle.step_line.specs.StepLine.{stepLineOf}
 use Rattle.step_line.specs.declared.StepLine.{StepLine}
 use Rattle.step_line.specs.declared.StepLine.the-variants.{Step as StepOf}
-use Rattle.grid.specs.Cases.{mostSteps, mostStepBytes}
+use Rattle.grid.specs.Limits.{mostSteps, mostStepBytes}
 use Rattle.refusals.specs.declared.Refusal.the-variants.{TextTooLong, WrongForm, TooManySteps}
 use Rattle.step_text.specs.Steps.{stepInRange, ended, lineSaid, stepLines, readSteps, andSteps, stepsIn, stepsFrom, StepHere}
 use Rattle.step_text.specs.declared.StepsRead.{StepsRead}

@@ -1,12 +1,16 @@
 // The step text, checked line after line.
 ghost use mathlib.Core.Path.{_≡_};
-ghost use Prim.Native.Nat.{_≤_, _<_};
+ghost use Prim.Native.Nat.{suc, _≤_, _<_};
 ghost use lib.ListN.{length};
+ghost use Rattle.grid.specs.Limits.{mostStepBytes};
 ghost use Rattle.step_text.specs.Steps.{reasonInRange, stepInRange, endedAfter, readSteps};
 
 pub mod taking;
 
 use busset::is_bus;
+use grid::limits::MOST_BUSES;
+use grid::limits::MOST_STEP_BYTES;
+use grid::limits::MOST_STEPS;
 use refusals::Refusal;
 use step::Reason;
 use step::Step;
@@ -24,8 +28,8 @@ fn reason_in_range(r: Reason) -> bool
 {
     match r {
         Reason::OwnUnit => true,
-        Reason::NeighbourOf(p) => is_bus(64, p),
-        Reason::ZeroInjection(w) => is_bus(64, w),
+        Reason::NeighbourOf(p) => is_bus(MOST_BUSES, p),
+        Reason::ZeroInjection(w) => is_bus(MOST_BUSES, w),
     }
 }
 
@@ -33,7 +37,7 @@ fn step_in_range(x: Step) -> bool
     ensures { λ t. ⌜ t ≡ stepInRange x ⌝ }
 {
     let reason = x.reason;
-    if !is_bus(64, x.bus) {
+    if !is_bus(MOST_BUSES, x.bus) {
         return false;
     }
     reason_in_range(reason)
@@ -41,7 +45,7 @@ fn step_in_range(x: Step) -> bool
 
 // What was read, where the line feed of `end`, on line k, stands at e.
 fn at_end(text: &[u8], e: usize, k: usize) -> StepsRead
-    requires { ⌜ (e < length (now text)) × (1 ≤ k) × (k ≤ 16385) ⌝ }
+    requires { ⌜ (e < length (now text)) × (1 ≤ k) × (k ≤ suc mostStepBytes) ⌝ }
     ensures { λ r. ⌜ r ≡ endedAfter k (now (text .entry)) e ⌝ }
 {
     if e + 1 < text.len() {
@@ -54,7 +58,7 @@ fn at_end(text: &[u8], e: usize, k: usize) -> StepsRead
 pub fn check_steps(text: &[u8]) -> StepsRead
     ensures { λ r. ⌜ r ≡ readSteps (now (text .entry)) ⌝ }
 {
-    if 16384 < text.len() {
+    if MOST_STEP_BYTES < text.len() {
         return StepsRead::Refused(Refusal::TextTooLong);
     }
     let mut k: usize = 1;
@@ -69,7 +73,7 @@ pub fn check_steps(text: &[u8]) -> StepsRead
                 if !step_in_range(x) {
                     return StepsRead::Refused(Refusal::OutOfRange(k));
                 }
-                if 1024 < k {
+                if MOST_STEPS < k {
                     return StepsRead::Refused(Refusal::TooManySteps(k));
                 }
             }

@@ -8,7 +8,8 @@ use Rattle.rules.specs.Grids.{total}
 use Rattle.rules.specs.Observation.{ObservedSet}
 use Rattle.tables.proofs.Tests.{gap, isOne, given, subTest, holdsTest, acceptedTest, closedTest, leastTest, least-passes}
 use Rattle.tables.proofs.Sought.{derived, pick, reasonFor, reasonAt, stepFor, passFrom, extended, derive}
-use Rattle.grid.specs.Cases.{neighbours, Valid}
+use Rattle.grid.specs.Rows.{neighbours}
+use Rattle.grid.specs.Cases.{Valid}
 use Rattle.tables.proofs.Drawn.{withinTest, rowTest, validTest, valid-passes}
 use Rattle.tables.specs.Starred.{Drawing, drawnCase, seven, path}
 use Rattle.tables.specs.Drawings.{set, drawnGrid, pathWith, sweep, leaf, lone, ring}

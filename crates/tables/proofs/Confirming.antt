@@ -13,7 +13,7 @@ use Rattle.rules.specs.Confirming.{Confirm, joined, share, UnconfirmedSet}
 use Rattle.rules.proofs.Choices.{unconfirmed-unique}
 use Rattle.tables.proofs.Tests.{gap, given}
 use Rattle.tables.proofs.Sought.{confirmTest, aloneTest, unconfirmedTest, unconfirmed-passes}
-use Rattle.grid.specs.Cases.{neighbours}
+use Rattle.grid.specs.Rows.{neighbours}
 use Rattle.tables.proofs.Drawn.{withinTest, rowTest, validTest, valid-passes}
 use Rattle.tables.specs.Starred.{Drawing, setWord, drawnCase, seven}
 use Rattle.tables.proofs.Rows.{_&_}

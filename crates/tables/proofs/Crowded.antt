@@ -10,7 +10,8 @@ use Rattle.busset.proofs.Digits.{half-lt}
 use Rattle.busset.proofs.Sizes.{size-empty}
 use Rattle.rules.specs.Grids.{total, lineCount}
 use Rattle.tables.proofs.Tests.{gap}
-use Rattle.grid.specs.Cases.{mostBuses, neighbours}
+use Rattle.grid.specs.Limits.{mostBuses}
+use Rattle.grid.specs.Rows.{neighbours}
 use Rattle.tables.proofs.Drawn.{withinTest, rowTest, validTest, valid-passes}
 use Rattle.tables.proofs.Rows.{_&_}
 use Rattle.tables.specs.Tables.{AllRight}

@@ -11,7 +11,9 @@ use Rattle.busset.proofs.Words.{set-bus}
 use Rattle.rules.specs.Grids.{total, lineCount}
 use Rattle.tables.proofs.Tests.{gap, gap-none, total-none}
 use Rattle.grid.specs.declared.Case.{Case}
-use Rattle.grid.specs.Cases.{mostBuses, mostLines, neighbours, Valid}
+use Rattle.grid.specs.Limits.{mostBuses, mostLines}
+use Rattle.grid.specs.Rows.{neighbours}
+use Rattle.grid.specs.Cases.{Valid}
 use Rattle.grid.proofs.Rows.{row-zero, row-past, row-bus}
 
 -- the buses of the word are 1 to n

@@ -10,7 +10,8 @@ use Rattle.rules.specs.Grids.{total}
 use Rattle.tables.proofs.Tests.{gap}
 use Rattle.refusals.specs.declared.Refusal.{Refusal}
 use Rattle.refusals.specs.declared.Refusal.the-variants.{InvalidCase, OverBudget}
-use Rattle.grid.specs.Cases.{neighbours, Lines}
+use Rattle.grid.specs.Rows.{neighbours}
+use Rattle.grid.specs.Cases.{Lines}
 use Rattle.refusals.specs.Refusals.{Check, checkThat, Failed}
 use Rattle.refusals.proofs.Orders.{itself, failed-unique, failed-or-passed}
 use Rattle.tables.proofs.Drawn.{withinTest, rowTest, validTest, valid-passes}

@@ -10,7 +10,7 @@ use Rattle.rules.specs.Grids.{Grid}
 use Rattle.rules.specs.Observation.{AllBut, O2, Closed, ObservedSet}
 use Rattle.rules.proofs.Firing.{fired-by, others-in}
 use Rattle.rules.proofs.Leasts.{least-unique, all-closed}
-use Rattle.grid.specs.Cases.{neighbours}
+use Rattle.grid.specs.Rows.{neighbours}
 use Rattle.tables.specs.Starred.{path}
 use Rattle.tables.proofs.Rows.{_&_}
 use Rattle.tables.proofs.Computed.{known}
@@ -23,11 +23,11 @@ use Rattle.tables.specs.Observation as tables
 pub o1-right : AllRight tables.o1Table
 unfolding neighbours setOf
 o1-right =
-    known .at3 .least .closed .o1
+    known .at3 .least .closed .direct
     & (λ h. omega (arith, h .near 3 refl 2))
     & (λ h. omega (arith, h .near 3 refl 7))
     & (λ h. omega (arith, h .own 3 refl))
-    & known .none .least .closed .o1
+    & known .none .least .closed .direct
     & tt
 
 -- of the buses m, b alone is not in s
@@ -60,12 +60,12 @@ pub o2-right : AllRight tables.o2Table
 unfolding neighbours lack setOf ones onesIn
 o2-right =
     asks-1
-    & known .at3 .least .closed .o2
-    & known .path15 .least .closed .o2
-    & known .path1 .least .closed .o2
-    & known .at4 .least .closed .o2
+    & known .at3 .least .closed .zeros .o2
+    & known .path15 .least .closed .zeros .o2
+    & known .path1 .least .closed .zeros .o2
+    & known .at4 .least .closed .zeros .o2
     & (λ h. omega (arith, h 1 refl refl 2 refl (but-one (set (2 ∷ [])) 2 (set (1 ∷ [])) refl refl refl)))
-    & known .leaf2 .least .closed .o2
+    & known .leaf2 .least .closed .zeros .o2
     & tt
 
 -- ---- the observed set
@@ -79,8 +79,8 @@ unfolding neighbours setOf
 closed-right =
     known .at3 .least .closed
     & all-seven
-    & (λ h. asks-1 (h .o2))
-    & (λ h. omega (arith, h .o1 .own 3 refl))
+    & (λ h. asks-1 (h .zeros .o2))
+    & (λ h. omega (arith, h .direct .own 3 refl))
     & tt
 
 -- another set than the observed one is not it
@@ -97,7 +97,7 @@ least-right =
     & known .at14 .least
     & known .path15 .least
     & other (sevenGrid (3 ∷ [])) _ _ (known .at3 .least) (λ e. omega arith)
-    & (λ h. asks-1 (h .closed .o2))
+    & (λ h. asks-1 (h .closed .zeros .o2))
     & other (drawnGrid path) _ _ (known .path15 .least) (λ e. omega arith)
     & other (drawnGrid sweep) _ _ (known .swept .least) (λ e. omega arith)
     & known .swept .least

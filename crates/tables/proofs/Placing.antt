@@ -21,7 +21,8 @@ use Rattle.tables.proofs.Sought.{Sought, PlanIs, pick, reasonFor, reaso
 use Rattle.tables.proofs.Sought.{noBetter, bestTest, noneTest, greedyTest, greedy-passes, above, none, some}
 use Rattle.tables.proofs.Sought.{soughtFrom, judge, orElse, choose, seek, firstOf, smallest, fewest-passes}
 use Rattle.grid.specs.declared.Case.{Case}
-use Rattle.grid.specs.Cases.{neighbours, gridOf}
+use Rattle.grid.specs.Rows.{neighbours}
+use Rattle.grid.specs.Cases.{gridOf}
 use Rattle.tables.proofs.Drawn.{withinTest, rowTest, validTest, valid-passes}
 use Rattle.tables.specs.Starred.{drawnCase, seven}
 use Rattle.tables.proofs.Rows.{_&_}

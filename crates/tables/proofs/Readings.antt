@@ -13,7 +13,7 @@ use Rattle.text_field.specs.Number.{isDigit, takesDigit, numberFrom, numeralOf,
 use Rattle.case_line.specs.Fields.{markOf, ifOneField, ifNoField}
 use Rattle.case_line.specs.Record.{recordWordOf, lineFields, busFields, recordOf, recordText}
 use Rattle.step_line.specs.StepLine.{letterOf, stepWordOf, reasonFields, stepFields, stepLineOf, stepText}
-use Rattle.grid.specs.Cases.{neighbours}
+use Rattle.grid.specs.Rows.{neighbours}
 use Rattle.case_inverse.proofs.Grammars.{reads-read, not-got, read-reads}
 use Rattle.case_judge.specs.Judging.{isBus, isAfter, pastBuses, judged}
 use Rattle.case_read.specs.Reading.{start, readLines, readText, readCase}

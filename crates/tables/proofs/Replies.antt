@@ -24,7 +24,8 @@ use Rattle.rules.proofs.Lists.{closed-finished}
 use Rattle.rules.proofs.Ordering.{fewest-some}
 use Rattle.tables.proofs.Tests.{gap}
 use Rattle.refusals.specs.declared.Refusal.the-variants.{InvalidCase, NoSuchBus, ReasonFails, OverBudget, NoCover}
-use Rattle.grid.specs.Cases.{neighbours, Valid}
+use Rattle.grid.specs.Rows.{neighbours}
+use Rattle.grid.specs.Cases.{Valid}
 use Rattle.refusals.specs.Refusals.{Failed, numberOf}
 use Rattle.refusals.proofs.Orders.{itself, failed-or-passed, failed-unique}
 use Rattle.tables.proofs.Drawn.{withinTest, rowTest, validTest, valid-passes}

@@ -21,7 +21,8 @@ use Rattle.tables.proofs.Sought.{Sought, pick, reasonFor, reasonAt, ste
 use Rattle.tables.proofs.Sought.{aloneTest, unconfirmedTest, noBetter, bestTest, noneTest, greedyTest, above, none}
 use Rattle.tables.proofs.Sought.{some, unsure, soughtFrom, judge, orElse, choose, seek, firstOf, smallest}
 use Rattle.refusals.proofs.Orders.{itself}
-use Rattle.grid.specs.Cases.{neighbours, gridOf, Valid}
+use Rattle.grid.specs.Rows.{neighbours}
+use Rattle.grid.specs.Cases.{gridOf, Valid}
 use Rattle.tables.proofs.Drawn.{withinTest, rowTest, validTest, valid-passes}
 use Rattle.observe_calls.specs.Replies.{stated}
 use Rattle.tables.specs.Drawings.{drawnGrid}

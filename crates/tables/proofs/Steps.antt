@@ -15,7 +15,7 @@ use Rattle.rules.proofs.Reasons.{closed-reasoned}
 use Rattle.rules.proofs.Lists.{closed-finished}
 use Rattle.rules.proofs.Derivations.{derived-unique, derived-accepted}
 use Rattle.tables.proofs.Tests.{gap, given, subTest, holdsTest}
-use Rattle.grid.specs.Cases.{neighbours}
+use Rattle.grid.specs.Rows.{neighbours}
 use Rattle.list_value.specs.declared.StepList.{StepList}
 use Rattle.tables.proofs.Rows.{_&_}
 use Rattle.tables.proofs.Computed.{known}

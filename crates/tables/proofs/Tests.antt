@@ -136,20 +136,22 @@ closedTest g s =
 closed-passes : (g : Grid) (s : ℕ) → Proper g → closedTest g s ≡ 0 → Closed g s
 unfolding closedTest
 closed-passes g s v e = record {
-  o1 = record {
+  direct = record {
     own = λ b h. omega (arith, sub-passes (g .n) (g .units) s (v .units) (omega arith) b);
     near = λ b h.
         sub-passes (g .n) (g .neighbours b) s (λ a j. v .lines b a j .to)
         (given-passes (bit (g .units) b) (subTest (g .n) (g .neighbours b) s) h
         (total-none (g .n) (λ b. given (bit (g .units) b) (subTest (g .n) (g .neighbours b) s)) (omega arith) b (v .units b h)));
   };
-  o2 = λ w z o.
-      let f : ℕ → ℕ = λ w. given (bit (g .zeros) w) (given (bit s w) (isOne (size (lack (g .neighbours w) s)))) in
-      fired-by (g .neighbours w) s
-      (isOne-not (size (lack (g .neighbours w) s))
-      (given-passes (bit s w) (isOne (size (lack (g .neighbours w) s))) o
-      (given-passes (bit (g .zeros) w) (given (bit s w) (isOne (size (lack (g .neighbours w) s)))) z
-      (total-none (g .n) f (omega arith) w (v .zeros w z)))));
+  zeros = record {
+    o2 = λ w z o.
+        let f : ℕ → ℕ = λ w. given (bit (g .zeros) w) (given (bit s w) (isOne (size (lack (g .neighbours w) s)))) in
+        fired-by (g .neighbours w) s
+        (isOne-not (size (lack (g .neighbours w) s))
+        (given-passes (bit s w) (isOne (size (lack (g .neighbours w) s))) o
+        (given-passes (bit (g .zeros) w) (given (bit s w) (isOne (size (lack (g .neighbours w) s)))) z
+        (total-none (g .n) f (omega arith) w (v .zeros w z)))));
+  };
 }
 
 -- s is the observed set, as the list xs derives it

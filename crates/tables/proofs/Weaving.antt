@@ -19,7 +19,8 @@ use Rattle.rules.specs.Weaving.{TakenFromOne, here, there, Shuffle, none, next}
 use Rattle.rules.specs.Figures.{figure}
 use Rattle.tables.proofs.Tests.{gap}
 use Rattle.rules.proofs.Shuffles.{weaving-shuffles}
-use Rattle.grid.specs.Cases.{neighbours, gridOf}
+use Rattle.grid.specs.Rows.{neighbours}
+use Rattle.grid.specs.Cases.{gridOf}
 use Rattle.tables.proofs.Drawn.{withinTest, rowTest, validTest, valid-passes}
 use Rattle.list_follow.specs.declared.Wove.the-variants as wove
 use Rattle.demands.proofs.Demand3.{demand-3}

@@ -7,8 +7,10 @@ use lib.ListN.{replicate}
 use Rattle.busset.specs.Sets.{width}
 use Rattle.rules.specs.Grids.{Line, Proper, total, lineCount}
 use Rattle.grid.specs.declared.Case.{Case}
-use Rattle.grid.specs.Cases.{mostBuses, mostLines, mostSteps, mostBudget, mostGreedyBudget}
-use Rattle.grid.specs.Cases.{neighbours, gridOf, LinesAt, Lines, Valid, mostBytes, mostStepBytes}
+use Rattle.grid.specs.Limits.{mostBuses, mostLines, mostSteps, mostBudget, mostGreedyBudget}
+use Rattle.grid.specs.Limits.{mostBytes, mostStepBytes}
+use Rattle.grid.specs.Rows.{neighbours}
+use Rattle.grid.specs.Cases.{gridOf, LinesAt, Lines, Valid}
 use Rattle.tables.specs.Starred.{drawnCase, seven, path}
 use Rattle.tables.specs.Tables.{Right, Row, holds, fails}
 use Rattle.tables.specs.Drawings.{set, value, sevenGrid, drawnGrid}

@@ -4,7 +4,7 @@ use mathlib.Core.List.{List, [], _∷_}
 use Prim.Native.Nat.{ℕ}
 use Prim.Native.String.{String}
 use lib.ListN.{replicate}
-use Rattle.grid.specs.Cases.{mostBuses}
+use Rattle.grid.specs.Limits.{mostBuses}
 use Rattle.rules.specs.Steps.{Names}
 use Rattle.basics.specs.Lists.{Each}
 use Rattle.text_field.specs.Split.{bytes, split, lineFeed}

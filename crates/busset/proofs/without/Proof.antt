@@ -1,6 +1,6 @@
 -- The set of b alone, subtracted from s, takes b and no other bus, so one bus fewer is left if b was in s.
 use borrow.Author.Needs.{needs}
-use Rattle.busset.proofs.Words.{without-law}
+use Rattle.busset.proofs.Words.{without-law, empty-set}
 use Rattle.busset.proofs.without.Statement.{statement}
 use Rattle.busset.proofs.without.Tie as tie
 
@@ -14,7 +14,7 @@ minus-requires : tie.Need-minus-requires
 minus-requires c κs = search needs
 
 returns : tie.Need-returns
-returns c = without-law (c .before .before .none .ensures) (c .before .with .ensures) (c .minus .ensures)
+returns c = without-law (empty-set (c .before .before .none .ensures)) (c .before .with .ensures) (c .minus .ensures)
 
 pub without-spec : {M : Type 1} → statement M
 without-spec = tie.close (tie.spec none-requires with-requires minus-requires returns)

@@ -15,6 +15,12 @@ Inv-loop text from first s₀ rows₀ m₀ k₀ at₀ s rows m k at = Going text
 abbrev μ-loop : tie.MeasureT-loop
 μ-loop text from first s₀ rows₀ m₀ k₀ at₀ s rows m k at = length text - at
 
+no-rows-requires : tie.Need-no-rows-requires Inv-loop μ-loop
+no-rows-requires c κs = search needs
+
+no-marks-requires : tie.Need-no-marks-requires Inv-loop μ-loop
+no-marks-requires c κs = search needs
+
 loop-holds : tie.Need-loop-holds Inv-loop μ-loop
 loop-holds c = search going-first
 
@@ -111,6 +117,8 @@ read-text-spec =
     (tie.spec
     Inv-loop
     μ-loop
+    no-rows-requires
+    no-marks-requires
     loop-holds
     piece-end-requires
     refusal-requires

@@ -2,17 +2,17 @@
 use borrow.Author.Needs.{needs}
 use Prim.Native.Nat.{_-_, _≤_}
 use native.Mathlib.Omega.{arith}
-use Rattle.busset.specs.Bytes.{setBytes}
+use Rattle.busset.specs.Bytes.{setBytes, setLength}
 use Rattle.step.proofs.Writing.{WrittenSoFar, written-none}
 use Rattle.estimator_reply.proofs.Filling.{filled-more, filled-all}
 use Rattle.estimator_reply.proofs.fill.Statement.{statement}
 use Rattle.estimator_reply.proofs.fill.Tie as tie
 
 abbrev Inv-loop : tie.InvT-loop
-Inv-loop s set₀ i₀ set i = (i ≤ 8) × WrittenSoFar (setBytes s) set₀ set i
+Inv-loop s set₀ i₀ set i = (i ≤ setLength) × WrittenSoFar (setBytes s) set₀ set i
 
 abbrev μ-loop : tie.MeasureT-loop
-μ-loop s set₀ i₀ set i = 8 - i
+μ-loop s set₀ i₀ set i = setLength - i
 
 loop-holds : tie.Need-loop-holds Inv-loop μ-loop
 loop-holds c = (search needs, written-none _ _)

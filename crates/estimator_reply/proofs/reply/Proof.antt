@@ -4,7 +4,7 @@ use mathlib.Core.Path.{sym, ap, _∙_}
 use mathlib.Core.List.{_++_}
 use Prim.Native.Nat.{ℕ}
 use lib.ListN.{drop}
-use Rattle.busset.specs.Bytes.{setBytes}
+use Rattle.busset.specs.Bytes.{setBytes, setLength}
 use Rattle.estimator_reply.proofs.Replying.{room-for, bytes-filled, bytes-kept}
 use Rattle.estimator_reply.proofs.reply.Statement.{statement}
 use Rattle.estimator_reply.proofs.reply.Tie as tie
@@ -34,7 +34,7 @@ returns c =
     record {
       result = at-result .result .ensures;
       bytes =
-          at-fill .fill .ensures ∙ ap (λ (s : ℕ). setBytes s ++ drop 8 (at-args .args .set .now)) (at-set-of .set-of .ensures)
+          at-fill .fill .ensures ∙ ap (λ (s : ℕ). setBytes s ++ drop setLength (at-args .args .set .now)) (at-set-of .set-of .ensures)
           ∙ bytes-filled (at-args .args .answer) (at-args .args .set .now) (sym (at-result .result .ensures) ∙ at-if1 .if1 .taken);
     }
 

@@ -1,9 +1,10 @@
 -- The loop has gathered the neighbours of the buses that are not left; fewer are left each turn.
 use native.Mathlib.Omega.{arith}
 use borrow.Author.Tests.{not-true, not-false}
+use Rattle.busset.proofs.Words.{empty-set}
 use Rattle.busset.specs.Sets.{setOf, size}
 use Rattle.basics.proofs.Tests.{refutes}
-use Rattle.grid.specs.Cases.{neighbours}
+use Rattle.grid.specs.Rows.{neighbours}
 use Rattle.grid.proofs.Gathering.{Gathered, gathered-none, gathered-more, gathered-all}
 use borrow.Author.Needs.{needs}
 use Rattle.grid.proofs.with_neighbours.Statement.{statement}
@@ -19,7 +20,7 @@ none-requires : tie.Need-none-requires Inv-loop μ-loop
 none-requires c κs = search needs
 
 loop-holds : tie.Need-loop-holds Inv-loop μ-loop
-loop-holds c = gathered-none _ _ (c .none .ensures)
+loop-holds c = gathered-none _ _ (empty-set (c .none .ensures))
 
 is-none-requires : tie.Need-is-none-requires Inv-loop μ-loop
 is-none-requires c κs = search needs

@@ -3,6 +3,8 @@
 use Prim.Native.Nat.{_-_, _<_}
 use mathlib.Core.Path.{ap, subst}
 use native.Mathlib.Omega.{arith}
+use Rattle.busset.proofs.Words.{empty-set}
+use Rattle.grid.specs.Limits.{mostBuses}
 use Rattle.busset.specs.Sets.{Bus, size, setOf}
 use Rattle.busset.proofs.Members.{bus-more, with-add}
 use Rattle.busset.proofs.Sizes.{size-add}
@@ -19,7 +21,7 @@ abbrev Inv-loop : tie.InvT-loop
 Inv-loop case s₀ list₀ s list = Extends (gridOf case) (setOf s) list
 
 abbrev μ-loop : tie.MeasureT-loop
-μ-loop case s₀ list₀ s list = 64 - size (setOf s)
+μ-loop case s₀ list₀ s list = mostBuses - size (setOf s)
 
 -- the step that is taken
 abbrev Place : Type 0
@@ -34,7 +36,7 @@ valid c = start c .pre
 stepped : (c : Place) → NextIs (gridOf (start c .args .case)) (setOf (c .before .before .before .loop .s)) (c .x .given .0 .0)
 stepped c = subst (NextAnswer _ _) (c .x .given .1) (c .before .before .next-step .ensures)
 
-few : (c : Place) → size (setOf (c .before .before .before .loop .s)) < 64
+few : (c : Place) → size (setOf (c .before .before .before .loop .s)) < mostBuses
 few c = extends-few (valid c .proper) (valid c .buses .most) (stepped c) (c .before .before .before .loop .inv)
 
 bus : (c : Place) → Bus (start c .args .case .n) (c .x .given .0 .0 .bus)
@@ -47,7 +49,7 @@ no-steps-requires : tie.Need-no-steps-requires Inv-loop μ-loop
 no-steps-requires c κs = search needs
 
 loop-holds : tie.Need-loop-holds Inv-loop μ-loop
-loop-holds c = extends-none _ (c .before .none .ensures) (c .no-steps .ensures)
+loop-holds c = extends-none _ (empty-set (c .before .none .ensures)) (c .no-steps .ensures)
 
 next-step-requires : tie.Need-next-step-requires Inv-loop μ-loop
 next-step-requires c κs = search needs

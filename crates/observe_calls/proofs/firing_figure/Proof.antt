@@ -12,7 +12,8 @@ use Rattle.busset.specs.Sets.{Bus, In, width}
 use Rattle.basics.proofs.Tests.{refutes}
 use Rattle.busset.proofs.Members.{bus-more, decides-in}
 use Rattle.rules.specs.Figures.{figure}
-use Rattle.grid.specs.Cases.{neighbours, Valid}
+use Rattle.grid.specs.Rows.{neighbours}
+use Rattle.grid.specs.Cases.{Valid}
 use Rattle.refusals.proofs.Orders.{itself}
 use borrow.Author.Needs.{needs}
 use Rattle.observe_calls.proofs.firing_figure.Statement.{statement}

@@ -1,13 +1,13 @@
 -- A unit confirms p exactly if it is on a neighbour of p or next to one. This needs that each line is seen from both ends.
-use Rattle.busset.specs.Sets.{Bus}
+use Rattle.busset.specs.Sets.{Bus, width}
 use Rattle.busset.proofs.Words.{set-bus}
 use Rattle.place_confirm.proofs.Sharing.{unconfirmed-test}
 use borrow.Author.Needs.{needs}
 use Rattle.place_confirm.proofs.is_unconfirmed.Statement.{statement}
 use Rattle.place_confirm.proofs.is_unconfirmed.Tie as tie
 
-bus : (c : tie.Start) → Bus 64 (c .args .p)
-bus c = set-bus 64 (c .args .p) (search needs) (c .pre .1)
+bus : (c : tie.Start) → Bus width (c .args .p)
+bus c = set-bus width (c .args .p) (search needs) (c .pre .1)
 
 row-requires : tie.Need-row-requires
 row-requires c κs = bus c

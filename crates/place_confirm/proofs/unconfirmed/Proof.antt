@@ -3,9 +3,10 @@ use mathlib.Core.Path.{ap}
 use mathlib.Core.Logic.{⊎-elim}
 use native.Mathlib.Omega.{arith}
 use borrow.Author.Tests.{not-true, not-false}
+use Rattle.busset.proofs.Words.{empty-set}
 use Rattle.busset.specs.Sets.{setOf, size}
 use Rattle.basics.proofs.Tests.{refutes}
-use Rattle.grid.specs.Cases.{neighbours}
+use Rattle.grid.specs.Rows.{neighbours}
 use Rattle.place_confirm.proofs.Sharing.{Sifted, sifted-none, sifted-yes, sifted-no, sifted-to, sifted-all}
 use borrow.Author.Needs.{needs}
 use Rattle.place_confirm.proofs.unconfirmed.Statement.{statement}
@@ -21,7 +22,7 @@ none-requires : tie.Need-none-requires Inv-loop μ-loop
 none-requires c κs = search needs
 
 loop-holds : tie.Need-loop-holds Inv-loop μ-loop
-loop-holds c = sifted-none _ _ (c .none .ensures)
+loop-holds c = sifted-none _ _ (empty-set (c .none .ensures))
 
 is-none-requires : tie.Need-is-none-requires Inv-loop μ-loop
 is-none-requires c κs = search needs

@@ -4,6 +4,7 @@ use Prim.Native.Nat.{ℕ, _<_, _+_, _-_}
 use native.Mathlib.Omega.{arith}
 use borrow.Author.Needs.{needs}
 use borrow.Author.Tests.{not-true, not-false}
+use Rattle.busset.proofs.Words.{empty-set}
 use Rattle.busset.specs.Sets.{Sub, setOf, size}
 use Rattle.basics.proofs.Tests.{refutes}
 use Rattle.busset.proofs.Members.{without-sub}
@@ -11,7 +12,7 @@ use Rattle.busset.proofs.Sizes.{size-le}
 use Rattle.rules.specs.Grids.{Grid}
 use Rattle.rules.specs.Observation.{ObservedSet}
 use Rattle.rules.proofs.Covering.{covers-full, full-covers}
-use Rattle.grid.specs.Cases.{neighbours}
+use Rattle.grid.specs.Rows.{neighbours}
 use Rattle.place_light.specs.Ways.{Whatever}
 use Rattle.place_light.proofs.Searching.{way-none, no-way-none, no-way-left, KeepsWays, passed-none, passed-more, passed-no, passed-first}
 use Rattle.place_light.proofs.Covers.{no-cover-way}
@@ -100,7 +101,7 @@ search-none-requires t c κs = search needs
 search-returns : (t : ℕ) → search-lts.Need-returns (calls t) (search-at t) search′.Post search-Inv-loop search-μ-loop
 search-returns t c =
     let s = c .before .before .before .before in
-    λ sites units l. way-none (c .before .before .before .if1 .taken) (c .none .ensures)
+    λ sites units l. way-none (c .before .before .before .if1 .taken) (empty-set (c .none .ensures))
     (full-covers (asked s sites units) l (c .before .before .is-full .ensures .yes (c .before .if2 .taken)))
 
 search-returns-2 : (t : ℕ) → search-lts.Need-returns-2 (calls t) (search-at t) search′.Post search-Inv-loop search-μ-loop

@@ -8,7 +8,7 @@ use borrow.Author.Tests.{not-true, not-false}
 use Rattle.busset.specs.Sets.{setOf, size, Minus}
 use Rattle.basics.proofs.Tests.{refutes}
 use Rattle.rules.specs.Observation.{ObservedSet}
-use Rattle.grid.specs.Cases.{neighbours}
+use Rattle.grid.specs.Rows.{neighbours}
 use Rattle.place_light.specs.Ways.{Whatever}
 use Rattle.place_light.proofs.Lighting.{lit-least}
 use Rattle.place_greedy.proofs.Comparing.{Compared, compared-none, compared-yes, compared-no, compared-to, compared-all}

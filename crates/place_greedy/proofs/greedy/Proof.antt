@@ -4,7 +4,7 @@ use Prim.Native.Nat.{ℕ, _-_}
 use mathlib.Core.Path.{refl}
 use native.Mathlib.Omega.{arith}
 use borrow.Author.Needs.{needs}
-use Rattle.busset.specs.Sets.{Bus, setOf}
+use Rattle.busset.specs.Sets.{Bus, setOf, width}
 use Rattle.busset.proofs.Words.{set-bus}
 use Rattle.busset.proofs.Members.{with-add}
 use Rattle.rules.specs.Grids.{Grid}
@@ -34,10 +34,10 @@ chosen c n =
     (c .before .minus .ensures) (l .loop .inv n .least)
 
 -- it is a bus
-bus : (c : tie.Else1 Inv-loop μ-loop) → Bus 64 (c .before .best .result)
+bus : (c : tie.Else1 Inv-loop μ-loop) → Bus width (c .before .best .result)
 bus c =
     let l = c .before .before .before .before in
-    set-bus 64 _ (search needs) (chosen-site (withUnits (asked l 0) (setOf (l .loop .placed))) _ (chosen (c .before) 0) (c .if1 .left))
+    set-bus width _ (search needs) (chosen-site (withUnits (asked l 0) (setOf (l .loop .placed))) _ (chosen (c .before) 0) (c .if1 .left))
 
 observed-requires : tie.Need-observed-requires Inv-loop μ-loop
 observed-requires c κs = search needs

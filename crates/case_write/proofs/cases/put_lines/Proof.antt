@@ -1,8 +1,9 @@
--- Invariant: the rows from bus a on are left to put, and each row passed took at most 960 bytes, 64 lines of 15. a-end - a falls.
+-- Invariant: the rows from bus a on are left to put, and each row passed took at most rowRoom bytes, 64 lines of 15. a-end - a falls.
 use mathlib.Core.Path.{refl}
 use Prim.Native.Nat.{_-_}
 use native.Mathlib.Omega.{arith}
-use Rattle.grid.specs.Cases.{neighbours}
+use Rattle.case_read.proofs.Lengths.{rowRoom}
+use Rattle.grid.specs.Rows.{neighbours}
 use Rattle.case_line.specs.CaseText.{lineRecords}
 use Rattle.case_write.proofs.Turns.{Turn, turn-first, turn-row, turn-all}
 use borrow.Author.Needs.{needs}
@@ -10,7 +11,7 @@ use Rattle.case_write.proofs.cases.put_lines.Statement.{statement}
 use Rattle.case_write.proofs.cases.put_lines.Tie as tie
 
 abbrev Inv-loop : tie.InvT-loop
-Inv-loop out₀ at n nbr k₀ a₀ a-end out k a = Turn (lineRecords (neighbours nbr)) 960 1 n n out₀ at a-end out k a
+Inv-loop out₀ at n nbr k₀ a₀ a-end out k a = Turn (lineRecords (neighbours nbr)) rowRoom 1 n n out₀ at a-end out k a
 
 abbrev μ-loop : tie.MeasureT-loop
 μ-loop out₀ at n nbr k₀ a₀ a-end out k a = a-end - a

@@ -1,20 +1,21 @@
--- The buses below b have only lines; b rises to 65. A number that is no bus has no row, so all buses are then checked.
-use Prim.Native.Nat.{_-_, _≤_}
+-- The buses below b have only lines; b rises past the most buses. A number that is no bus has no row, so all buses are then checked.
+use Prim.Native.Nat.{suc, _-_, _≤_}
 use native.Mathlib.Omega.{arith}
 use borrow.Author.Needs.{needs}
 use borrow.Author.Tests.{not-true, not-false}
+use Rattle.grid.specs.Limits.{mostBuses}
 use Rattle.basics.proofs.Tests.{refutes, decides-no, decides-yes}
-use Rattle.grid.specs.Cases.{neighbours}
+use Rattle.grid.specs.Rows.{neighbours}
 use Rattle.grid.proofs.Rows.{row-zero, row-past}
 use Rattle.grid.proofs.Checking.{CheckedBelow, below-first, below-next, below-all}
 use Rattle.grid.proofs.validity.all_lines.Statement.{statement}
 use Rattle.grid.proofs.validity.all_lines.Tie as tie
 
 abbrev Inv-loop : tie.InvT-loop
-Inv-loop n nbr b₀ b = (1 ≤ b) × (b ≤ 65) × CheckedBelow n (neighbours nbr) b
+Inv-loop n nbr b₀ b = (1 ≤ b) × (b ≤ suc mostBuses) × CheckedBelow n (neighbours nbr) b
 
 abbrev μ-loop : tie.MeasureT-loop
-μ-loop n nbr b₀ b = 65 - b
+μ-loop n nbr b₀ b = suc mostBuses - b
 
 loop-holds : tie.Need-loop-holds Inv-loop μ-loop
 loop-holds c = (search needs, search needs, below-first _ _ (row-zero _))

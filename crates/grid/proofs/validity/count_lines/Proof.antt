@@ -4,7 +4,7 @@ use mathlib.Core.Path.{_≡_, refl, ap, _∙_}
 use native.Mathlib.Omega.{arith}
 use borrow.Author.Needs.{needs}
 use Rattle.rules.specs.Grids.{lineCount}
-use Rattle.grid.specs.Cases.{neighbours}
+use Rattle.grid.specs.Rows.{neighbours}
 use Rattle.grid.proofs.Summing.{Summed, summed-none, summed-more}
 use Rattle.grid.proofs.validity.count_lines.Statement.{statement}
 use Rattle.grid.proofs.validity.count_lines.Tie as tie

@@ -4,7 +4,7 @@ use borrow.Author.Needs.{needs}
 use borrow.Author.Tests.{not-true, not-false}
 use Rattle.busset.specs.Sets.{setOf, size}
 use Rattle.basics.proofs.Tests.{refutes, decides-no, decides-yes}
-use Rattle.grid.specs.Cases.{neighbours}
+use Rattle.grid.specs.Rows.{neighbours}
 use Rattle.grid.proofs.Checking.{Checked, checked-none, checked-more, checked-all, checked-fails}
 use Rattle.grid.proofs.validity.has_lines.Statement.{statement}
 use Rattle.grid.proofs.validity.has_lines.Tie as tie

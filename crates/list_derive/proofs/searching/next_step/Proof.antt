@@ -10,7 +10,8 @@ use Rattle.basics.proofs.Tests.{refutes}
 use Rattle.busset.proofs.Members.{out-of}
 use Rattle.rules.specs.Grids.{Proper}
 use Rattle.rules.specs.Steps.{ByUnit, ByZero}
-use Rattle.grid.specs.Cases.{neighbours, gridOf}
+use Rattle.grid.specs.Rows.{neighbours}
+use Rattle.grid.specs.Cases.{gridOf}
 use Rattle.step.specs.declared.Reason.the-variants.{OwnUnit, NeighbourOf, ZeroInjection}
 use Rattle.list_derive.specs.Searching.{NextAnswer}
 use Rattle.list_derive.specs.declared.searching.Next.the-variants.{Nothing}

@@ -4,7 +4,7 @@ use mir.Syntax.{w32}
 use mir.Val.{SFits}
 use mir.Facts.{toZ-ofZ}
 use Rattle.busset.specs.Sets.{setOf}
-use Rattle.grid.specs.Cases.{neighbours}
+use Rattle.grid.specs.Rows.{neighbours}
 use Rattle.observe.proofs.Signed.{figure-law}
 use borrow.Author.Needs.{needs}
 use Rattle.observe.proofs.figure.figure_of.Statement.{statement}

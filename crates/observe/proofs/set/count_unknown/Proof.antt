@@ -1,7 +1,7 @@
 -- What is counted and what is left make up the unknown; fewer are left each turn.
 use native.Mathlib.Omega.{arith}
 use borrow.Author.Tests.{not-true, not-false}
-use Rattle.busset.specs.Sets.{setOf, size}
+use Rattle.busset.specs.Sets.{setOf, size, width}
 use Rattle.basics.proofs.Tests.{refutes}
 use Rattle.busset.proofs.Words.{set-size}
 use Rattle.observe.proofs.Counting.{Tallied, tallied-none, tallied-more, tallied-all}
@@ -19,7 +19,7 @@ minus-requires : tie.Need-minus-requires Inv-loop μ-loop
 minus-requires c κs = search needs
 
 loop-holds : tie.Need-loop-holds Inv-loop μ-loop
-loop-holds c = tallied-none (c .minus .ensures) (set-size 64 (search needs))
+loop-holds c = tallied-none (c .minus .ensures) (set-size width (search needs))
 
 is-none-requires : tie.Need-is-none-requires Inv-loop μ-loop
 is-none-requires c κs = search needs

@@ -1,11 +1,11 @@
 -- The set holds s and no more than O2 gives. A sweep that changes it makes it larger, so that what it lacks of 64 buses falls.
 use Prim.Native.Nat.{_-_, _≤_}
 use native.Mathlib.Omega.{arith}
-use Rattle.busset.specs.Sets.{setOf, size}
+use Rattle.busset.specs.Sets.{setOf, size, width}
 use Rattle.basics.proofs.Tests.{refutes}
 use Rattle.busset.proofs.Sizes.{size-lt}
 use Rattle.busset.proofs.Words.{set-size}
-use Rattle.grid.specs.Cases.{neighbours}
+use Rattle.grid.specs.Rows.{neighbours}
 use Rattle.observe.proofs.Passing.{Spreading, spreading-none, spreading-more, spreading-all}
 use borrow.Author.Needs.{needs}
 use Rattle.observe.proofs.set.spread.Statement.{statement}
@@ -15,7 +15,7 @@ abbrev Inv-loop : tie.InvT-loop
 Inv-loop nbr zero s t₀ t = Spreading (neighbours nbr) (setOf zero) (setOf s) (setOf t)
 
 abbrev μ-loop : tie.MeasureT-loop
-μ-loop nbr zero s t₀ t = 64 - size (setOf t)
+μ-loop nbr zero s t₀ t = width - size (setOf t)
 
 loop-holds : tie.Need-loop-holds Inv-loop μ-loop
 loop-holds c = spreading-none _ _ _
@@ -34,7 +34,7 @@ loop-less : tie.Need-loop-less Inv-loop μ-loop
 loop-less c =
     let swept = c .before .before in
     let more = size-lt _ _ (swept .sweep .ensures .grows) (refutes (c .before .same .ensures) (c .if1 .left)) in
-    let most : size (setOf (swept .sweep .result)) ≤ 64 = set-size 64 (search needs) in
+    let most : size (setOf (swept .sweep .result)) ≤ width = set-size width (search needs) in
     omega arith
 
 loop-again : tie.Need-loop-again Inv-loop μ-loop

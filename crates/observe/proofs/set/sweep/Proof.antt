@@ -3,7 +3,7 @@ use native.Mathlib.Omega.{arith}
 use borrow.Author.Tests.{not-true, not-false}
 use Rattle.busset.specs.Sets.{setOf, size}
 use Rattle.basics.proofs.Tests.{refutes}
-use Rattle.grid.specs.Cases.{neighbours}
+use Rattle.grid.specs.Rows.{neighbours}
 use Rattle.observe.proofs.Passing.{Sweeping, sweeping-none, sweeping-more, sweeping-all}
 use borrow.Author.Needs.{needs}
 use Rattle.observe.proofs.set.sweep.Statement.{statement}

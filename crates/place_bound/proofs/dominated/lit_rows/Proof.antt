@@ -1,10 +1,9 @@
 -- Invariant: the row of each site that is not left is what a unit there lights. A turn takes a site from `left`, so its size falls.
-use mathlib.Core.Path.{refl}
 use native.Mathlib.Omega.{arith}
 use borrow.Author.Tests.{not-true, not-false}
 use Rattle.busset.specs.Sets.{setOf, size}
 use Rattle.basics.proofs.Tests.{refutes}
-use Rattle.grid.specs.Cases.{neighbours}
+use Rattle.grid.specs.Rows.{neighbours}
 use Rattle.place_bound.proofs.Thinning.{Lighting, lighting-none, lighting-more, lighting-all}
 use borrow.Author.Needs.{needs}
 use Rattle.place_bound.proofs.dominated.lit_rows.Statement.{statement}
@@ -16,8 +15,11 @@ Inv-loop nbr zero s sites rows₀ left₀ rows left = Lighting (neighbours nbr) 
 abbrev μ-loop : tie.MeasureT-loop
 μ-loop nbr zero s sites rows₀ left₀ rows left = size (setOf left)
 
+no-rows-requires : tie.Need-no-rows-requires Inv-loop μ-loop
+no-rows-requires c κs = search needs
+
 loop-holds : tie.Need-loop-holds Inv-loop μ-loop
-loop-holds c = lighting-none _ _ _ _ refl
+loop-holds c = lighting-none _ _ _ _ (c .no-rows .ensures)
 
 is-none-requires : tie.Need-is-none-requires Inv-loop μ-loop
 is-none-requires c κs = search needs
@@ -28,25 +30,20 @@ lowest-requires c κs = refutes (c .before .is-none .ensures) (not-true _ (c .if
 lit-requires : tie.Need-lit-requires Inv-loop μ-loop
 lit-requires c κs = search needs
 
-sub-rows : tie.Need-sub-rows Inv-loop μ-loop
-sub-rows c = search needs
-
-mul-rows : tie.Need-mul-rows Inv-loop μ-loop
-mul-rows c = search needs
-
-array-write-rows : tie.Need-array-write-rows Inv-loop μ-loop
-array-write-rows c = search needs
+set-row-requires : tie.Need-set-row-requires Inv-loop μ-loop
+set-row-requires c κs = search needs
 
 without-requires : tie.Need-without-requires Inv-loop μ-loop
 without-requires c κs = search needs
 
 loop-less : tie.Need-loop-less Inv-loop μ-loop
-loop-less c = omega (arith, c .without .ensures .fewer (c .before .before .lowest .ensures .has))
+loop-less c = omega (arith, c .without .ensures .fewer (c .before .before .before .before .lowest .ensures .has))
 
 loop-again : tie.Need-loop-again Inv-loop μ-loop
 loop-again c =
-    lighting-more _ (c .before .before .before .before .before .loop .inv) (c .before .before .lowest .ensures .bus)
-    (c .before .lit .ensures) (c .without .ensures)
+    let at-lowest = c .before .before .before .before in
+    lighting-more _ (at-lowest .before .before .before .loop .inv) (at-lowest .lowest .ensures .bus) (c .before .before .lit .ensures)
+    (c .before .set-row .ensures) (c .without .ensures)
 
 returns : tie.Need-returns Inv-loop μ-loop
 returns c = lighting-all (c .before .before .loop .inv) (c .before .is-none .ensures .yes (not-false _ (c .if1 .left)))
@@ -57,13 +54,12 @@ lit-rows-spec =
     (tie.spec
     Inv-loop
     μ-loop
+    no-rows-requires
     loop-holds
     is-none-requires
     lowest-requires
     lit-requires
-    sub-rows
-    mul-rows
-    array-write-rows
+    set-row-requires
     without-requires
     loop-less
     loop-again

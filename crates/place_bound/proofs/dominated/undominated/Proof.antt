@@ -6,7 +6,7 @@ use native.Mathlib.Omega.{arith}
 use borrow.Author.Tests.{not-true}
 use Rattle.busset.specs.Sets.{setOf, size}
 use Rattle.basics.proofs.Tests.{refutes}
-use Rattle.grid.specs.Cases.{neighbours}
+use Rattle.grid.specs.Rows.{neighbours}
 use Rattle.place_light.proofs.Sparing.{spares-same}
 use Rattle.place_bound.proofs.Thinning.{Thinned, thinned-none, thinned-yes, thinned-no, thinned-to}
 use borrow.Author.Needs.{needs}

@@ -3,11 +3,12 @@
 use Prim.Native.Nat.{ℕ, _-_, _≤_}
 use mathlib.Core.Path.{_≡_, ap, subst}
 use native.Mathlib.Omega.{arith}
+use Rattle.busset.proofs.Words.{empty-set}
 use Rattle.busset.specs.Sets.{bit, Sub, setOf}
 use Rattle.basics.proofs.Tests.{refutes}
 use Rattle.busset.proofs.Digits.{bit-zero}
 use Rattle.rules.specs.Observation.{ObservedSet}
-use Rattle.grid.specs.Cases.{neighbours}
+use Rattle.grid.specs.Rows.{neighbours}
 use Rattle.place_light.specs.Ways.{Whatever}
 use Rattle.place_light.proofs.Covers.{Grouped, grouped-none, grouped-spared, grouped-lacks}
 use Rattle.place_light.proofs.Sparing.{spares-same, spares-none}
@@ -30,8 +31,8 @@ none-requires c κs = search needs
 loop-holds : tie.Need-loop-holds Inv-loop μ-loop
 loop-holds c = (
   search needs,
-  λ b. omega (arith, ap (λ (x : ℕ). bit x b) (c .none .ensures), bit-zero b),
-  λ sites units l. grouped-none _ (c .none .ensures) (l .closed),
+  λ b. omega (arith, ap (λ (x : ℕ). bit x b) (empty-set (c .none .ensures)), bit-zero b),
+  λ sites units l. grouped-none _ (empty-set (c .none .ensures)) (l .closed),
 )
 
 is-full-requires : tie.Need-is-full-requires Inv-loop μ-loop
@@ -57,7 +58,7 @@ returns-2 c =
     let t = c .before .before .before in
     let l = t .before .before .before .before .before in
     let lacks = refutes (t .before .before .before .is-full .ensures) (t .before .before .if1 .left) in
-    spares-none _ _ _ _ _ _ (c .none2 .ensures)
+    spares-none _ _ _ _ _ _ (empty-set (c .none2 .ensures))
     (λ sites units cl. no-group (l .loop .inv .2 sites units cl) lacks (t .before .shrunk .ensures) (t .group .ensures) _
     (c .before .before .is-none .ensures .yes (c .before .if2 .taken)))
 
@@ -101,7 +102,7 @@ returns-4 c =
     let l = c .before .before .before .before in
     let e : l .loop .m ≡ l .before .before .args .k = omega arith in
     let lacks = refutes (c .before .before .is-full2 .ensures) (c .before .if3 .left) in
-    spares-none _ _ _ _ _ _ (c .none3 .ensures)
+    spares-none _ _ _ _ _ _ (empty-set (c .none3 .ensures))
     (λ sites units cl. grouped-lacks (subst (Grouped _ _ _ _) e (l .loop .inv .2 sites units cl)) lacks)
 
 pub narrowed-spec : {M : Type 1} → statement M

@@ -3,7 +3,7 @@ use native.Mathlib.Omega.{arith}
 use borrow.Author.Tests.{not-true}
 use Rattle.busset.specs.Sets.{setOf, size}
 use Rattle.basics.proofs.Tests.{refutes}
-use Rattle.grid.specs.Cases.{neighbours}
+use Rattle.grid.specs.Rows.{neighbours}
 use Rattle.place_bound.specs.Shrinking.{Shrunk}
 use Rattle.place_bound.proofs.Grouping.{shrunk-same, shrunk-more}
 use borrow.Author.Needs.{needs}

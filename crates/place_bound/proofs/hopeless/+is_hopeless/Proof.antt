@@ -10,7 +10,7 @@ use Rattle.basics.proofs.Tests.{refutes}
 use Rattle.busset.proofs.Members.{without-sub}
 use Rattle.busset.proofs.Sizes.{size-le}
 use Rattle.rules.specs.Observation.{ObservedSet}
-use Rattle.grid.specs.Cases.{neighbours}
+use Rattle.grid.specs.Rows.{neighbours}
 use Rattle.place_light.specs.Ways.{Whatever, Spared}
 use Rattle.place_light.proofs.Lighting.{lit-least}
 use Rattle.place_bound.proofs.Grouping.{shrunk-closed}
