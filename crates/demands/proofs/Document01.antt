@@ -1,5 +1,6 @@
 -- What document 01 says besides the demands: each sentence is a theorem of a lower crate, said of the call's promise.
 use mathlib.Core.Path.{sym, _∙_, subst⁻¹}
+use Prim.Native.Nat.{_-_}
 use Rattle.grid.specs.Limits.{mostBuses}
 use Rattle.rules.specs.Figures.{Runs}
 use Rattle.rules.proofs.Leasts.{least-empty}

@@ -34,16 +34,18 @@ pub plan-put : {l m₁ m₂ m₃ m₄ : List ℕ} {k₁ k₂ k₃ k₄ count sit
     → Put l 0 (planText n sites) m₄ k₄
 plan-put n c p q u e = rw (← c .is) (put-then (put-then p q) (put-then u e))
 
-pub over-budget : {c : Case} {budget : ℕ} → mostBudget (c .n) < budget → (t : List ℕ) → IsRefusedText (OverBudget 1) t → PlanReport c budget t
-over-budget h t e = none (OverBudget 1) (inl ((λ l. omega arith), itself (OverBudget 1))) e
+pub over-budget : {c : Case} {budget most : ℕ} → most ≡ mostBudget (c .n) → most < budget → (t : List ℕ)
+    → IsRefusedText (OverBudget 1) t → PlanReport c budget t
+over-budget m h t e = none (OverBudget 1) (inl ((λ l. omega arith), itself (OverBudget 1))) e
 
 -- what the search says, by its answer
-module _ (c : Case) (budget : ℕ) {r : Found} (h : budget ≤ mostBudget (c .n)) (is : FewestIs (gridOf c) budget r) where
+module _ (c : Case) (budget : ℕ) {most : ℕ} {r : Found} (m : most ≡ mostBudget (c .n)) (h : budget ≤ most)
+    (is : FewestIs (gridOf c) budget r) where
   pub no-cover : r ≡ Nothing → (t : List ℕ) → IsRefusedText NoCover t → PlanReport c budget t
-  no-cover e t i = none NoCover (inr (h, inl (rw e at is, itself NoCover))) i
+  no-cover e t i = none NoCover (inr (omega arith, inl (rw e at is, itself NoCover))) i
 
   pub fewest-found : {m : ℕ} → r ≡ Sites m → (t : List ℕ) → IsPlanText (c .n) (setOf m) t → PlanReport c budget t
-  fewest-found e t i = let f = rw e at is in found _ (h, (fewest-some f, tt)) f i
+  fewest-found e t i = let f = rw e at is in found _ (omega arith, (fewest-some f, tt)) f i
 
 -- what is printed for what was read is what the input asks for
 pub plan-by : (x : List ℕ) {a : Asked} {r : ReadAnswer} → a ≡ readPlan x → a .read .answer ≡ r → (t : List ℕ)

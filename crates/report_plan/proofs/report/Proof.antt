@@ -1,9 +1,12 @@
--- Three exits: the budget is over 8, the search has the fewest, or it has that no plan is within the budget.
+-- Three exits: the budget is over its limit, the search has the fewest, or it has that no plan is within the budget.
 use Rattle.report_lines.proofs.Printed.{printed-by}
 use Rattle.report_plan.proofs.Reports.{over-budget, no-cover, fewest-found}
 use borrow.Author.Needs.{needs}
 use Rattle.report_plan.proofs.report.Statement.{statement}
 use Rattle.report_plan.proofs.report.Tie as tie
+
+most-budget-requires : tie.Need-most-budget-requires
+most-budget-requires c κs = search needs
 
 print-refused-requires : tie.Need-print-refused-requires
 print-refused-requires c κs = search needs
@@ -45,6 +48,7 @@ pub report-spec : {M : Type 1} → statement M
 report-spec =
     tie.close
     (tie.spec
+    most-budget-requires
     print-refused-requires
     same-length
     returns
