@@ -1,8 +1,9 @@
 #!/usr/bin/env python3
-"""The names that are declared in the proof language: which are used by nothing, and which mean two things.
+"""The names that are declared: which are used by nothing, which mean two things, and whether a limit has one home.
 
-usage: tests/names.py --dead    prints each declaration that nothing uses
-       tests/names.py --names   prints each public name of specs that means two things
+usage: tests/names.py --dead     prints each declaration of the proof language that nothing uses
+       tests/names.py --names    prints each public name of specs that means two things
+       tests/names.py --limits   prints each limit that code and specs say unlike, and each line that says its number
 
 Nothing is printed if all is well. The exit status is 1 if something is printed.
 
@@ -195,6 +196,7 @@ def variants(text, enum):
 def two_meanings():
     """Each public name of specs and each type of the code means one thing; two that differ by capitals are one name.
 
+    A crate's code and specs may have a type by one name: it is one thing.
     No public declaration of proofs, no constructor of specs and no refusal of the code has such a name.
     Constructors may repeat one another, and so may variants: their type is always at hand.
     """
@@ -211,7 +213,8 @@ def two_meanings():
         text = file.read_text()
         if not re.match(TRIED, file.parts[1]):
             for name in re.findall(r"^(?:pub )?(?:struct|enum|type) (\w+)", text, re.M):
-                names[name.lower()].append((name, file))
+                if not any(one == name and home.parts[1] == file.parts[1] for one, home in names[name.lower()]):
+                    names[name.lower()].append((name, file))
         others += [(name, file) for name in variants(text, "Refusal")]
     for _, alike in sorted(names.items()):
         if len(alike) > 1:
@@ -222,8 +225,74 @@ def two_meanings():
                 yield "%s (%s) and %s (%s) are one name with two meanings" % (one, home, name, file)
 
 
+# where limits are defined, in code and in specs
+HOMES = {
+    "crates/busset/src/lib.rt": "crates/busset/specs/Sets.antt",
+    "crates/grid/src/limits.rt": "crates/grid/specs/Limits.antt",
+    "crates/plan_input/src/lib.rt": "crates/plan_input/specs/Asking.antt",
+}
+# numbers made from limits, and lines that say such a number and mean another thing: a byte, a word, a refusal
+MADE = {69, 128, 832, 860, 960}
+OTHERS = {
+    "crates/busset/src/lib.rt": {255},
+    "crates/busset/specs/Bytes.antt": {256},
+    "crates/busset/proofs/Packing.antt": {255, 256},
+    "crates/demands/specs/Order.antt": {62},
+    "crates/demands/proofs/EstimatorByTable.antt": {63},
+    # the one table that has document 01's numbers
+    "crates/tables/specs/Grids.antt": {64, 256, 1024, 8192, 16384},
+}
+
+
+def numbers(pairs):
+    """The numbers that these names have, where a name may stand for another."""
+    known = dict(pairs)
+    for name, value in known.items():
+        while not value.isdigit():
+            value = known[value]
+        yield name, int(value)
+
+
+def snake(name):
+    return re.sub(r"([A-Z])", r"_\1", name).upper()
+
+
+def limits():
+    """Code and specs give each limit one name and one number, and no other line of src, specs or proofs says it."""
+    code, specs = [], []
+    for source, definition in HOMES.items():
+        text = pathlib.Path(source).read_text()
+        code += re.findall(r"^pub const (\w+): usize = (?:\w+::)?(\w+);", text, re.M)
+        made = re.findall(r"^pub fn (\w+)\(n: usize\).*?\{\n    (\w+)\n\}", text, re.M | re.S)
+        code += [(name.upper(), value) for name, value in made]
+        specs += re.findall(r"^(\w+)(?: n)? = (\w+)$", pathlib.Path(definition).read_text(), re.M)
+    code = dict(numbers(code))
+    specs = {snake(name): number for name, number in numbers(specs) if name != "empty"}
+    for name in sorted(set(code) | set(specs)):
+        if code.get(name) != specs.get(name):
+            yield "%s is %s in code and %s in specs" % (name, code.get(name), specs.get(name))
+    table = pathlib.Path("docs/CALLS.md").read_text()
+    rows = re.findall(r"\| ([\d,]+) \| `(most\w+)` \|", table)
+    rows = {snake(name): int(most.replace(",", "")) for most, name in rows}
+    for name in sorted(name for name in set(specs) | set(rows) if name.startswith("MOST_")):
+        if specs.get(name) != rows.get(name):
+            yield "docs/CALLS.md says %s for %s, which is %s" % (rows.get(name), name, specs.get(name))
+    said = {value + k for value in code.values() if value > 60 for k in (-2, -1, 0, 1)} | MADE
+    homes = set(HOMES) | set(HOMES.values())
+    for file in sorted(pathlib.Path("crates").glob("*/*/**/*")):
+        if file.suffix not in (".rt", ".antt") or file.parts[2] not in ("src", "specs", "proofs"):
+            continue
+        allowed = OTHERS.get(str(file), set()) | (set(code.values()) if str(file) in homes else set())
+        for place, line in enumerate(file.read_text().split("\n"), 1):
+            if line.lstrip().startswith(("-- ", "// ")):
+                continue
+            for number in re.findall(r"(?<!\^ )(?<![\w.])(\d+)(?!\w)", line):
+                if int(number) in said - allowed:
+                    yield "%s:%d says %s, which a limit's name should say" % (file, place, number)
+
+
 def main():
-    checks = {"--dead": dead, "--names": two_meanings}
+    checks = {"--dead": dead, "--names": two_meanings, "--limits": limits}
     asked = sys.argv[1:]
     if not asked or any(option not in checks for option in asked):
         sys.exit(__doc__.split("\n\n")[1])
