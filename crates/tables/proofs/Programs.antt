@@ -7,7 +7,7 @@ use native.Mathlib.Omega.{arith}
 use lib.Count.{ones, onesIn}
 use lib.ListN.{length, getD}
 use Rattle.busset.specs.Sets.{add, setOf}
-use Rattle.busset.specs.Bytes.{byteOf}
+use Rattle.busset.specs.Bytes.{byteOf, bytesFrom}
 use Rattle.busset.specs.Held as held
 use Rattle.step.specs.Records.{noStep}
 use Rattle.step.specs.declared.Step.{Step}
@@ -21,6 +21,7 @@ use Rattle.refusals.specs.declared.Refusal.{Refusal}
 use Rattle.refusals.specs.declared.Refusal.the-variants.{WrongForm, OutOfRange, ReasonFails, OverBudget, NoCover}
 use Rattle.refusals.proofs.Orders.{itself}
 use Rattle.case_line.specs.CaseText.{members, linesText}
+use Rattle.grid.specs.Rows.{neighbours}
 use Rattle.case_judge.specs.Judging.{isBus, isAfter, pastBuses, judged}
 use Rattle.case_read.specs.Reading.{readLines, readText, readCase}
 use Rattle.report_lines.specs.Printing.{refusedText}
@@ -64,7 +65,7 @@ other i s t e ne = ne (ap (λ (x : List ℕ). getD x i 0) e)
 pub days-right : AllRight tables.dayPrintedTable
 unfolding readCase readText readLines judged isBus isAfter pastBuses recordOf recordWordOf lineFields busFields markOf ifOneField ifNoField
     split same
-    isDigit takesDigit numberFrom numeralOf held.hold held.wordOf add setOf stepsText stepText refusedText join digits ones onesIn
+    isDigit takesDigit numberFrom numeralOf held.hold held.wordOf add setOf neighbours stepsText stepText refusedText join digits ones onesIn
 days-right =
     day
     & day-none
@@ -98,7 +99,7 @@ days-right =
 
 pub plans-right : AllRight tables.planPrintedTable
 unfolding readPlan planLines budgetOf planFields readCase readText readLines judged isBus isAfter pastBuses recordOf recordWordOf lineFields
-    busFields markOf ifOneField ifNoField split same isDigit takesDigit numberFrom numeralOf held.hold held.wordOf add setOf refusedText
+    busFields markOf ifOneField ifNoField split same isDigit takesDigit numberFrom numeralOf held.hold held.wordOf add setOf neighbours refusedText
     members linesText
     recordText join digits ones onesIn
 plans-right =
@@ -172,8 +173,8 @@ says reply p = record { reply = reply; meets = p; is = refl }
 pub calls-right : AllRight tables.estimatorTable
 unfolding readCase readText readLines judged isBus isAfter pastBuses recordOf recordWordOf lineFields busFields markOf ifOneField ifNoField
     split same
-    isDigit takesDigit numberFrom numeralOf held.hold held.wordOf add setOf readSteps stepLines stepInRange stepsFrom stepsIn stepLineOf
-    stepWordOf letterOf reasonFields stepFields byteOf
+    isDigit takesDigit numberFrom numeralOf held.hold held.wordOf add setOf neighbours readSteps stepLines stepInRange stepsFrom stepsIn stepLineOf
+    stepWordOf letterOf reasonFields stepFields byteOf bytesFrom
 calls-right =
     gives tables.lent (Set 79) (says (observed.Set 79) (replies.sets-right .0))
     & gives tables.lent (Set 4) (says (unconfirmed.Unconfirmed 4) ((known .at3 .valid, tt), confirming.itself))

@@ -34,7 +34,7 @@ use Rattle.tables.specs.Reports as reports
 pub cases-right : case.CasesRight
 unfolding readCase readText readLines judged isBus isAfter pastBuses recordOf recordWordOf lineFields busFields markOf ifOneField ifNoField
     split same
-    isDigit takesDigit numberFrom numeralOf held.hold held.wordOf add setOf
+    isDigit takesDigit numberFrom numeralOf held.hold held.wordOf add setOf neighbours
 cases-right = refl
 
 pub texts-right : case.CaseTextsRight
@@ -44,7 +44,7 @@ texts-right = refl
 pub allowed-right : AllRight case.grammarTable
 unfolding readLines judged isBus isAfter pastBuses recordOf recordWordOf lineFields busFields markOf ifOneField ifNoField split join same
     isDigit takesDigit
-    numberFrom numeralOf held.hold held.wordOf add setOf
+    numberFrom numeralOf held.hold held.wordOf add setOf neighbours
 allowed-right =
     read-reads (split lineFeed (block case.oneInput) .rest) start 1 (split lineFeed (block case.oneInput) .first) case.oneCase refl
     & (λ h. not-got _ (reads-read start _ _ 1 (omega arith) h))
@@ -52,7 +52,7 @@ allowed-right =
     & tt
 
 pub wired-right : case.WiredRight
-unfolding held.hold held.wordOf add setOf
+unfolding held.hold held.wordOf add setOf neighbours
 wired-right = refl
 
 pub whole-right : case.WholeTextsRight
@@ -160,7 +160,7 @@ inputs-right = refl
 pub asked-right : reports.AskedRight
 unfolding readPlan planLines budgetOf planFields readLines judged isBus isAfter pastBuses recordOf recordWordOf lineFields busFields markOf
     ifOneField
-    ifNoField split same isDigit takesDigit numberFrom numeralOf held.hold held.wordOf add setOf
+    ifNoField split same isDigit takesDigit numberFrom numeralOf held.hold held.wordOf add setOf neighbours
 asked-right = refl
 
 pub plan-limits-right : reports.PlanLimitsRight

@@ -1,6 +1,6 @@
 -- The tables of what a C program gets: each is computed.
 use mathlib.Core.Path.{refl}
-use Rattle.busset.specs.Bytes.{byteOf}
+use Rattle.busset.specs.Bytes.{byteOf, bytesFrom}
 use Rattle.tables.specs.Results.{CodesRight, ResultsRight, SetBytesRight, LeftByRight}
 
 pub codes-right : CodesRight
@@ -10,9 +10,9 @@ pub results-right : ResultsRight
 results-right = refl
 
 pub bytes-right : SetBytesRight
-unfolding byteOf
+unfolding byteOf bytesFrom
 bytes-right = refl
 
 pub lefts-right : LeftByRight
-unfolding byteOf
+unfolding byteOf bytesFrom
 lefts-right = refl

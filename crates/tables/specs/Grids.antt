@@ -26,7 +26,7 @@ limitTable =
     ∷ (mostSteps, 1024)
     ∷ (mostBytes, 8192)
     ∷ (mostStepBytes, 16384)
-    ∷ (mostBudget, 8)
+    ∷ (mostBudget 1, 8)
     ∷ (mostGreedyBudget, 64)
     ∷ []
 
