@@ -3,7 +3,7 @@ use mathlib.Core.Path.{_≡_}
 use Prim.Native.Nat.{ℕ, _≤_}
 use lib.ListN.{length}
 use Rattle.busset.specs.Sets.{Bus, In, setOf}
-use Rattle.busset.specs.Held.{SetWord}
+use Rattle.busset.specs.Held.{SetWord, emptyWord}
 use Rattle.rules.specs.Grids.{Grid, Line, Proper, lineCount}
 use Rattle.grid.specs.Limits.{mostBuses, mostLines}
 use Rattle.grid.specs.Rows.{Rows, neighbours}
@@ -20,6 +20,10 @@ gridWith n rows zeros sites units = record {
   sites = setOf sites;
   units = setOf units;
 }
+
+-- the grid with no site and no unit that n, the rows and the Z buses say
+abbrev pub bareGrid : ℕ → Rows → SetWord → Grid
+bareGrid n rows zeros = gridWith n rows zeros emptyWord emptyWord
 
 -- the grid that a case value says
 abbrev pub gridOf : Case → Grid

@@ -10,6 +10,7 @@ use Rattle.busset.specs.Held.{SetWord}
 use Rattle.basics.proofs.Tests.{same-or}
 use Rattle.busset.proofs.Digits.{bit-zero}
 use Rattle.busset.proofs.Members.{in-or, add-sub, without-sub}
+use Rattle.rules.specs.Grids.{Grid}
 use Rattle.grid.specs.Limits.{mostBuses}
 use Rattle.grid.specs.Rows.{Rows, neighbours, withRow, noRows}
 use Rattle.grid.proofs.Rows.{row-put-same, row-put-other, row-put-length, no-rows-length}
@@ -21,9 +22,9 @@ use Rattle.place_light.proofs.Sparing.{spares-same, spares-more, without-less, 
 use Rattle.place_bound.specs.Rows.{LitRows, Outlit}
 
 -- x is not needed beside y, from which at least as much is lit
-pub spares-lit : (n : ℕ) {nbr : ℕ → ℕ} {zeros s sites x y a b rest : ℕ} (k : ℕ) → Lit nbr zeros s x a → Lit nbr zeros s y b → Sub a b
-    → In rest y → Without sites x rest → Spares n nbr zeros s sites k rest
-spares-lit n {nbr} {zeros} {s} {sites} {x} {y} {a} {b} {rest} k lx ly sub h w = record {
+pub spares-lit : (g : Grid) {s sites x y a b rest : ℕ} (k : ℕ) → Lit (g .neighbours) (g .zeros) s x a
+    → Lit (g .neighbours) (g .zeros) s y b → Sub a b → In rest y → Without sites x rest → Spares g s sites k rest
+spares-lit g {s} {sites} {x} {y} {a} {b} {rest} k lx ly sub h w = record {
   of = without-sub w;
   spared = λ site units l none v c. ⊎-elim
       (λ (p : In v x). none (add (less v x) y)
@@ -61,28 +62,27 @@ lighting-all li e = record { at = λ x. li .at x (ap (λ (s : ℕ). bit s x) e �
 
 -- ---- site after site: those outlit are left out
 
-pub record Thinned (n : ℕ) (nbr : ℕ → ℕ) (zeros s sites k kept left : ℕ) : Type 0 where
+pub record Thinned (g : Grid) (s sites k kept left : ℕ) : Type 0 where
   pub of : Sub left sites
-  pub spares : Spares n nbr zeros s sites k kept
+  pub spares : Spares g s sites k kept
 
-pub thinned-none : (n : ℕ) (nbr : ℕ → ℕ) (zeros s sites k : ℕ) → Thinned n nbr zeros s sites k sites sites
-thinned-none n nbr zeros s sites k = record { of = λ b. le-refl (bit sites b); spares = spares-same n nbr zeros s sites k }
+pub thinned-none : (g : Grid) (s sites k : ℕ) → Thinned g s sites k sites sites
+thinned-none g s sites k = record { of = λ b. le-refl (bit sites b); spares = spares-same g s sites k }
 
-pub thinned-yes : {n : ℕ} {nbr : ℕ → ℕ} {zeros s sites k kept left x others rest : ℕ} {rows : Rows}
-    → Thinned n nbr zeros s sites k kept left → LitRows nbr zeros s sites rows → In left x
-    → Without kept x others → Outlit (neighbours rows) others x → Without left x rest → Thinned n nbr zeros s sites k others rest
-thinned-yes {n} {nbr} {zeros} {s} {sites} {k} {kept} {left} {x} {others} {rest} t li h w out o = record {
+pub thinned-yes : {g : Grid} {s sites k kept left x others rest : ℕ} {rows : Rows} → Thinned g s sites k kept left
+    → LitRows (g .neighbours) (g .zeros) s sites rows → In left x
+    → Without kept x others → Outlit (neighbours rows) others x → Without left x rest → Thinned g s sites k others rest
+thinned-yes {g} {s} {sites} {k} {kept} {left} {x} {others} {rest} t li h w out o = record {
   of = λ b. omega (arith, without-sub o b, t .of b);
   spares = spares-more (t .spares)
-      (spares-lit n k (li .at x (omega (arith, t .of x)))
+      (spares-lit g k (li .at x (omega (arith, t .of x)))
       (li .at (out .by) (let sub = without-sub w (out .by) in let of = t .spares .of (out .by) in omega (arith, out .other)))
       (out .holds) (out .other) w);
 }
 
-pub thinned-no : {n : ℕ} {nbr : ℕ → ℕ} {zeros s sites k kept left x rest : ℕ} → Thinned n nbr zeros s sites k kept left
-    → Without left x rest → Thinned n nbr zeros s sites k kept rest
+pub thinned-no : {g : Grid} {s sites k kept left x rest : ℕ} → Thinned g s sites k kept left → Without left x rest
+    → Thinned g s sites k kept rest
 thinned-no t o = record { of = λ b. omega (arith, without-sub o b, t .of b); spares = t .spares }
 
-pub thinned-to : {n : ℕ} {nbr : ℕ → ℕ} {zeros s sites k kept kept′ left : ℕ} → Thinned n nbr zeros s sites k kept left → kept′ ≡ kept
-    → Thinned n nbr zeros s sites k kept′ left
-thinned-to {n} {nbr} {zeros} {s} {sites} {k} {left = left} t e = subst⁻¹ (λ (x : ℕ). Thinned n nbr zeros s sites k x left) e t
+pub thinned-to : {g : Grid} {s sites k kept kept′ left : ℕ} → Thinned g s sites k kept left → kept′ ≡ kept → Thinned g s sites k kept′ left
+thinned-to {g} {s} {sites} {k} {left = left} t e = subst⁻¹ (λ (x : ℕ). Thinned g s sites k x left) e t

@@ -4,6 +4,7 @@ ghost use mathlib.Core.Bool.{true};
 ghost use Prim.Native.Nat.{ℕ};
 ghost use Rattle.busset.specs.Sets.{Bus, width, setOf};
 ghost use Rattle.grid.specs.Rows.{neighbours};
+ghost use Rattle.grid.specs.Cases.{bareGrid};
 ghost use Rattle.place_light.specs.Spares.{Spares};
 ghost use Rattle.place_bound.specs.Rows.{LitRows, Outlit};
 use busset::BusSet;
@@ -42,8 +43,7 @@ pub fn is_outlit(rows: &Rows, others: BusSet, x: usize) -> bool
 
 // The sites less those beside which another lights at least as much. For one unit that is not worth its while.
 pub fn undominated(nbr: &Rows, zero: BusSet, s: BusSet, sites: BusSet, k: usize) -> BusSet
-    ensures { λ r. ⌜ ((n : ℕ)
-        → Spares n (neighbours (now (nbr .entry))) (setOf zero) (setOf s) (setOf sites) k (setOf r)) ⌝ }
+    ensures { λ r. ⌜ ((n : ℕ) → Spares (bareGrid n (now (nbr .entry)) zero) (setOf s) (setOf sites) k (setOf r)) ⌝ }
 {
     if k < 2 {
         return sites;

@@ -2,7 +2,7 @@
 ghost use Prim.Native.Nat.{_≤_};
 ghost use Rattle.busset.specs.Sets.{Bus, Within, width, setOf};
 ghost use Rattle.grid.specs.Rows.{neighbours};
-ghost use Rattle.grid.specs.Cases.{Lines};
+ghost use Rattle.grid.specs.Cases.{bareGrid, Lines};
 ghost use Rattle.place_light.specs.Ways.{Group};
 ghost use Rattle.place_light.specs.Spares.{Spares};
 ghost use Rattle.place_bound.specs.Shrinking.{Shrunk};
@@ -52,7 +52,7 @@ pub fn group(n: usize, nbr: &Rows, sites: BusSet, c: BusSet) -> BusSet
 // The sites of k groups, each of which has a site of every cover; all the sites where fewer than k groups are found.
 pub fn narrowed(n: usize, nbr: &Rows, zero: BusSet, s: BusSet, sites: BusSet, k: usize) -> BusSet
     requires { ⌜ (n ≤ width) × Lines n (neighbours (now nbr)) × Within n (setOf sites) ⌝ }
-    ensures { λ r. ⌜ Spares n (neighbours (now (nbr .entry))) (setOf zero) (setOf s) (setOf sites) k (setOf r) ⌝ }
+    ensures { λ r. ⌜ Spares (bareGrid n (now (nbr .entry)) zero) (setOf s) (setOf sites) k (setOf r) ⌝ }
 {
     let mut q = busset::none();
     let mut t = s;

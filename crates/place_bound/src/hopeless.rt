@@ -3,7 +3,7 @@ ghost use Prim.Native.Nat.{_≤_};
 ghost use Rattle.busset.specs.Sets.{Within, width, setOf};
 ghost use Rattle.rules.specs.Observation.{ObservedSet};
 ghost use Rattle.grid.specs.Rows.{neighbours};
-ghost use Rattle.grid.specs.Cases.{Lines};
+ghost use Rattle.grid.specs.Cases.{bareGrid, Lines};
 ghost use Rattle.place_light.specs.Ways.{Whatever, Cut};
 use busset::BusSet;
 use grid::Rows;
@@ -12,7 +12,7 @@ use grid::Rows;
 // Such a cover has a site of the group, and each of these, tried in turn, leaves no cover of k - 1.
 pub fn is_hopeless(n: usize, nbr: &Rows, zero: BusSet, s: BusSet, sites: BusSet, k: usize) -> bool
     requires { ⌜ (n ≤ width) × Lines n (neighbours (now nbr)) × Within n (setOf sites) ⌝ }
-    ensures { λ r. ⌜ Whatever n (neighbours (now (nbr .entry))) (setOf zero)
+    ensures { λ r. ⌜ Whatever (bareGrid n (now (nbr .entry)) zero)
         (λ g. ObservedSet g (setOf s) → Cut g (setOf sites) k r) ⌝ }
 {
     if grid::is_full(n, s) {

@@ -2,6 +2,7 @@
 use mathlib.Core.Path.{_≡_, subst, subst⁻¹}
 use Prim.Native.Nat.{ℕ, _-_, _<_}
 use Rattle.busset.specs.Sets.{Lowest, With, Without, add, setOf}
+use Rattle.busset.specs.Held.{SetWord}
 use Rattle.busset.proofs.Members.{with-add}
 use Rattle.rules.specs.Grids.{Grid}
 use Rattle.rules.specs.Observation.{ObservedSet}
@@ -20,7 +21,7 @@ module _ (g : Grid) {n sites x rest k s t : ℕ} (some : 0 < k) (low : Lowest n 
   found : (r′ : Found) → r ≡ r′ → FoundIs (withUnits g (add (g .units) x)) rest (k - 1) r′
   found r′ q = subst (FoundIs (withUnits g (add (g .units) x)) rest (k - 1)) q (f (lit-least l lit))
 
-  pub found-take : (m : ℕ) {more : ℕ} → r ≡ Sites m → With (setOf m) x more → FirstWay g sites k more
+  pub found-take : (m : SetWord) {more : ℕ} → r ≡ Sites m → With (setOf m) x more → FirstWay g sites k more
   found-take m q more = subst⁻¹ (FirstWay g sites k) (with-add more) (first-take low w some (found (Sites m) q))
 
   pub found-pass : r ≡ Nothing → KeepsWays g sites k rest

@@ -5,7 +5,7 @@ ghost use Rattle.busset.specs.Sets.{Within, width, setOf};
 ghost use Rattle.rules.specs.Grids.{Proper};
 ghost use Rattle.rules.specs.Observation.{ObservedSet};
 ghost use Rattle.grid.specs.Rows.{neighbours};
-ghost use Rattle.grid.specs.Cases.{gridWith, Lines};
+ghost use Rattle.grid.specs.Cases.{gridWith, bareGrid, Lines};
 ghost use Rattle.place_light.specs.Ways.{Whatever};
 ghost use Rattle.place_fewest.specs.Answers.{FoundIs, FewestIs};
 use busset::BusSet;
@@ -19,7 +19,7 @@ pub enum Found {
 // The first k of the sites, by their rising lists, that make all buses observed where s is.
 pub fn search(n: usize, nbr: &Rows, zero: BusSet, s: BusSet, sites: BusSet, k: usize) -> Found
     requires { ⌜ (n ≤ width) × Lines n (neighbours (now nbr)) × Within n (setOf sites) ⌝ }
-    ensures { λ r. ⌜ Whatever n (neighbours (now (nbr .entry))) (setOf zero)
+    ensures { λ r. ⌜ Whatever (bareGrid n (now (nbr .entry)) zero)
         (λ g. ObservedSet g (setOf s) → FoundIs g (setOf sites) k r) ⌝ }
 {
     if k == 0 {

@@ -15,11 +15,11 @@ abbrev pub ChosenIs : Grid → ℕ → Type 0
 ChosenIs g zero = NoneAdds g
 ChosenIs g (suc i) = Best g (suc i)
 
--- r is the best site of every grid with these lines and Z buses in which s is observed and these sites are free
-abbrev pub Chooses : (ℕ → ℕ) → ℕ → ℕ → ℕ → ℕ → Type 0
-Chooses nbr zeros s free r = (n : ℕ) → Whatever n nbr zeros (λ g. Minus (g .sites) (g .units) free → ObservedSet g s → ChosenIs g r)
+-- r is the best site of every grid with the buses, lines and Z buses of g in which s is observed and these sites are free
+abbrev pub Chooses : Grid → ℕ → ℕ → ℕ → Type 0
+Chooses g s free r = Whatever g (λ h. Minus (h .sites) (h .units) free → ObservedSet h s → ChosenIs h r)
 
--- the first `count` of the 64 sites are what greedy adds
+-- the first `count` of the sites are what greedy adds; there are places for its largest budget
 pub record AddedSites (g : Grid) (budget count : ℕ) (sites : List ℕ) : Type 0 where
   pub room : length sites ≡ mostGreedyBudget
   pub most : count ≤ budget

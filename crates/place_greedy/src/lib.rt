@@ -5,8 +5,7 @@ ghost use mathlib.Core.List.{_++_};
 ghost use lib.ListN.{length, take, drop};
 ghost use Rattle.grid.specs.Limits.{mostGreedyBudget};
 ghost use Rattle.busset.specs.Sets.{setOf};
-ghost use Rattle.grid.specs.Rows.{neighbours};
-ghost use Rattle.grid.specs.Cases.{gridWith};
+ghost use Rattle.grid.specs.Cases.{gridWith, bareGrid};
 ghost use Rattle.place_greedy.specs.Choices.{Chooses, AddedSites};
 use busset::BusSet;
 use grid::Rows;
@@ -21,7 +20,7 @@ pub struct SiteList {
 // The free site that makes the observed set largest where s is observed, the lowest number on a tie;
 // 0 where none adds a bus.
 pub fn best(nbr: &Rows, zero: BusSet, s: BusSet, free: BusSet) -> usize
-    ensures { λ r. ⌜ Chooses (neighbours (now (nbr .entry))) (setOf zero) (setOf s) (setOf free) r ⌝ }
+    ensures { λ r. ⌜ ((n : ℕ) → Chooses (bareGrid n (now (nbr .entry)) zero) (setOf s) (setOf free) r) ⌝ }
 {
     let mut site: usize = 0;
     let mut most = busset::count(s);

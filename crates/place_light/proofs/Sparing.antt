@@ -8,24 +8,24 @@ use Rattle.busset.specs.Sets.{bit, Out, Sub, empty, less, Without}
 use Rattle.basics.proofs.Tests.{same-or}
 use Rattle.busset.proofs.Digits.{bit-zero}
 use Rattle.busset.proofs.Members.{less-here, less-there}
+use Rattle.rules.specs.Grids.{Grid}
 use Rattle.rules.specs.Observation.{ObservedSet}
 use Rattle.place_light.specs.Ways.{Uncoverable, Whatever}
 use Rattle.place_light.specs.Spares.{Spares}
 
-pub spares-same : (n : ℕ) (nbr : ℕ → ℕ) (zeros s sites k : ℕ) → Spares n nbr zeros s sites k sites
-spares-same n nbr zeros s sites k = record { of = λ b. le-refl (bit sites b); spared = λ _ _ l n. n }
+pub spares-same : (g : Grid) (s sites k : ℕ) → Spares g s sites k sites
+spares-same g s sites k = record { of = λ b. le-refl (bit sites b); spared = λ _ _ l n. n }
 
-pub spares-more : {n : ℕ} {nbr : ℕ → ℕ} {zeros s sites k r q : ℕ} → Spares n nbr zeros s sites k r → Spares n nbr zeros s r k q
-    → Spares n nbr zeros s sites k q
+pub spares-more : {g : Grid} {s sites k r q : ℕ} → Spares g s sites k r → Spares g s r k q → Spares g s sites k q
 spares-more p q = record {
   of = λ b. omega (arith, p .of b, q .of b);
   spared = λ site units l n. p .spared site units l (q .spared site units l n);
 }
 
 -- where there is no cover none of them is needed
-pub spares-none : (n : ℕ) (nbr : ℕ → ℕ) (zeros s sites k : ℕ) {r : ℕ} → r ≡ empty
-    → Whatever n nbr zeros (λ g. ObservedSet g s → Uncoverable g sites k) → Spares n nbr zeros s sites k r
-spares-none n nbr zeros s sites k e none = record {
+pub spares-none : (g : Grid) (s sites k : ℕ) {r : ℕ} → r ≡ empty → Whatever g (λ h. ObservedSet h s → Uncoverable h sites k)
+    → Spares g s sites k r
+spares-none g s sites k e none = record {
   of = λ b. omega (arith, ap (λ (x : ℕ). bit x b) e, bit-zero b);
   spared = λ site units l n. none site units l;
 }

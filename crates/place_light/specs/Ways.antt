@@ -5,13 +5,13 @@ use mathlib.Core.List.{List}
 use Prim.Native.Nat.{ℕ, _≤_}
 use lib.ListN.{length}
 use Rattle.busset.specs.Sets.{In, Out, Sub, empty, size}
-use Rattle.rules.specs.Grids.{Grid}
+use Rattle.rules.specs.Grids.{Grid, withSitesAndUnits}
 use Rattle.rules.specs.Observation.{Closed}
 use Rattle.rules.specs.Placing.{Full, Covers, Rising, placed, Before}
 
--- P holds of every grid with these buses, lines and Z buses, whatever its sites and units
-abbrev pub Whatever : ℕ → (ℕ → ℕ) → ℕ → (Grid → Type 0) → Type 0
-Whatever n nbr zeros P = (sites units : ℕ) → P (record { n = n; neighbours = nbr; zeros = zeros; sites = sites; units = units })
+-- P holds of every grid with the buses, lines and Z buses of g, whatever its sites and units
+abbrev pub Whatever : Grid → (Grid → Type 0) → Type 0
+Whatever g P = (sites units : ℕ) → P (withSitesAndUnits g sites units)
 
 -- ---- ways: what one call of the search looks for, where these sites are still open to it
 

@@ -9,10 +9,10 @@ use Rattle.busset.specs.Sets.{Sub, setOf, size}
 use Rattle.basics.proofs.Tests.{refutes}
 use Rattle.busset.proofs.Members.{without-sub}
 use Rattle.busset.proofs.Sizes.{size-le}
-use Rattle.rules.specs.Grids.{Grid}
+use Rattle.rules.specs.Grids.{Grid, withSitesAndUnits}
 use Rattle.rules.specs.Observation.{ObservedSet}
 use Rattle.rules.proofs.Covering.{covers-full, full-covers}
-use Rattle.grid.specs.Rows.{neighbours}
+use Rattle.grid.specs.Cases.{bareGrid}
 use Rattle.place_light.specs.Ways.{Whatever}
 use Rattle.place_light.proofs.Searching.{way-none, no-way-none, no-way-left, KeepsWays, passed-none, passed-more, passed-no, passed-first}
 use Rattle.place_light.proofs.Covers.{no-cover-way}
@@ -45,7 +45,7 @@ search-below t = and 1 search-kinds.ps (falls 1 search-kinds.ps _<_ μ-search t)
 abbrev search-Inv-loop : search-lts.InvT-loop
 search-Inv-loop n nbr zero s sites k left₀ left =
     Sub (setOf left) (setOf sites)
-    × Whatever n (neighbours nbr) (setOf zero) (λ g. ObservedSet g (setOf s) → KeepsWays g (setOf sites) k (setOf left))
+    × Whatever (bareGrid n nbr zero) (λ g. ObservedSet g (setOf s) → KeepsWays g (setOf sites) k (setOf left))
 
 abbrev search-μ-loop : search-lts.MeasureT-loop
 search-μ-loop n nbr zero s sites k left₀ left = size (setOf left)
@@ -79,13 +79,7 @@ abbrev entry : {t : ℕ} → search-lts.At-loop (calls t) (search-at t) search�
 entry l = l .before .before
 
 abbrev asked : {t : ℕ} → search-lts.Start (calls t) (search-at t) search′.Post search-Inv-loop search-μ-loop → ℕ → ℕ → Grid
-asked s sites units = record {
-  n = s .args .n;
-  neighbours = neighbours (s .args .nbr .now);
-  zeros = setOf (s .args .zero);
-  sites = sites;
-  units = units;
-}
+asked s = withSitesAndUnits (bareGrid (s .args .n) (s .args .nbr .now) (s .args .zero))
 
 -- the turn that a recursive call belongs to
 abbrev turn : {t : ℕ} → search-lts.After-lit (calls t) (search-at t) search′.Post search-Inv-loop search-μ-loop

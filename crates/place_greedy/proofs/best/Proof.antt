@@ -8,7 +8,7 @@ use borrow.Author.Tests.{not-true, not-false}
 use Rattle.busset.specs.Sets.{setOf, size, Minus}
 use Rattle.basics.proofs.Tests.{refutes}
 use Rattle.rules.specs.Observation.{ObservedSet}
-use Rattle.grid.specs.Rows.{neighbours}
+use Rattle.grid.specs.Cases.{bareGrid}
 use Rattle.place_light.specs.Ways.{Whatever}
 use Rattle.place_light.proofs.Lighting.{lit-least}
 use Rattle.place_greedy.proofs.Comparing.{Compared, compared-none, compared-yes, compared-no, compared-to, compared-all}
@@ -18,7 +18,7 @@ use Rattle.place_greedy.proofs.best.Tie as tie
 abbrev Inv-loop : tie.InvT-loop
 Inv-loop nbr zero s free site₀ most₀ left₀ site most left =
     (n : ℕ)
-    → Whatever n (neighbours nbr) (setOf zero)
+    → Whatever (bareGrid n nbr zero)
     (λ g. Minus (g .sites) (g .units) (setOf free) → ObservedSet g (setOf s) → Compared g (setOf s) (setOf left) most site)
 
 abbrev μ-loop : tie.MeasureT-loop

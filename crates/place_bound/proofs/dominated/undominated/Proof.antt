@@ -6,7 +6,7 @@ use native.Mathlib.Omega.{arith}
 use borrow.Author.Tests.{not-true}
 use Rattle.busset.specs.Sets.{setOf, size}
 use Rattle.basics.proofs.Tests.{refutes}
-use Rattle.grid.specs.Rows.{neighbours}
+use Rattle.grid.specs.Cases.{bareGrid}
 use Rattle.place_light.proofs.Sparing.{spares-same}
 use Rattle.place_bound.proofs.Thinning.{Thinned, thinned-none, thinned-yes, thinned-no, thinned-to}
 use borrow.Author.Needs.{needs}
@@ -15,19 +15,19 @@ use Rattle.place_bound.proofs.dominated.undominated.Tie as tie
 
 abbrev Inv-loop : tie.InvT-loop
 Inv-loop nbr zero s sites k rows kept₀ left₀ kept left =
-    (n : ℕ) → Thinned n (neighbours nbr) (setOf zero) (setOf s) (setOf sites) k (setOf kept) (setOf left)
+    (n : ℕ) → Thinned (bareGrid n nbr zero) (setOf s) (setOf sites) k (setOf kept) (setOf left)
 
 abbrev μ-loop : tie.MeasureT-loop
 μ-loop nbr zero s sites k rows kept₀ left₀ kept left = size (setOf left)
 
 returns : tie.Need-returns Inv-loop μ-loop
-returns c = λ n. spares-same _ _ _ _ _ _
+returns c = λ n. spares-same _ _ _ _
 
 lit-rows-requires : tie.Need-lit-rows-requires Inv-loop μ-loop
 lit-rows-requires c κs = search needs
 
 loop-holds : tie.Need-loop-holds Inv-loop μ-loop
-loop-holds c = λ n. thinned-none _ _ _ _ _ _
+loop-holds c = λ n. thinned-none _ _ _ _
 
 is-none-requires : tie.Need-is-none-requires Inv-loop μ-loop
 is-none-requires c κs = search needs

@@ -8,7 +8,7 @@ use Rattle.busset.specs.Sets.{bit, Sub, setOf}
 use Rattle.basics.proofs.Tests.{refutes}
 use Rattle.busset.proofs.Digits.{bit-zero}
 use Rattle.rules.specs.Observation.{ObservedSet}
-use Rattle.grid.specs.Rows.{neighbours}
+use Rattle.grid.specs.Cases.{bareGrid}
 use Rattle.place_light.specs.Ways.{Whatever}
 use Rattle.place_light.proofs.Covers.{Grouped, grouped-none, grouped-spared, grouped-lacks}
 use Rattle.place_light.proofs.Sparing.{spares-same, spares-none}
@@ -20,7 +20,7 @@ use Rattle.place_bound.proofs.groups.narrowed.Tie as tie
 abbrev Inv-loop : tie.InvT-loop
 Inv-loop n nbr zero s sites k q₀ t₀ m₀ q t m =
     (m ≤ k) × Sub (setOf q) (setOf sites)
-    × Whatever n (neighbours nbr) (setOf zero) (λ g. ObservedSet g (setOf s) → Grouped g (setOf sites) (setOf q) (setOf t) m)
+    × Whatever (bareGrid n nbr zero) (λ g. ObservedSet g (setOf s) → Grouped g (setOf sites) (setOf q) (setOf t) m)
 
 abbrev μ-loop : tie.MeasureT-loop
 μ-loop n nbr zero s sites k q₀ t₀ m₀ q t m = k - m
@@ -39,7 +39,7 @@ is-full-requires : tie.Need-is-full-requires Inv-loop μ-loop
 is-full-requires c κs = search needs
 
 returns : tie.Need-returns Inv-loop μ-loop
-returns c = spares-same _ _ _ _ _ _
+returns c = spares-same _ _ _ _
 
 shrunk-requires : tie.Need-shrunk-requires Inv-loop μ-loop
 shrunk-requires c κs = search needs
@@ -58,7 +58,7 @@ returns-2 c =
     let t = c .before .before .before in
     let l = t .before .before .before .before .before in
     let lacks = refutes (t .before .before .before .is-full .ensures) (t .before .before .if1 .left) in
-    spares-none _ _ _ _ _ _ (empty-set (c .none2 .ensures))
+    spares-none _ _ _ _ (empty-set (c .none2 .ensures))
     (λ sites units cl. no-group (l .loop .inv .2 sites units cl) lacks (t .before .shrunk .ensures) (t .group .ensures) _
     (c .before .before .is-none .ensures .yes (c .before .if2 .taken)))
 
@@ -102,7 +102,7 @@ returns-4 c =
     let l = c .before .before .before .before in
     let e : l .loop .m ≡ l .before .before .args .k = omega arith in
     let lacks = refutes (c .before .before .is-full2 .ensures) (c .before .if3 .left) in
-    spares-none _ _ _ _ _ _ (empty-set (c .none3 .ensures))
+    spares-none _ _ _ _ (empty-set (c .none3 .ensures))
     (λ sites units cl. grouped-lacks (subst (Grouped _ _ _ _) e (l .loop .inv .2 sites units cl)) lacks)
 
 pub narrowed-spec : {M : Type 1} → statement M

@@ -11,6 +11,7 @@ use Rattle.busset.proofs.Members.{without-sub}
 use Rattle.busset.proofs.Sizes.{size-le}
 use Rattle.rules.specs.Observation.{ObservedSet}
 use Rattle.grid.specs.Rows.{neighbours}
+use Rattle.grid.specs.Cases.{bareGrid}
 use Rattle.place_light.specs.Ways.{Whatever, Spared}
 use Rattle.place_light.proofs.Lighting.{lit-least}
 use Rattle.place_bound.proofs.Grouping.{shrunk-closed}
@@ -46,7 +47,7 @@ is-hopeless-below t =
 abbrev is-hopeless-Inv-loop : is-hopeless-lts.InvT-loop
 is-hopeless-Inv-loop n nbr zero s sites k left₀ c tries₀ left tries =
     Sub (setOf left) (setOf sites) × IdleBut (neighbours nbr) (setOf c) (setOf left) (setOf tries)
-    × Whatever n (neighbours nbr) (setOf zero) (λ g. ObservedSet g (setOf s) → Spared g (setOf sites) k (setOf left))
+    × Whatever (bareGrid n nbr zero) (λ g. ObservedSet g (setOf s) → Spared g (setOf sites) k (setOf left))
 
 abbrev is-hopeless-μ-loop : is-hopeless-lts.MeasureT-loop
 is-hopeless-μ-loop n nbr zero s sites k left₀ c tries₀ left tries = size (setOf tries)
