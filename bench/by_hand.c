@@ -3,9 +3,9 @@
 //   by_hand calls GRIDS              for GRIDS grids of each family, of 64 buses and with a budget of 8: the calls that
 //                                    the search makes (of itself and of its cut), and the time of the slowest grid
 //   by_hand write FAMILY SIZE ZEROS  the text of one grid: family 0 meshes, 1 random with SIZE lines, 2 rooks' grids
-//   by_hand fewest                   what the program time_sites prints
+//   by_hand fewest                   what the program timed prints for the fewest
 //   by_hand count                    how many calls the search makes
-//   by_hand observed                 what the program time_observed prints
+//   by_hand observed                 what the program timed prints for the observed set
 #include <stdint.h>
 #include <stdio.h>
 #include <stdlib.h>

@@ -18,7 +18,7 @@ import sys
 
 ENDS = ("demands", "tables")
 # the programs that try and time the calls, and what they share
-TRIED = r"(?:try_|time_|asked$|drawn$|shown$)"
+TRIED = r"(?:ask|timed|asked)$"
 DOCUMENTS = ["README.md", "docs/*.md"]
 MODIFIERS = ("pub", "abbrev", "unfoldable")
 WORD = r"[^\s(){}.,;\"⌜⌝]+"

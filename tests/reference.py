@@ -1,118 +1,144 @@
-"""Document 01's rules of observation, written from the document alone, on sets of bus numbers.
+"""Document 01's rules of observation and of steps, written from the document alone, on sets of bus numbers.
 
-A case is a dict: n; rows, a dict from a bus number to the set of buses that it sees a line to; zero, site and units,
-sets of bus numbers. Any number from 1 to 64 may be in it, as in the case value that a caller lends.
+A step is a pair: its bus, and its reason, which is ("O",), ("N", p) or ("Z", w).
 """
 import copy
+import functools
+
+MOST_BUSES, MOST_LINES, MOST_STEPS = 64, 256, 1024
 
 
-def blank(n):
-    rows = {b: set() for b in range(1, 65)}
-    return {"n": n, "rows": rows, "zero": set(), "site": set(range(1, n + 1)), "units": set()}
+class Refused(Exception):
+    """A refusal: its number and its place."""
 
 
-def drawn(case, lines=(), half=(), zero=(), site=(), units=()):
-    case = copy.deepcopy(case)
-    for a, b in lines:
-        for x, y in ((a, b), (b, a)):
-            if x in case["rows"] and 1 <= y <= 64:
-                case["rows"][x].add(y)
-    for a, b in half:
-        case["rows"][a].add(b)
-    case["zero"] |= set(zero)
-    case["site"] |= set(site)
-    case["units"] |= set(units)
-    return case
+class Case:
+    """A case value: n; the buses that each bus sees a line to; the Z buses, the Y sites and the units.
+
+    Any number may be n, and any bus from 1 to 64 may be in the rest. A case is not changed after the first call.
+    """
+
+    def __init__(self, n):
+        self.n = n
+        self.rows = {b: set() for b in range(1, 65)}
+        self.zero, self.site, self.units = set(), set(range(1, n + 1) if n <= 64 else ()), set()
+
+    def drawn(self, lines=(), half=(), zero=(), site=(), barred=(), units=()):
+        """The same with more lines, halves of lines, Z buses, Y sites, N sites and units."""
+        case = copy.deepcopy(self)
+        for a, b in lines:
+            case.rows[a].add(b)
+            case.rows[b].add(a)
+        for a, b in half:
+            case.rows[a].add(b)
+        case.zero |= set(zero)
+        case.site = (case.site | set(site)) - set(barred)
+        case.units |= set(units)
+        return case
 
 
-def refusal_5(case):
-    n, rows = case["n"], case["rows"]
-    if not 1 <= n <= 64:
-        return True
-    for a in rows:
-        for b in rows[a]:
-            if a not in rows[b] or a == b or a > n or b > n:
-                return True
-    if any(b > n for part in ("zero", "site", "units") for b in case[part]):
-        return True
-    return sum(len(row) for row in rows.values()) // 2 > 256
+@functools.lru_cache(maxsize=1)
+def is_grid(case):
+    n, rows = case.n, case.rows
+    if not 1 <= n <= MOST_BUSES or any(b > n for b in case.zero | case.site | case.units):
+        return False
+    if any(a not in rows[b] or a == b or a > n or b > n for a in rows for b in rows[a]):
+        return False
+    return sum(len(row) for row in rows.values()) // 2 <= MOST_LINES
 
 
-def least(case):
-    seen = set(case["units"])
-    for u in case["units"]:
-        seen |= case["rows"][u]
+def check(case):
+    if not is_grid(case):
+        raise Refused(5, 0)
+
+
+def spread(case, seen):
+    """These buses, and all that rule O2 gives from them."""
+    seen = set(seen)
     changed = True
     while changed:
         changed = False
-        for w in case["zero"] & seen:
-            unknown = case["rows"][w] - seen
+        for w in case.zero & seen:
+            unknown = case.rows[w] - seen
             if len(unknown) == 1:
                 seen |= unknown
                 changed = True
     return seen
 
 
+def observed(case, units):
+    """All that units at these buses observe."""
+    return spread(case, set(units).union(*(case.rows[u] for u in units)))
+
+
 def observed_set(case):
-    """The set, or the refusal as (number, place)."""
-    return (5, 0) if refusal_5(case) else least(case)
+    check(case)
+    return observed(case, case.units)
 
 
 def firing_figure(case, stated, i, j):
-    n = case["n"]
-    if refusal_5(case):
-        return (5, 0)
-    if not (1 <= i <= n and 1 <= j <= n):
-        return (7, 0)
-    row = case["rows"][i]
+    check(case)
+    if not (1 <= i <= case.n and 1 <= j <= case.n):
+        raise Refused(7, 0)
+    row = case.rows[i]
     if j not in row:
-        return (13, 0)
-    seen = {b for b in stated if b <= n}
+        raise Refused(13, 0)
+    seen = {b for b in stated if b <= case.n}
     return 1 - len(row) + (i in seen) + len((row & seen) - {j})
 
 
-def names_buses(case, bus, reason):
-    """Whether the step names buses of the grid alone. reason is ("O",), ("N", p) or ("Z", w)."""
-    return all(1 <= b <= case["n"] for b in (bus,) + reason[1:])
-
-
-def holds(case, seen, bus, reason):
-    rows = case["rows"]
+def holds(case, seen, step):
+    """Whether the reason of a step that names buses of the grid holds."""
+    bus, reason = step
     if reason[0] == "O":
-        return bus in case["units"]
+        return bus in case.units
+    by = reason[1]
+    if bus not in case.rows[by]:
+        return False
     if reason[0] == "N":
-        return reason[1] in case["units"] and bus in rows[reason[1]]
-    w = reason[1]
-    return w in case["zero"] and w in seen and bus in rows[w] and rows[w] - {bus} <= seen
+        return by in case.units
+    return by in case.zero and by in seen and case.rows[by] - {bus} <= seen
 
 
-def test_step(case, stated, bus, reason):
-    """None is an allowed step."""
-    if refusal_5(case):
-        return (5, 0)
-    if not names_buses(case, bus, reason):
-        return (7, 1)
-    seen = {b for b in stated if b <= case["n"]}
-    if bus in seen:
-        return (8, 1)
-    return None if holds(case, seen, bus, reason) else (9, 1)
+def check_buses(case, place, step):
+    bus, reason = step
+    if not all(1 <= b <= case.n for b in (bus,) + reason[1:]):
+        raise Refused(7, place)
+
+
+def take_step(case, seen, place, step):
+    """Adds the bus of an allowed step to the set."""
+    check_buses(case, place, step)
+    if step[0] in seen:
+        raise Refused(8, place)
+    if not holds(case, seen, step):
+        raise Refused(9, place)
+    seen.add(step[0])
+
+
+def test_step(case, stated, step):
+    check(case)
+    take_step(case, {b for b in stated if b <= case.n}, 1, step)
+
+
+def reasons(case, bus):
+    """The reasons that can hold for a bus of a grid, in document 01's order."""
+    near = sorted(case.rows[bus])
+    return [("O",)] + [("N", p) for p in near] + [("Z", w) for w in near]
 
 
 def next_step(case, seen):
-    """The step for the lowest bus that any rule reaches, O before N before Z, each with the lowest bus; or None."""
-    buses = range(1, case["n"] + 1)
-    for bus in buses:
+    """The first allowed step for the lowest bus that any rule reaches; or None."""
+    for bus in range(1, case.n + 1):
         if bus not in seen:
-            for reason in [("O",)] + [("N", p) for p in buses] + [("Z", w) for w in buses]:
-                if holds(case, seen, bus, reason):
+            for reason in reasons(case, bus):
+                if holds(case, seen, (bus, reason)):
                     return bus, reason
     return None
 
 
 def derivation(case):
-    """The list, or the refusal."""
-    if refusal_5(case):
-        return (5, 0)
+    check(case)
     steps, seen = [], set()
     while (step := next_step(case, seen)) is not None:
         steps.append(step)
@@ -120,40 +146,30 @@ def derivation(case):
     return steps
 
 
+def check_list(case, steps):
+    check(case)
+    if len(steps) > MOST_STEPS:
+        raise Refused(12, 0)
+
+
 def replay(case, steps):
-    """(the set reached, whether the list is finished), or ("refused", number, place)."""
-    if refusal_5(case):
-        return ("refused", 5, 0)
-    if len(steps) > 1024:
-        return ("refused", 12, 0)
+    """The set reached, and whether the list is finished."""
+    check_list(case, steps)
     seen = set()
-    for place, (bus, reason) in enumerate(steps, 1):
-        if not names_buses(case, bus, reason):
-            return ("refused", 7, place)
-        if bus in seen:
-            return ("refused", 8, place)
-        if not holds(case, seen, bus, reason):
-            return ("refused", 9, place)
-        seen.add(bus)
+    for place, step in enumerate(steps, 1):
+        take_step(case, seen, place, step)
     return seen, next_step(case, seen) is None
 
 
-def weave(case, steps, records, room):
-    """(the count written, the set reached), or ("refused", number, place). Writes into the first `room` records."""
-    if refusal_5(case):
-        return ("refused", 5, 0)
-    if len(steps) > 1024:
-        return ("refused", 12, 0)
-    seen, answer = set(), []
-    for place, (bus, reason) in enumerate(steps, 1):
-        if not names_buses(case, bus, reason):
-            return ("refused", 7, place)
-        if bus not in seen:
-            if not holds(case, seen, bus, reason):
-                return ("refused", 9, place)
-            seen.add(bus)
-            answer.append((bus, reason))
-    if len(answer) > room:
-        return ("refused", 6, 0)
-    records[:len(answer)] = answer
-    return len(answer), seen
+def weave(case, steps, room):
+    """The list that is written into so many records, and the set reached."""
+    check_list(case, steps)
+    seen, written = set(), []
+    for place, step in enumerate(steps, 1):
+        check_buses(case, place, step)
+        if step[0] not in seen:
+            take_step(case, seen, place, step)
+            written.append(step)
+    if len(written) > room:
+        raise Refused(6, 0)
+    return written, seen

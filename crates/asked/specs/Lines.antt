@@ -1,14 +1,10 @@
--- Where a line, and what follows it, stands in a text.
+-- Where a line, and what follows it, is in a text.
 use mathlib.Core.List.{List}
-use Prim.Native.Nat.{ℕ, _+_, _-_, _≤_, _<_}
+use Prim.Native.Nat.{ℕ, _≤_, _<_}
 use lib.ListN.{length}
 use Rattle.asked.specs.declared.Line.{Line}
 
--- the index after e, or the end of a text of n bytes
-abbrev pub past : ℕ → ℕ → ℕ
-past n e = n - (n - (e + 1))
-
--- its name stands within the text, and the next line starts after it
+-- its name is within the text, and the next line starts after it
 pub record LineAt (text : List ℕ) (at : ℕ) (l : Line) : Type 0 where
   pub named : l .name ≤ l .end
   pub within : l .end ≤ l .next

@@ -1,0 +1,46 @@
+-- Invariant: b is 1 to 65, so each bus that a turn asks about is 1 to 64. 65 - b falls.
+use borrow.Author.Needs.{needs}
+use Prim.Native.Nat.{_-_, _≤_}
+use Rattle.ask.proofs.printing.set.Statement.{statement}
+use Rattle.ask.proofs.printing.set.Tie as tie
+
+abbrev Inv-loop : tie.InvT-loop
+Inv-loop s b₀ b = (1 ≤ b) × (b ≤ 65)
+
+abbrev μ-loop : tie.MeasureT-loop
+μ-loop s b₀ b = 65 - b
+
+loop-holds : tie.Need-loop-holds Inv-loop μ-loop
+loop-holds c = search needs
+
+has-requires : tie.Need-has-requires Inv-loop μ-loop
+has-requires c κs = search needs
+
+spaced-requires : tie.Need-spaced-requires Inv-loop μ-loop
+spaced-requires c κs = search needs
+
+add-b : tie.Need-add-b Inv-loop μ-loop
+add-b c = search needs
+
+loop-less : tie.Need-loop-less Inv-loop μ-loop
+loop-less c = search needs
+
+loop-again : tie.Need-loop-again Inv-loop μ-loop
+loop-again c = search needs
+
+returns : tie.Need-returns Inv-loop μ-loop
+returns c = search needs
+
+pub set-spec : {M : Type 1} → statement M
+set-spec =
+    tie.close
+    (tie.spec
+    Inv-loop
+    μ-loop
+    loop-holds
+    has-requires
+    spaced-requires
+    add-b
+    loop-less
+    loop-again
+    returns)

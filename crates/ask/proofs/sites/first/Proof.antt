@@ -1,0 +1,50 @@
+-- Invariant: i is at most 72, so each number read is there. 72 - i falls.
+use borrow.Author.Needs.{needs}
+use Prim.Native.Nat.{_-_, _≤_}
+use Rattle.ask.proofs.sites.first.Statement.{statement}
+use Rattle.ask.proofs.sites.first.Tie as tie
+
+abbrev Inv-loop : tie.InvT-loop
+Inv-loop k out i₀ i = i ≤ 72
+
+abbrev μ-loop : tie.MeasureT-loop
+μ-loop k out i₀ i = 72 - i
+
+loop-holds : tie.Need-loop-holds Inv-loop μ-loop
+loop-holds c = search needs
+
+mul-one : tie.Need-mul-one Inv-loop μ-loop
+mul-one c = search needs
+
+element-copy-out-one : tie.Need-element-copy-out-one Inv-loop μ-loop
+element-copy-out-one c = search needs
+
+one-requires : tie.Need-one-requires Inv-loop μ-loop
+one-requires c κs = search needs
+
+add-i : tie.Need-add-i Inv-loop μ-loop
+add-i c = search needs
+
+loop-less : tie.Need-loop-less Inv-loop μ-loop
+loop-less c = search needs
+
+loop-again : tie.Need-loop-again Inv-loop μ-loop
+loop-again c = search needs
+
+returns : tie.Need-returns Inv-loop μ-loop
+returns c = search needs
+
+pub first-spec : {M : Type 1} → statement M
+first-spec =
+    tie.close
+    (tie.spec
+    Inv-loop
+    μ-loop
+    loop-holds
+    mul-one
+    element-copy-out-one
+    one-requires
+    add-i
+    loop-less
+    loop-again
+    returns)

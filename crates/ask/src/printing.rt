@@ -1,0 +1,118 @@
+// Texts, numbers, sets, steps, cases and refusals, printed.
+use busset::BusSet;
+use grid::Case;
+use refusals::Refusal;
+use step::Reason;
+use step::Step;
+
+pub fn text(bytes: &[u8]) {
+    io::write_all(1, bytes);
+}
+
+pub fn number(n: usize) {
+    io::print_decimal(1, n as u64);
+}
+
+pub fn spaced(n: usize) {
+    text(b" ");
+    number(n);
+}
+
+// The number without its sign.
+fn unsigned(y: i32) -> u64 {
+    if y < 0 {
+        return (-(y as i64)) as u64;
+    }
+    y as u64
+}
+
+pub fn signed(y: i32) {
+    text(b" ");
+    if y < 0 {
+        text(b"-");
+    }
+    io::print_decimal(1, unsigned(y));
+}
+
+pub fn refused(r: Refusal) {
+    text(b" refused");
+    spaced(refusals::number(r) as usize);
+    spaced(refusals::place(r));
+}
+
+// The buses of a set.
+pub fn set(s: BusSet) {
+    for b in 1..=64 {
+        if busset::has(s, b) {
+            spaced(b);
+        }
+    }
+}
+
+// The set that a list reaches, and whether the list is finished.
+pub fn reached(s: BusSet, finished: bool) {
+    set(s);
+    if finished {
+        text(b" finished");
+    } else {
+        text(b" unfinished");
+    }
+}
+
+fn reason(r: Reason) {
+    match r {
+        Reason::OwnUnit => text(b"O"),
+        Reason::NeighbourOf(p) => {
+            text(b"N");
+            number(p);
+        }
+        Reason::ZeroInjection(w) => {
+            text(b"Z");
+            number(w);
+        }
+    }
+}
+
+pub fn step(s: Step) {
+    let r = s.reason;
+    spaced(s.bus);
+    reason(r);
+}
+
+// Whether what was lent past the answer is as it was.
+pub fn rest(is_kept: bool) {
+    if is_kept {
+        text(b", rest kept");
+    } else {
+        text(b", rest changed");
+    }
+}
+
+fn row(b: usize, s: BusSet) {
+    if !busset::is_none(s) {
+        text(b",");
+        spaced(b);
+        text(b" to");
+        set(s);
+    }
+}
+
+fn rows(nbr: &[BusSet; 64]) {
+    for i in 0..64 {
+        row(i + 1, nbr[i]);
+    }
+}
+
+// Every field of a case; a row with no bus is left out.
+pub fn case(c: Case) {
+    let nbr = c.nbr;
+    text(b" n");
+    spaced(c.n);
+    rows(&nbr);
+    text(b", zero");
+    set(c.zero);
+    text(b", site");
+    set(c.site);
+    text(b", units");
+    set(c.units);
+}

@@ -1,0 +1,102 @@
+// Asks one call again and again, and prints the last answer as one number. The first line of standard input says the
+// call and how often it is asked; the rest is a case text. In a set, bus b is the bit b - 1.
+ghost use mathlib.Core.Path.{_≡_};
+use grid::Case;
+use refusals::Refusal;
+use wozgrzyt::Fewest;
+use wozgrzyt::Observed;
+use wozgrzyt::ReadAnswer;
+
+fn wide(n: usize) -> u64
+    ensures { λ r. ⌜ r ≡ n ⌝ }
+{
+    n as u64
+}
+
+// 100 times the place plus the number.
+fn code(r: Refusal) -> u64 {
+    wide(refusals::place(r) % 100000) * 100 + wide(refusals::number(r) as usize % 100)
+}
+
+// Whether the text is read: 0, or the refusal's code.
+fn read(text: &[u8]) -> u64 {
+    let r = wozgrzyt::read_case(text);
+    let answer = r.answer;
+    match answer {
+        ReadAnswer::Read => 0,
+        ReadAnswer::Refused(q) => code(q),
+    }
+}
+
+// The observed set; 0 if the case is refused.
+fn observed(case: Case) -> u64 {
+    match wozgrzyt::observed_set(case) {
+        Observed::Set(s) => s,
+        Observed::Refused(_) => 0,
+    }
+}
+
+// The fewest new sites within a budget of 8; 0 for a refusal.
+fn fewest(case: Case) -> u64 {
+    match wozgrzyt::place_fewest(case, 8) {
+        Fewest::Sites(s) => s,
+        Fewest::Refused(_) => 0,
+    }
+}
+
+fn reads(text: &[u8], turns: usize) -> u64 {
+    let mut last: u64 = 0;
+    for _i in 0..turns {
+        last = read(text);
+    }
+    last
+}
+
+fn observes(case: Case, turns: usize) -> u64 {
+    let mut last: u64 = 0;
+    for _i in 0..turns {
+        last = observed(case);
+    }
+    last
+}
+
+fn places(case: Case, turns: usize) -> u64 {
+    let mut last: u64 = 0;
+    for _i in 0..turns {
+        last = fewest(case);
+    }
+    last
+}
+
+// o: the observed set. p: the fewest. Any other: reading.
+fn last(letter: u8, turns: usize, text: &[u8]) -> u64 {
+    let r = wozgrzyt::read_case(text);
+    match letter {
+        b'o' => observes(r.case, turns),
+        b'p' => places(r.case, turns),
+        _ => reads(text, turns),
+    }
+}
+
+fn whole(input: &[u8]) -> u64 {
+    if input.len() < 1 {
+        return 0;
+    }
+    let l = asked::line_at(input, 0);
+    let next = l.next;
+    last(l.letter, l.a, &input[next..])
+}
+
+fn first(room: &[u8], n: usize) -> u64 {
+    if room.len() < n {
+        return 0;
+    }
+    whole(&room[0..n])
+}
+
+fn main() {
+    let mut room: [u8; 16400] = [0; 16400];
+    let n = io::read_full(0, &mut room);
+    io::print_decimal(1, first(&room, n));
+    io::write_all(1, b"\n");
+}

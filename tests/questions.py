@@ -1,0 +1,165 @@
+#!/usr/bin/env python3
+"""The questions for crates/ask, and what it must print for them, by the references beside this file.
+
+    tests/questions.py stdin     prints crates/ask/stdin: the named questions, as the program reads them
+    tests/questions.py stdout    prints crates/ask/stdout: the replies to them
+    tests/questions.py drawn SEED COUNT PROGRAM
+        asks the program COUNT questions drawn from the seed, and texts that are damaged in every way, and compares.
+        Prints each difference, and then one line of counts. The exit status is 1 after a difference.
+
+The program reads blocks of 32,768 bytes. No question goes over the end of one, and each block starts from nothing.
+"""
+import collections
+import functools
+import subprocess
+import sys
+
+import questions_drawn
+import questions_named
+import replies
+
+BLOCK = 32768
+# the letter by which each call is asked
+LETTERS = dict(
+    observed_set="o", firing_figure="f", test_step="t", derivation="d", replay="r", weave="w", cross_validate="v",
+    place_greedy="g", place_fewest="p", read_case="R", write_case="W", check_steps="C", read_steps="S",
+    replay_text="P", day_report="D", plan_report="L",
+)
+
+
+class Question:
+    """A question: its name, its call with what it is asked of, and the lines that ask it."""
+
+    def __init__(self, name, call, arguments, asked, reply=None):
+        self.name, self.call, self.arguments, self.asked, self.given = name, call, arguments, asked, reply
+
+    @functools.cached_property
+    def reply(self):
+        """What is printed after the name and a colon, and the refusal's number, or 0."""
+        return self.given or replies.reply(self.call, *self.arguments)
+
+    def printed(self):
+        return "%s:%s\n" % (self.name, self.reply[0])
+
+
+def line(letter, a=0, b=0, name=""):
+    fields = [letter, str(a)] + ([str(b)] if b or name else []) + ([name] if name else [])
+    return ("\t".join(fields) + "\n").encode()
+
+
+def case_lines(case, stated=()):
+    """The lines that draw a case, and state a set."""
+    said = [line("n", case.n)]
+    blank = set(range(1, case.n + 1)) if case.n <= 64 else set()
+    marks = dict(x=blank - case.site, y=case.site - blank, z=case.zero, u=case.units, s=stated)
+    said += [line(letter, b) for letter, buses in marks.items() for b in sorted(buses)]
+    for a, row in case.rows.items():
+        for b in sorted(row):
+            if a not in case.rows[b]:
+                said.append(line("h", a, b))
+            elif a <= b:
+                said.append(line("l", a, b))
+    return b"".join(said)
+
+
+def step_lines(steps):
+    return line("e") + b"".join(line(reason[0], bus, *reason[1:]) for bus, reason in steps)
+
+
+def text_lines(text):
+    return line("T", len(text)) + text
+
+
+class Asker:
+    """Gathers questions, and the blocks that ask them."""
+
+    def __init__(self):
+        self.questions, self.blocks, self.block, self.drawn = [], [], b"", None
+
+    def ask(self, name, call, setup, arguments, numbers, reply=None):
+        """Asks of what the setup draws; the references find the reply if none is given."""
+        asked = line(LETTERS[call], *numbers, name=name)
+        lines = asked if setup == self.drawn else setup + asked
+        if len(self.block) + len(lines) > BLOCK:
+            self.blocks.append(self.block.ljust(BLOCK, b"\n"))
+            self.block, lines = b"", setup + asked
+        self.block, self.drawn = self.block + lines, setup
+        assert len(self.block) <= BLOCK
+        self.questions.append(Question(name, call, arguments + numbers, setup + asked, reply))
+
+    def of_case(self, name, call, case, *numbers, stated=(), reply=None):
+        arguments = (case, stated) if call == "firing_figure" else (case,)
+        self.ask(name, call, case_lines(case, stated), arguments, numbers, reply)
+
+    def of_list(self, name, call, case, steps, *numbers, stated=()):
+        arguments = (case, stated, steps) if call == "test_step" else (case, steps)
+        self.ask(name, call, case_lines(case, stated) + step_lines(steps), arguments, numbers)
+
+    def of_text(self, name, call, text, *numbers, case=None):
+        if case is None:
+            self.ask(name, call, text_lines(text), (text,), numbers)
+        else:
+            self.ask(name, call, case_lines(case) + text_lines(text), (case, text), numbers)
+
+    def stdin(self):
+        return b"".join(self.blocks) + self.block
+
+    def stdout(self):
+        return "".join(question.printed() for question in self.questions).encode()
+
+
+def compared(asker, program, seed):
+    """Prints each difference between what the program prints and the replies; the number of differences."""
+    run = subprocess.run(program.split(), input=asker.stdin(), stdout=subprocess.PIPE)
+    said, at, different = run.stdout.decode(errors="replace"), 0, run.returncode != 0
+    if run.returncode:
+        print("the program ended with %d" % run.returncode)
+    for question, following in zip(asker.questions, asker.questions[1:] + [None]):
+        wanted = question.printed()
+        if said.startswith(wanted, at):
+            at += len(wanted)
+            continue
+        ends = said.find("\n%s:" % following.name, at) + 1 if following else len(said)
+        got = said[at:ends] if ends > at else said[at:at + 1000]
+        at = ends or at
+        different += 1
+        if different <= 5:
+            print("seed %s, %s, asked by %r" % (seed, question.call, question.asked))
+            print("wanted: %s\nprinted: %s" % (wanted, got))
+    return different + (at != len(said))
+
+
+def counts(asker, seed, count):
+    """One line: how many questions, of each call how many and how many accepted, and how often each refusal; and what
+    is missing: a call with fewer than a 20th of the drawn ones, or a 100th accepted, or a refusal."""
+    calls = collections.Counter(q.call for q in asker.questions)
+    accepted = collections.Counter(q.call for q in asker.questions if q.reply[1] == 0)
+    refused = collections.Counter(q.reply[1] for q in asker.questions if q.reply[1])
+    said = ["%s %d (%d accepted)" % (call, calls[call], accepted[call]) for call in LETTERS]
+    missing = [call for call in LETTERS if accepted[call] < count // 100 or calls[call] < count // 20]
+    missing += [k for k in range(1, 14) if not refused[k]]
+    said = "%d questions from seed %s: %s; refused %s" % (
+        len(asker.questions), seed, ", ".join(said), ", ".join("%d: %d" % item for item in sorted(refused.items())))
+    return said, missing
+
+
+def main():
+    what = sys.argv[1]
+    asker = Asker()
+    if what in ("stdin", "stdout"):
+        questions_named.ask_all(asker)
+        sys.stdout.buffer.write(asker.stdin() if what == "stdin" else asker.stdout())
+        return
+    seed, count, program = sys.argv[2], int(sys.argv[3]), sys.argv[4]
+    questions_drawn.ask_damaged(asker, seed)
+    questions_drawn.ask_drawn(asker, seed, count)
+    different = compared(asker, program, seed)
+    said, missing = counts(asker, seed, count)
+    if missing:
+        print("too few: %s" % missing)
+    print(said)
+    sys.exit(1 if different or missing else 0)
+
+
+if __name__ == "__main__":
+    main()

@@ -1,0 +1,308 @@
+"""The questions that are stored: document 01's grids and examples, grids and lists at a limit, and mistakes."""
+import os
+
+import replies
+from reference import Case, Refused, derivation, test_step
+from reference_texts import read_case, write_steps
+from reports import day, plan
+from texts import SEVEN, UNIT_AT_3, texts
+
+CASES = os.path.join(os.path.dirname(os.path.abspath(__file__)), "..", "cases")
+PATH = Case(5).drawn(lines=[(1, 2), (2, 3), (3, 4), (4, 5)], zero=[3], units=[1, 5])
+ROW = Case(64).drawn(lines=[(b, b + 1) for b in range(1, 64)], zero=range(1, 65))
+RING = Case(12).drawn(lines=[(b, b % 12 + 1) for b in range(1, 13)], zero=range(2, 13, 2), units=[1, 7])
+PAIR = SEVEN.drawn(units=[1, 4])
+INVALID = UNIT_AT_3.drawn(lines=[(8, 1)])
+
+
+def observed_sets(asker):
+    band = Case(64).drawn(lines=[(a, a + k) for a in range(1, 65) for k in (1, 2, 3, 4) if a + k <= 64])
+    full = band.drawn(lines=[(1, b) for b in range(10, 20)])
+    apart = Case(6).drawn(lines=[(1, 2), (2, 3), (5, 6)])
+
+    def ask(name, case):
+        asker.of_case(name, "observed_set", case)
+
+    ask("seven, no unit", SEVEN)
+    for u in (2, 3, 4):
+        ask("seven, unit at %d" % u, SEVEN.drawn(units=[u]))
+    ask("seven, units at 1 and 4", PAIR)
+    ask("path", PATH)
+    for u in (1, 32, 64):
+        ask("row of 64 Z, unit at %d" % u, ROW.drawn(units=[u]))
+    ask("apart, unit at 1", apart.drawn(units=[1]))
+    ask("apart, unit at 4, which has no line", apart.drawn(units=[4]))
+    ask("apart, 4 is Z with no line", apart.drawn(units=[4], zero=[4]))
+    ask("apart, unit at 5", apart.drawn(units=[5]))
+    ask("256 lines, unit at 1", full.drawn(units=[1]))
+    ask("257 lines, unit at 1", full.drawn(units=[1], lines=[(1, 20)]))
+
+
+def figures(asker):
+    star = Case(64).drawn(lines=[(1, b) for b in range(2, 65)])
+
+    def ask(name, case, stated, i, j):
+        asker.of_case(name, "firing_figure", case, i, j, stated=stated)
+
+    for i, j in ((3, 7), (3, 2), (2, 1)):
+        ask("figure %d to %d" % (i, j), SEVEN, {1, 2, 3}, i, j)
+    ask("figure 2 to 1, buses above 7 stated too", SEVEN, {1, 2, 3, 8}, 2, 1)
+    ask("star of 64, figure 1 to 2, none stated", star, set(), 1, 2)
+    ask("star of 64, figure 1 to 2, all stated", star, set(range(1, 65)), 1, 2)
+    ask("star of 64, figure 2 to 1, none stated", star, set(), 2, 1)
+    for i, j in ((0, 1), (1, 8), (8, 8), (1, 1), (1, 3)):
+        ask("figure %d to %d" % (i, j), SEVEN, set(), i, j)
+    ask("figure 8 to 1 of an invalid case", SEVEN.drawn(lines=[(8, 1)]), set(), 8, 1)
+
+
+def tests(asker):
+    def ask(name, case, stated, bus, *reason):
+        asker.of_list(name, "test_step", case, [(bus, reason)], stated=stated)
+
+    most = {2, 3, 4, 7}
+    for name, stated, bus, *reason in (
+        ("3 O in none", set(), 3, "O"), ("2 O in none", set(), 2, "O"), ("2 N 3 in none", set(), 2, "N", 3),
+        ("1 N 3 in none", set(), 1, "N", 3), ("2 N 1 in none", set(), 2, "N", 1), ("1 Z 2 in none", set(), 1, "Z", 2),
+        ("1 Z 2 in 2", {2}, 1, "Z", 2), ("1 Z 2 in 2 3 4 7", most, 1, "Z", 2),
+        ("5 Z 4 in 2 3 4 7, where 4 is I", most, 5, "Z", 4),
+        ("6 Z 5 in 2 3 4 7, where 5 is not observed", most, 6, "Z", 5),
+        ("3 O in 3", {3}, 3, "O"), ("3 N 8 in 3", {3}, 3, "N", 8), ("3 Z 0 in 3", {3}, 3, "Z", 0),
+        ("0 O in 3", {3}, 0, "O"), ("8 O in 3 8", {3, 8}, 8, "O"), ("64 N 3 in 3", {3}, 64, "N", 3),
+        ("2 N 3 in 3 8, where 8 is ignored", {3, 8}, 2, "N", 3),
+    ):
+        ask(name, UNIT_AT_3, stated, bus, *reason)
+    ask("0 O of an invalid case", UNIT_AT_3.drawn(half=[(1, 7)]), {3}, 0, "O")
+
+
+def case_values(asker):
+    """Case values that are grids or just are not."""
+    six = Case(6)
+    for name, case in (
+        ("6 buses, unit at 6", six.drawn(units=[6])), ("6 buses, Z at 6", six.drawn(zero=[6])),
+        ("6 buses, line 1 to 6", six.drawn(lines=[(1, 6)])), ("6 buses, line 6 to 6", six.drawn(lines=[(6, 6)])),
+        ("6 buses, line 1 to 6 seen from 1 alone", six.drawn(half=[(1, 6)])),
+        ("6 buses, line 1 to 6 seen from 6 alone", six.drawn(half=[(6, 1)])),
+        ("0 buses", Case(0)), ("1 bus", Case(1).drawn(units=[1])),
+        ("64 buses, unit at 64", Case(64).drawn(units=[64])), ("65 buses", Case(65)),
+        ("6 buses, unit at 7", six.drawn(units=[7])), ("6 buses, unit at 64", six.drawn(units=[64])),
+        ("6 buses, Z at 7", six.drawn(zero=[7])), ("6 buses, Z at 64", six.drawn(zero=[64])),
+        ("6 buses, site Y at 7", six.drawn(site=[7])), ("6 buses, site Y at 64", six.drawn(site=[64])),
+        ("6 buses, line 1 to 7", six.drawn(lines=[(1, 7)])), ("6 buses, line 7 to 64", six.drawn(lines=[(7, 64)])),
+        ("6 buses, line 7 to 1 seen from 7 alone", six.drawn(half=[(7, 1)])),
+        ("63 buses, unit at 64", Case(63).drawn(units=[64])),
+    ):
+        asker.of_case(name, "observed_set", case)
+
+
+def derivations(asker):
+    for name, case in (
+        ("seven, no unit", SEVEN), ("seven, unit at 2", SEVEN.drawn(units=[2])), ("seven, unit at 3", UNIT_AT_3),
+        ("seven, unit at 4", SEVEN.drawn(units=[4])), ("seven, units at 1 and 4", PAIR), ("path", PATH),
+        ("row of 64 Z, unit at 1", ROW.drawn(units=[1])), ("ring", RING),
+    ):
+        asker.of_case(name, "derivation", case)
+        asker.of_list(name + ", replayed", "replay", case, derivation(case))
+    asker.of_case("invalid case", "derivation", SEVEN.drawn(lines=[(8, 1)]))
+
+
+def both(asker, name, case, steps, replayed="replay ", woven="weave "):
+    asker.of_list(replayed + name, "replay", case, steps)
+    asker.of_list(woven + name, "weave", case, steps, 72)
+
+
+def in_three_places(asker, step):
+    good = derivation(UNIT_AT_3)
+    for name, at in (("first", 0), ("in the middle", 2), ("last", len(good))):
+        steps = good[:at] + [step] + good[at:]
+        both(asker, replies.listed([step]) + " " + name, UNIT_AT_3, steps, "replay,", "weave,")
+
+
+def lists(asker):
+    for step in (
+        (8, ("O",)), (0, ("N", 3)), (2, ("N", 8)), (2, ("N", 0)), (1, ("Z", 64)),
+        (2, ("N", 3)), (3, ("O",)), (2, ("O",)), (2, ("Z", 7)),
+        (6, ("O",)), (5, ("N", 3)), (5, ("N", 4)), (1, ("Z", 2)), (5, ("Z", 4)), (6, ("Z", 5)),
+    ):
+        in_three_places(asker, step)
+    both(asker, "7 after 9", UNIT_AT_3, [(2, ("O",)), (8, ("O",))])
+    both(asker, "9 after 7", UNIT_AT_3, [(8, ("O",)), (2, ("O",))])
+    both(asker, "two steps", UNIT_AT_3, [(3, ("O",)), (4, ("N", 3))])
+    both(asker, "no step", UNIT_AT_3, [])
+    both(asker, "no step, no unit", SEVEN, [])
+    both(asker, "invalid case", INVALID, [(8, ("O",))])
+
+
+def long_lists(asker):
+    good, bad = derivation(UNIT_AT_3), [(8, ("O",))]
+
+    def stretched(steps, count):
+        return steps + steps[-1:] * (count - len(steps))
+
+    for name, case, steps, count in (
+        (" steps", UNIT_AT_3, good, 1024), (" steps", UNIT_AT_3, good, 1025), (" bad steps", UNIT_AT_3, bad, 1024),
+        (" bad steps", UNIT_AT_3, bad, 1025), (" steps of an invalid case", INVALID, good, 1025),
+    ):
+        both(asker, "%d%s" % (count, name), case, stretched(steps, count))
+    most = stretched(good, 1023)
+    both(asker, ", bad step 1024", UNIT_AT_3, most + bad, "replay", "weave")
+    asker.of_list("weave, false step 1024", "weave", UNIT_AT_3, most + [(6, ("O",))], 72)
+    asker.of_list("weave, passed step 1024", "weave", UNIT_AT_3, most + [(2, ("O",))], 72)
+
+
+def record_rooms(asker):
+    good, row = derivation(UNIT_AT_3), ROW.drawn(units=[1])
+    for room in (0, 4, 5, 6):
+        asker.of_list("weave 5 into %d" % room, "weave", UNIT_AT_3, good, room)
+    asker.of_list("weave 5 and a bad step into 0", "weave", UNIT_AT_3, good + [(8, ("O",))], 0)
+    for room in (63, 64, 65, 72):
+        asker.of_list("weave 64 into %d" % room, "weave", row, derivation(row), room)
+
+
+def after(x):
+    """The number after x of Lehmer's generator."""
+    return x * 48271 % 2147483647
+
+
+def desk_list(case, seed):
+    """The list of a desk that takes the allowed ones of 800 drawn steps."""
+    n, steps, x = case.n, [], seed
+    for _ in range(800):
+        y = after(x)
+        z = after(y)
+        other = z % n + 1
+        step = (x % n + 1, [("O",), ("N", other), ("Z", other)][y % 3])
+        try:
+            test_step(case, {bus for bus, _ in steps}, step)
+            steps.append(step)
+        except Refused:
+            pass
+        x = after(z)
+    return steps
+
+
+def shuffled(lists, seed):
+    """The lists as one, each in its own order. The turn is of the first desk, from a drawn one on, with a step left."""
+    left, steps, x = [list(l) for l in lists] + [[]] * (5 - len(lists)), [], seed
+    while any(left):
+        x = after(x)
+        steps.append(next(left[d % 5] for d in range(x % 5, x % 5 + 5) if left[d % 5]).pop(0))
+    return steps
+
+
+def desks(asker, name, case, count):
+    lists = [desk_list(case, d + 1) for d in range(count)]
+    for steps in lists:
+        asker.of_list("%s, a desk's list:%s, replayed" % (name, replies.listed(steps)), "replay", case, steps)
+    for k in range(1, 25):
+        steps = shuffled(lists, k)
+        asker.of_list("%s, shuffle %d of %d steps" % (name, k, len(steps)), "weave", case, steps, 64)
+
+
+def shuffles(asker):
+    for name, case in (("seven, units at 1 and 4", PAIR), ("ring", RING)):
+        desks(asker, name + ", two desks", case, 2)
+        desks(asker, name + ", five desks", case, 5)
+
+
+def read(name):
+    with open(os.path.join(CASES, name + ".case"), "rb") as text:
+        return read_case(text.read())
+
+
+def verdicts(asker):
+    for name, units in (
+        ("no units", []), ("3", [3]), ("3 and 4", [3, 4]), ("2 and 4", [2, 4]), ("1 and 4", [1, 4]),
+        ("1 and 3 by an observed neighbour", [1, 3]), ("3 and 5 by an I neighbour", [3, 5]), ("1, 4 and 6", [1, 4, 6]),
+    ):
+        asker.of_case("verdict, " + name, "cross_validate", SEVEN.drawn(units=units))
+    asker.of_case("verdict, three buses with no lines", "cross_validate", Case(3).drawn(units=[1, 2]))
+    asker.of_case("verdict, no buses", "cross_validate", Case(0))
+
+
+def greedy(asker):
+    for name, case, budget, room in (
+        ("seven with 2", SEVEN, 2, 64), ("seven with 0", SEVEN, 0, 64), ("seven with 64", SEVEN, 64, 64),
+        ("seven with 65", SEVEN, 65, 64), ("seven with 3 barred", SEVEN.drawn(barred=[3]), 64, 64),
+        ("seven with a unit at 4", SEVEN.drawn(units=[4]), 64, 64), ("seven already observed", PAIR, 64, 64),
+        ("seven with no site allowed", SEVEN.drawn(barred=range(1, 8)), 64, 64), ("seven into room for 2", SEVEN, 2, 2),
+        ("seven into room for 1", SEVEN, 2, 1), ("ieee14 with 64", read("ieee14"), 64, 64),
+        ("ieee30 with 64", read("ieee30"), 64, 64), ("figure 4 with 64", read("source000-fig4"), 64, 64),
+        ("no buses", Case(0), 65, 2),
+    ):
+        asker.of_case("greedy, " + name, "place_greedy", case, budget, room)
+
+
+def fewest(asker):
+    ieee14, ieee30, figure4 = read("ieee14"), read("ieee30"), read("source000-fig4")
+    every_i = read("ieee14")
+    every_i.zero = set()
+    for name, case, budget in (
+        ("seven with 2", SEVEN, 2), ("seven with 1", SEVEN, 1), ("seven with 0", SEVEN, 0), ("seven with 8", SEVEN, 8),
+        ("seven with 9", SEVEN, 9), ("seven with 1 barred", SEVEN.drawn(barred=[1]), 8),
+        ("seven with 1 barred and a unit there", SEVEN.drawn(units=[1], barred=[1]), 8),
+        ("seven with a unit at 3", UNIT_AT_3, 8), ("seven already observed, with 0", PAIR, 0),
+        ("seven already observed, with 8", PAIR, 8),
+        ("seven with no site allowed", SEVEN.drawn(barred=range(1, 8)), 8),
+        ("seven already observed, with no site allowed", PAIR.drawn(barred=range(1, 8)), 8),
+        ("gadget", read("source000-gadget"), 8), ("figure 4", figure4, 8), ("figure 4 with 4", figure4, 4),
+        ("ieee14", ieee14, 8), ("ieee14 with 2", ieee14, 2), ("ieee14 with every bus I", every_i, 8),
+        ("ieee30", ieee30, 8), ("ieee30 with 6", ieee30, 6), ("no buses", Case(0), 65),
+    ):
+        asker.of_case("fewest, " + name, "place_fewest", case, budget)
+
+
+def out_of_reach(asker):
+    """Two grids on which no search that tries every placement ends: 57 buses need 12 units, by an integer program."""
+    for name, case in (("ieee57", read("ieee57")), ("64 buses with no lines", Case(64))):
+        asker.of_case("fewest, " + name, "place_fewest", case, 8, reply=(" refused 11 0", 11))
+
+
+def byte_rooms(asker):
+    """Each call that writes bytes, into room that is one short, exact and larger, and on an empty text."""
+    text = texts()["seven"]
+
+    def rooms(name, call, written, ask):
+        for room in (0, len(written) - 1, len(written), len(written) + 1):
+            ask("%s into %d" % (name, room), call, room)
+
+    for room in (16400, 0):
+        asker.of_case("no case into %d" % room, "write_case", Case(0), room)
+    rooms("case", "write_case", text, lambda name, call, room: asker.of_case(name, call, UNIT_AT_3, room))
+    for name, call, answer, said in (
+        ("day", "day_report", day, text), ("plan", "plan_report", plan, b"plan\t8\n" + text),
+    ):
+        for room in (11, 12):
+            asker.of_text("no %s into %d" % (name, room), call, b"", room)
+        rooms(name, call, answer(said), lambda name, call, room: asker.of_text(name, call, said, room))
+
+
+def text_questions(asker):
+    """Texts at the limits, and step texts that are good, that are refused as lists, and that are refused as texts."""
+    text = texts()
+    for name in ("seven", "full", "more"):
+        asker.of_text("read " + name, "read_case", text[name])
+    for name in ("steps", "most", "many"):
+        asker.of_text("check " + name, "check_steps", text[name])
+    for name, room in (("most", 1023), ("most", 1024), ("most", 1025), ("many", 1032)):
+        asker.of_text("%s into %d" % (name, room), "read_steps", text[name], room)
+    for name, steps, case in (
+        ("no step", write_steps([]), UNIT_AT_3),
+        ("two steps", write_steps([(3, ("O",)), (4, ("N", 3))]), UNIT_AT_3),
+        ("8 O", write_steps([(3, ("O",)), (8, ("O",))]), UNIT_AT_3),
+        ("3 O twice", write_steps([(3, ("O",)), (3, ("O",))]), UNIT_AT_3),
+        ("1 Z 2", write_steps([(1, ("Z", 2))]), UNIT_AT_3), ("65 O", write_steps([(65, ("O",))]), UNIT_AT_3),
+        ("an empty text", b"", UNIT_AT_3), ("an empty text on an invalid case", b"", Case(0)),
+        ("8 O on an invalid case", write_steps([(8, ("O",))]), Case(0)), ("steps", text["steps"], UNIT_AT_3),
+        ("1024 steps", text["most"], UNIT_AT_3), ("1025 steps", text["many"], UNIT_AT_3),
+        ("16384 bytes", text["steps"].ljust(16384, b"x"), UNIT_AT_3),
+        ("16385 bytes", text["steps"].ljust(16385, b"x"), UNIT_AT_3),
+    ):
+        asker.of_text("replay " + name, "replay_text", steps, case=case)
+
+
+def ask_all(asker):
+    for questions in (
+        observed_sets, figures, tests, case_values, derivations, lists, long_lists, record_rooms, shuffles,
+        verdicts, greedy, fewest, out_of_reach, byte_rooms, text_questions,
+    ):
+        questions(asker)
