@@ -44,38 +44,23 @@ fn fewest(case: Case) -> u64 {
     }
 }
 
-fn reads(text: &[u8], turns: usize) -> u64 {
-    let mut last: u64 = 0;
-    for _i in 0..turns {
-        last = read(text);
-    }
-    last
-}
-
-fn observes(case: Case, turns: usize) -> u64 {
-    let mut last: u64 = 0;
-    for _i in 0..turns {
-        last = observed(case);
-    }
-    last
-}
-
-fn places(case: Case, turns: usize) -> u64 {
-    let mut last: u64 = 0;
-    for _i in 0..turns {
-        last = fewest(case);
-    }
-    last
-}
-
 // o: the observed set. p: the fewest. Any other: reading.
+fn once(letter: u8, case: Case, text: &[u8]) -> u64 {
+    match letter {
+        b'o' => observed(case),
+        b'p' => fewest(case),
+        _ => read(text),
+    }
+}
+
 fn last(letter: u8, turns: usize, text: &[u8]) -> u64 {
     let r = wozgrzyt::read_case(text);
-    match letter {
-        b'o' => observes(r.case, turns),
-        b'p' => places(r.case, turns),
-        _ => reads(text, turns),
+    let case = r.case;
+    let mut answer: u64 = 0;
+    for _i in 0..turns {
+        answer = once(letter, case, text);
     }
+    answer
 }
 
 fn whole(input: &[u8]) -> u64 {
