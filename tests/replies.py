@@ -5,7 +5,8 @@ import reference_texts
 import reports
 from reference import Case, Refused
 
-LENT = ("weave", "write_case", "read_steps", "day_report", "plan_report")
+# the calls that write records, and those that write bytes, which are printed on lines of their own
+RECORDS, BYTES = ("weave", "read_steps"), ("write_case", "day_report", "plan_report")
 
 
 def numbers(buses):
@@ -120,6 +121,6 @@ def reply(call, *arguments):
             text = " unread," + text
         if call == "read_case":
             text += fields(Case(0))
-        if call in LENT:
-            text += ", rest kept"
+        if call in RECORDS + BYTES:
+            text += ", rest kept" + "\n" * (call in BYTES)
         return text, no.args[0]

@@ -4,6 +4,7 @@ ghost use Prim.Native.Nat.{_+_, _≤_, _<_};
 ghost use lib.ListN.{length};
 use crate::printing;
 use list_value::StepList;
+use refusals::Refusal;
 use step::Reason;
 use step::Step;
 
@@ -73,8 +74,7 @@ pub fn nth(p: Plan, i: usize) -> Step {
     p.steps[i]
 }
 
-// The steps of a list, printed.
-pub fn print(p: Plan) {
+fn print(p: Plan) {
     let n = p.n;
     for i in 0..n {
         printing::step(nth(p, i));
@@ -139,7 +139,7 @@ fn is_filling(s: Step, i: usize) -> bool
 }
 
 // Whether every record from the list's end on is as it was filled.
-pub fn is_kept(p: Plan) -> bool {
+fn is_kept(p: Plan) -> bool {
     let out = p.steps;
     for i in p.n..1032 {
         if !is_filling(out[i], i) {
@@ -147,4 +147,22 @@ pub fn is_kept(p: Plan) -> bool {
         }
     }
     true
+}
+
+// The list in the records, printed.
+pub fn written(p: Plan) {
+    printing::spaced(p.n);
+    printing::text(b" written");
+    print(p);
+}
+
+// Whether the records past the list are as they were, printed.
+pub fn rest(p: Plan) {
+    printing::rest(is_kept(p));
+}
+
+// A refusal, and whether all records are as they were.
+pub fn refused(r: Refusal, steps: [Step; 1032]) {
+    printing::refused(r);
+    rest(Plan { n: 0, steps });
 }

@@ -25,14 +25,18 @@ fn figure(case: Case, s: BusSet, i: usize, j: usize) {
     }
 }
 
-// The list, which is empty beside a refusal.
+fn derived(answer: DerivationAnswer) {
+    if let DerivationAnswer::Refused(r) = answer {
+        printing::refused(r);
+    }
+}
+
+// The refusal, and the list, which is empty beside one.
 fn derivation(case: Case) {
     let d = wozgrzyt::derivation(case);
     let answer = d.answer;
     let list = d.list;
-    if let DerivationAnswer::Refused(r) = answer {
-        printing::refused(r);
-    }
+    derived(answer);
     lists::print_derived(list);
 }
 

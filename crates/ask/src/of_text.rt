@@ -1,24 +1,29 @@
 // What is asked of a text, and what is printed for it.
+use crate::lending::Filled;
 use crate::lending::read_first;
 use crate::lists;
 use crate::lists::Plan;
 use crate::printing;
 use crate::rooms;
+use crate::rooms::least;
 use grid::Case;
 use wozgrzyt::ReadAnswer;
 use wozgrzyt::StepsRead;
 use wozgrzyt::TextReplayed;
+
+fn said(answer: ReadAnswer) {
+    match answer {
+        ReadAnswer::Read => printing::text(b" read"),
+        ReadAnswer::Refused(q) => printing::refused(q),
+    }
+}
 
 // The answer, and every field of the case that comes with it.
 fn read(text: &[u8]) {
     let r = wozgrzyt::read_case(text);
     let answer = r.answer;
     let case = r.case;
-    match answer {
-        ReadAnswer::Read => printing::text(b" read"),
-        ReadAnswer::Refused(q) => printing::refused(q),
-    }
-    printing::text(b",");
+    said(answer);
     printing::case(case);
 }
 
@@ -29,32 +34,26 @@ fn checked(text: &[u8]) {
     }
 }
 
-// The steps, in the first `room` records, which are at most 1,032; and whether the other records are as they were.
-fn steps_into(text: &[u8], room: usize) {
-    if 1032 < room {
-        return;
-    }
-    let f = read_first(text, lists::filled(), room);
+fn filled(f: Filled) {
     let answer = f.answer;
-    let out = f.out;
+    let steps = f.out;
     match answer {
         StepsRead::Steps(n) => {
-            let p = Plan { n, steps: out };
-            printing::spaced(n);
-            printing::text(b" written");
-            lists::print(p);
-            printing::rest(lists::is_kept(p));
+            lists::written(Plan { n, steps });
+            lists::rest(Plan { n, steps });
         }
-        StepsRead::Refused(q) => {
-            printing::refused(q);
-            printing::rest(lists::is_kept(Plan { n: 0, steps: out }));
-        }
+        StepsRead::Refused(q) => lists::refused(q, steps),
     }
 }
 
+// The steps, in the first `room` records, and whether the other records are as they were.
+fn steps_into(text: &[u8], room: usize) {
+    filled(read_first(text, lists::filled(), least(room, 1032)));
+}
+
 // The set reached, a refusal of the list, or a refusal in reading its text.
-fn replayed(case: Case, text: &[u8]) {
-    match wozgrzyt::replay_text(case, text) {
+fn replayed(answer: TextReplayed) {
+    match answer {
         TextReplayed::Reached(s, finished) => printing::reached(s, finished),
         TextReplayed::Refused(q) => printing::refused(q),
         TextReplayed::Unread(q) => {
@@ -71,7 +70,7 @@ pub fn reply(text: &[u8], case: Case, letter: u8, a: usize) {
         b'R' => read(text),
         b'C' => checked(text),
         b'S' => steps_into(text, a),
-        b'P' => replayed(case, text),
+        b'P' => replayed(wozgrzyt::replay_text(case, text)),
         b'D' => rooms::day_into(text, a),
         _ => rooms::plan_into(text, a),
     }

@@ -59,17 +59,16 @@ pub fn reached(s: BusSet, finished: bool) {
     }
 }
 
+fn by(letter: &[u8], b: usize) {
+    text(letter);
+    number(b);
+}
+
 fn reason(r: Reason) {
     match r {
         Reason::OwnUnit => text(b"O"),
-        Reason::NeighbourOf(p) => {
-            text(b"N");
-            number(p);
-        }
-        Reason::ZeroInjection(w) => {
-            text(b"Z");
-            number(w);
-        }
+        Reason::NeighbourOf(p) => by(b"N", p),
+        Reason::ZeroInjection(w) => by(b"Z", w),
     }
 }
 
@@ -103,16 +102,18 @@ fn rows(nbr: &[BusSet; 64]) {
     }
 }
 
+fn named(name: &[u8], s: BusSet) {
+    text(name);
+    set(s);
+}
+
 // Every field of a case; a row with no bus is left out.
 pub fn case(c: Case) {
     let nbr = c.nbr;
-    text(b" n");
+    text(b", n");
     spaced(c.n);
     rows(&nbr);
-    text(b", zero");
-    set(c.zero);
-    text(b", site");
-    set(c.site);
-    text(b", units");
-    set(c.units);
+    named(b", zero", c.zero);
+    named(b", site", c.site);
+    named(b", units", c.units);
 }

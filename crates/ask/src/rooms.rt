@@ -40,21 +40,27 @@ fn first(out: &[u8], k: usize) {
     }
 }
 
-// The answer, and whether the other bytes are as they were; what was written is printed after its line.
-fn answer(r: Written, out: &[u8]) {
+// How many bytes were written; none beside a refusal. Either is printed.
+fn count(r: Written) -> usize {
     match r {
         Written::Bytes(k) => {
             printing::text(b" written");
             printing::spaced(k);
-            printing::rest(is_kept(out, k));
-            printing::text(b"\n");
-            first(out, k);
+            k
         }
         Written::Refused(q) => {
             printing::refused(q);
-            printing::rest(is_kept(out, 0));
+            0
         }
     }
+}
+
+// The answer, and whether the other bytes are as they were; what was written is printed on lines of its own.
+fn answer(r: Written, out: &[u8]) {
+    let k = count(r);
+    printing::rest(is_kept(out, k));
+    printing::text(b"\n");
+    first(out, k);
 }
 
 // The smaller.

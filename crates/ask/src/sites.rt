@@ -47,14 +47,19 @@ fn into_first(case: Case, budget: usize, out: &mut [usize], room: usize) -> Gree
     wozgrzyt::place_greedy(case, budget, &mut out[0..k])
 }
 
+// How many sites were added; none beside a refusal, which is printed.
+fn count(r: Greedy) -> usize {
+    match r {
+        Greedy::Added(k) => k,
+        Greedy::Refused(q) => {
+            printing::refused(q);
+            0
+        }
+    }
+}
+
 pub fn greedy(case: Case, budget: usize, room: usize) {
     let mut out = filled();
     let r = into_first(case, budget, &mut out, room);
-    match r {
-        Greedy::Added(k) => first(k, &out),
-        Greedy::Refused(q) => {
-            printing::refused(q);
-            first(0, &out);
-        }
-    }
+    first(count(r), &out);
 }

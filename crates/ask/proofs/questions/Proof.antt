@@ -1,4 +1,4 @@
--- Invariant: `at` is within the block. `line_at` promises that the next line starts past it, and `text_end` is no earlier, so length - at falls.
+-- Invariant: `at` is within the block. `line_at` promises a next line past it, and `text_end` is no earlier, so length - at falls.
 use borrow.Author.Needs.{needs}
 use Prim.Native.Nat.{_-_, _≤_}
 use lib.ListN.{length}
