@@ -62,7 +62,8 @@ pub fn greedy(nbr: &Rows, zero: BusSet, site: BusSet, units: BusSet, budget: usi
 
 // Writes the sites, in order, into the room lent; what lies past them stays.
 pub fn write(order: SiteList, out: &mut [usize])
-    requires { ⌜ (length (order .sites) ≡ mostGreedyBudget) × (order .count ≤ mostGreedyBudget) × (order .count ≤ length (now out)) ⌝ }
+    requires { ⌜ (length (order .sites) ≡ mostGreedyBudget) × (order .count ≤ mostGreedyBudget)
+        × (order .count ≤ length (now out)) ⌝ }
     ensures { λ _. ⌜ now (out .exit) ≡ take (order .count) (order .sites) ++ drop (order .count) (now (out .entry)) ⌝ }
 {
     let sites = order.sites;
