@@ -1,5 +1,5 @@
 -- The test of one step, reason by reason.
-use mathlib.Core.Path.{_≡_, subst, subst⁻¹}
+use mathlib.Core.Path.{_≡_, sym, _∙_, subst, subst⁻¹}
 use mathlib.Core.List.{List, _∷_}
 use mathlib.Core.Logic.{inr, ⊎-elim}
 use mathlib.Core.Bool.{Bool}
@@ -10,10 +10,12 @@ use Rattle.busset.specs.Sets.{Bus, In, Sub, With}
 use Rattle.basics.proofs.Tests.{same-or, decides-by}
 use Rattle.busset.proofs.Members.{sub-of}
 use Rattle.step.specs.declared.Reason.{Reason}
+use Rattle.step.specs.declared.NamedBus.{NamedBus}
 use Rattle.step.specs.declared.Step.{Step}
+use Rattle.step.specs.Reasons.{namedBy}
 use Rattle.rules.specs.Grids.{Grid}
 use Rattle.rules.specs.Observation.{AllBut}
-use Rattle.rules.specs.Steps.{ByUnit, ByZero, Holds, Names, ReasonNames}
+use Rattle.rules.specs.Steps.{ByUnit, ByZero, Holds, BusIfNamed, Names, ReasonNames}
 use Rattle.refusals.specs.Refusals.{Check}
 use Rattle.observe.specs.Testing.{TestedBy}
 use Rattle.observe.specs.declared.test.Tested.{Tested}
@@ -24,9 +26,13 @@ use Rattle.observe.specs.declared.test.Tested.the-variants.{Allowed, Ref
 pub reason-names : {n : ℕ} {x : Step} {r : Reason} → x .reason ≡ r → Names n x → ReasonNames n r
 reason-names {n} {x} {r} e h = subst (ReasonNames n) e (h .reason)
 
-pub names-by : {n : ℕ} {x : Step} {b : Bool} (r : Reason) → x .reason ≡ r → Bus n (x .bus) → Decides (ReasonNames n r) b
+pub names-by : {n : ℕ} {x : Step} {named : NamedBus} {b : Bool} (y : NamedBus) → named ≡ namedBy (x .reason) → named ≡ y → Bus n (x .bus)
+    → Decides (BusIfNamed n y) b
     → Decides (Names n x) b
-names-by {n} {x} {b} r e bus d = decides-by (λ h. record { bus = bus; reason = subst⁻¹ (ReasonNames n) e h }) (λ h. reason-names e h) d
+names-by {n} {x} y e f bus d =
+    decides-by (λ h. record { bus = bus; reason = subst (BusIfNamed n) (sym f ∙ e) h })
+    (λ h. subst⁻¹ (BusIfNamed n) (sym f ∙ e) (h .reason))
+    d
 
 -- ---- each reason
 

@@ -10,6 +10,7 @@ use busset::BusSet;
 use grid::Case;
 use grid::Rows;
 use refusals::Refusal;
+use step::NamedBus;
 use step::Reason;
 use step::Step;
 
@@ -28,10 +29,9 @@ pub fn names(n: usize, x: Step) -> bool
     if !busset::is_bus(n, b) {
         return false;
     }
-    match reason {
-        Reason::OwnUnit => true,
-        Reason::NeighbourOf(p) => busset::is_bus(n, p),
-        Reason::ZeroInjection(w) => busset::is_bus(n, w),
+    match step::named(reason) {
+        NamedBus::Nothing => true,
+        NamedBus::Bus(p) => busset::is_bus(n, p),
     }
 }
 

@@ -1,29 +1,36 @@
 -- The derivation: there is one at most, it is accepted and finished; so it reaches the observed set, with one step for each bus of it.
 use mathlib.Core.Path.{_≡_, refl, sym, ap, ap₂, subst}
 use mathlib.Core.List.{List, [], _∷_}
+use mathlib.Core.Logic.{inl, inr}
 use Prim.Native.Nat.{ℕ}
 use native.Mathlib.Nat.{le-antisymm}
+use native.Mathlib.Omega.{arith}
 use lib.ListN.{length}
 use Rattle.busset.specs.Sets.{add, size}
 use Rattle.step.specs.declared.Reason.{Reason}
-use Rattle.step.specs.declared.Reason.the-variants.{OwnUnit, NeighbourOf, ZeroInjection}
+use Rattle.step.specs.declared.NamedBus.{NamedBus}
+use Rattle.step.specs.declared.NamedBus.the-variants.{Nothing, Bus}
 use Rattle.step.specs.declared.Step.{Step}
+use Rattle.step.specs.Reasons.{namedBy}
+use Rattle.step.proofs.Reasons.{reason-unique, same-letter}
 use Rattle.rules.specs.Grids.{Grid}
 use Rattle.rules.specs.Observation.{ObservedSet}
 use Rattle.rules.specs.Steps.{reachedFrom, AcceptedFrom, reached, Finished}
-use Rattle.rules.specs.Derivation.{TakenFirst, NextIs, DerivedFrom, finished, next, Derivation}
+use Rattle.rules.specs.Derivation.{NamesAtMost, TakenFirst, NextIs, DerivedFrom, finished, next, Derivation}
 use Rattle.rules.proofs.Lists.{finished-least, accepted-length}
 
+names-antisym : (x y : NamedBus) → NamesAtMost x y → NamesAtMost y x → x ≡ y
+names-antisym Nothing Nothing a b = refl
+names-antisym Nothing (Bus q) a b = absurd b
+names-antisym (Bus p) Nothing a b = absurd a
+names-antisym (Bus p) (Bus q) a b = ap Bus (le-antisymm a b)
+
+-- neither comes in an earlier turn: so they have one letter and name one bus, by which a reason is known
 before-antisym : (q r : Reason) → TakenFirst q r → TakenFirst r q → q ≡ r
-before-antisym OwnUnit OwnUnit a b = refl
-before-antisym OwnUnit (NeighbourOf p) a b = absurd b
-before-antisym OwnUnit (ZeroInjection w) a b = absurd b
-before-antisym (NeighbourOf p) OwnUnit a b = absurd a
-before-antisym (NeighbourOf p) (NeighbourOf q) a b = ap NeighbourOf (le-antisymm a b)
-before-antisym (NeighbourOf p) (ZeroInjection w) a b = absurd b
-before-antisym (ZeroInjection w) OwnUnit a b = absurd a
-before-antisym (ZeroInjection w) (NeighbourOf p) a b = absurd a
-before-antisym (ZeroInjection w) (ZeroInjection v) a b = ap ZeroInjection (le-antisymm a b)
+before-antisym q r (inl a) (inl b) = absurd (omega arith)
+before-antisym q r (inl a) (inr b) = let e = b .0 in absurd (omega arith)
+before-antisym q r (inr a) (inl b) = let e = a .0 in absurd (omega arith)
+before-antisym q r (inr a) (inr b) = reason-unique q r (same-letter q r (a .0)) (names-antisym (namedBy q) (namedBy r) (a .1) (b .1))
 
 pub next-unique : {g : Grid} {s : ℕ} (x y : Step) → NextIs g s x → NextIs g s y → x ≡ y
 next-unique x y hx hy =

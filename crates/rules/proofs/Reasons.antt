@@ -6,10 +6,13 @@ use Rattle.busset.specs.Sets.{Bus, In, Sub}
 use Rattle.busset.proofs.Members.{sub-of, bus-more}
 use Rattle.step.specs.declared.Reason.{Reason}
 use Rattle.step.specs.declared.Reason.the-variants.{OwnUnit, NeighbourOf, ZeroInjection}
+use Rattle.step.specs.declared.NamedBus.{NamedBus}
+use Rattle.step.specs.declared.NamedBus.the-variants.{Nothing, Bus as BusNamed}
 use Rattle.step.specs.declared.Step.{Step}
+use Rattle.step.specs.Reasons.{namedBy}
 use Rattle.rules.specs.Grids.{Grid, Proper}
 use Rattle.rules.specs.Observation.{Closed}
-use Rattle.rules.specs.Steps.{Holds, Allowed, ReasonNames, Names}
+use Rattle.rules.specs.Steps.{Holds, Allowed, BusIfNamed, ReasonNames, Names}
 
 -- on the way: s is closed under the reasons, that is, it has every bus for which one holds
 abbrev pub HasReasoned : Grid → ℕ → Type 0
@@ -56,12 +59,11 @@ holds-names g s b v (ZeroInjection w) h = v .lines w b (h .joined) .from
 
 -- buses 1 to n are buses 1 to m
 pub names-more : {n m : ℕ} {x : Step} → Names n x → n ≤ m → Names m x
-names-more {n} {m} {x} h l = record { bus = bus-more (h .bus) l; reason = go (x .reason) (h .reason) }
+names-more {n} {m} {x} h l = record { bus = bus-more (h .bus) l; reason = go (namedBy (x .reason)) (h .reason) }
   where
-    go : (r : Reason) → ReasonNames n r → ReasonNames m r
-    go OwnUnit q = tt
-    go (NeighbourOf p) q = bus-more q l
-    go (ZeroInjection w) q = bus-more q l
+    go : (b : NamedBus) → BusIfNamed n b → BusIfNamed m b
+    go Nothing q = tt
+    go (BusNamed p) q = bus-more q l
 
 -- an allowed step names buses of the grid
 pub allowed-names : {g : Grid} {s : ℕ} {x : Step} → Proper g → Allowed g s x → Names (g .n) x

@@ -1,23 +1,26 @@
 -- The derivation: the one fixed finished list.
 use mathlib.Core.Path.{_≡_}
 use mathlib.Core.List.{List, [], _∷_}
-use Prim.Native.Nat.{ℕ, _≤_}
+use mathlib.Core.Logic.{_⊎_}
+use Prim.Native.Nat.{ℕ, _≤_, _<_}
 use Rattle.busset.specs.Sets.{empty, add}
 use Rattle.step.specs.declared.Reason.{Reason}
-use Rattle.step.specs.declared.Reason.the-variants.{OwnUnit, NeighbourOf, ZeroInjection}
+use Rattle.step.specs.declared.NamedBus.{NamedBus}
+use Rattle.step.specs.declared.NamedBus.the-variants.{Nothing, Bus}
 use Rattle.step.specs.declared.Step.{Step}
+use Rattle.step.specs.Reasons.{namedBy, turnOf}
 use Rattle.rules.specs.Grids.{Grid}
 use Rattle.rules.specs.Steps.{Allowed, Finished}
 
+-- of what two reasons name, the first is no bus, or a bus at most the second
+abbrev pub NamesAtMost : NamedBus → NamedBus → Type 0
+NamesAtMost Nothing y = Unit {0}
+NamesAtMost (Bus p) Nothing = ⊥
+NamesAtMost (Bus p) (Bus q) = p ≤ q
+
 -- the reason q is taken before r, or is r: O, else N with the lowest p, else Z with the lowest w
 abbrev pub TakenFirst : Reason → Reason → Type 0
-TakenFirst OwnUnit r = Unit {0}
-TakenFirst (NeighbourOf p) OwnUnit = ⊥
-TakenFirst (NeighbourOf p) (NeighbourOf q) = p ≤ q
-TakenFirst (NeighbourOf p) (ZeroInjection w) = Unit {0}
-TakenFirst (ZeroInjection w) OwnUnit = ⊥
-TakenFirst (ZeroInjection w) (NeighbourOf q) = ⊥
-TakenFirst (ZeroInjection w) (ZeroInjection v) = w ≤ v
+TakenFirst q r = (turnOf q < turnOf r) ⊎ ((turnOf q ≡ turnOf r) × NamesAtMost (namedBy q) (namedBy r))
 
 -- x is the next step where s is observed: for the lowest-numbered bus that any rule reaches, with the reason that is taken first
 pub record NextIs (g : Grid) (s : ℕ) (x : Step) : Type 0 where

@@ -4,7 +4,10 @@ use Prim.Native.Nat.{ℕ}
 use Rattle.busset.specs.Sets.{Bus, In, Out, empty, add}
 use Rattle.step.specs.declared.Reason.{Reason}
 use Rattle.step.specs.declared.Reason.the-variants.{OwnUnit, NeighbourOf, ZeroInjection}
+use Rattle.step.specs.declared.NamedBus.{NamedBus}
+use Rattle.step.specs.declared.NamedBus.the-variants.{Nothing, Bus as BusNamed}
 use Rattle.step.specs.declared.Step.{Step}
+use Rattle.step.specs.Reasons.{namedBy}
 use Rattle.rules.specs.Grids.{Grid}
 use Rattle.rules.specs.Observation.{AllBut}
 
@@ -33,11 +36,14 @@ pub record Allowed (g : Grid) (s : ℕ) (x : Step) : Type 0 where
   pub new : Out s (x .bus)
   pub holds : Holds g s (x .bus) (x .reason)
 
+-- the bus that is named, if one is, is 1 to n
+abbrev pub BusIfNamed : ℕ → NamedBus → Type 0
+BusIfNamed n Nothing = Unit {0}
+BusIfNamed n (BusNamed b) = Bus n b
+
 -- the bus that a reason names, if it names one, is 1 to n
 abbrev pub ReasonNames : ℕ → Reason → Type 0
-ReasonNames n OwnUnit = Unit {0}
-ReasonNames n (NeighbourOf p) = Bus n p
-ReasonNames n (ZeroInjection w) = Bus n w
+ReasonNames n r = BusIfNamed n (namedBy r)
 
 -- the step, in its bus and its reason, names buses 1 to n
 pub record Names (n : ℕ) (x : Step) : Type 0 where
