@@ -7,27 +7,19 @@ use Rattle.text_field.specs.Number.{numeralOf, numberText}
 use Rattle.text_field.specs.declared.Numeral.{Numeral}
 use Rattle.text_field.specs.declared.Numeral.the-variants.{Is as Number, Wrong as NoNumber}
 use Rattle.step.specs.declared.Reason.{Reason}
-use Rattle.step.specs.declared.Reason.the-variants.{OwnUnit, NeighbourOf, ZeroInjection}
+use Rattle.step.specs.declared.NamedBus.{NamedBus}
+use Rattle.step.specs.declared.NamedBus.the-variants.{Nothing, Bus}
+use Rattle.step.specs.declared.Given.{Given}
+use Rattle.step.specs.declared.Given.the-variants.{Is as By, Wrong as NoReason}
 use Rattle.step.specs.declared.Step as step
+use Rattle.step.specs.Reasons.{letterOf, namedBy, reasonOf}
 use Rattle.case_line.specs.Fields.{ifNoField, oneNumber}
-use Rattle.step_line.specs.declared.Given.{Given}
-use Rattle.step_line.specs.declared.Given.the-variants.{Is as By, Wrong as NoReason}
-use Rattle.step_line.specs.declared.Letter.{Letter}
-use Rattle.step_line.specs.declared.Letter.the-variants.{Own, Neighbour, Zero, Other}
 use Rattle.step_line.specs.declared.StepWord.{StepWord}
 use Rattle.step_line.specs.declared.StepWord.the-variants.{Step as TheStep, End as EndWord, Other as OtherWord}
 use Rattle.step_line.specs.declared.StepLine.{StepLine}
 use Rattle.step_line.specs.declared.StepLine.the-variants.{Step, End, Wrong}
 
--- ---- words and letters
-
--- the letter of a reason that a field is
-unfoldable pub letterOf : List ℕ → Letter
-letterOf f =
-    cond (same f (bytes "O")) Own
-    (cond (same f (bytes "N")) Neighbour
-    (cond (same f (bytes "Z")) Zero
-    Other))
+-- ---- words
 
 -- the word that a field is
 unfoldable pub stepWordOf : List ℕ → StepWord
@@ -38,31 +30,26 @@ stepWordOf f =
 
 -- ---- the fields of each line
 
--- N p
-abbrev pub neighbourOf : Numeral → Given
-neighbourOf (Number p) = By (NeighbourOf p)
-neighbourOf NoNumber = NoReason
+-- the reason with the letter l that names the bus of this number
+abbrev pub numberedReason : ℕ → Numeral → Given
+numberedReason l (Number b) = reasonOf l (Bus b)
+numberedReason l NoNumber = NoReason
 
--- Z w
-abbrev pub zeroOf : Numeral → Given
-zeroOf (Number w) = By (ZeroInjection w)
-zeroOf NoNumber = NoReason
+-- the reason with the letter l: no field follows it, or the number of the bus that it names
+unfoldable pub letteredFields : ℕ → List (List ℕ) → Given
+letteredFields l [] = reasonOf l Nothing
+letteredFields l (f ∷ fs) = numberedReason l (oneNumber (f ∷ fs))
 
--- O, which no field follows
-abbrev pub ownFields : List (List ℕ) → Given
-ownFields = ifNoField NoReason (By OwnUnit)
-
--- the reason's letter, and the fields after it
-abbrev pub byLetter : Letter → List (List ℕ) → Given
-byLetter Own fs = ownFields fs
-byLetter Neighbour fs = neighbourOf (oneNumber fs)
-byLetter Zero fs = zeroOf (oneNumber fs)
-byLetter Other fs = NoReason
+-- the letter, which is one byte, and the fields after it
+abbrev pub byLetter : List ℕ → List (List ℕ) → Given
+byLetter [] fs = NoReason
+byLetter (l ∷ []) fs = letteredFields l fs
+byLetter (l ∷ m ∷ f) fs = NoReason
 
 -- the fields after the bus
 unfoldable pub reasonFields : List (List ℕ) → Given
 reasonFields [] = NoReason
-reasonFields (f ∷ fs) = byLetter (letterOf f) fs
+reasonFields (f ∷ fs) = byLetter f fs
 
 -- a bus and its reason
 abbrev pub stepOf : Numeral → Given → StepLine
@@ -91,11 +78,14 @@ stepLineOf l = byStepWord (stepWordOf (split tab l .first)) (split tab l .rest)
 
 -- ---- a step's text
 
+-- the number of the bus that is named, if one is
+abbrev pub namedTexts : NamedBus → List (List ℕ)
+namedTexts Nothing = []
+namedTexts (Bus b) = numberText b ∷ []
+
 -- the fields of a reason
 abbrev pub reasonTexts : Reason → List (List ℕ)
-reasonTexts OwnUnit = bytes "O" ∷ []
-reasonTexts (NeighbourOf p) = bytes "N" ∷ numberText p ∷ []
-reasonTexts (ZeroInjection w) = bytes "Z" ∷ numberText w ∷ []
+reasonTexts r = (letterOf r ∷ []) ∷ namedTexts (namedBy r)
 
 -- the line that a step is
 unfoldable pub stepText : step.Step → List ℕ

@@ -1,12 +1,13 @@
 // One line of a step text, read as a step.
 ghost use mathlib.Core.Path.{_≡_};
 ghost use Rattle.text_field.specs.Split.{after};
-ghost use Rattle.step_line.specs.StepLine.{letterOf, stepWordOf, neighbourOf, zeroOf, stepOf};
-ghost use Rattle.step_line.specs.StepLine.{ownFields, reasonFields, stepFields, endFields, stepLineOf};
+ghost use Rattle.step_line.specs.StepLine.{stepWordOf, numberedReason, letteredFields, reasonFields};
+ghost use Rattle.step_line.specs.StepLine.{stepOf, stepFields, endFields, stepLineOf};
 
 pub mod put;
 
-use step::Reason;
+use step::Given;
+use step::NamedBus;
 use step::Step;
 use text_field::Numeral;
 
@@ -17,40 +18,11 @@ pub enum StepLine {
     Wrong,
 }
 
-// The reason that a line's fields give.
-pub enum Given {
-    Is(Reason),
-    Wrong,
-}
-
-// The letter of a reason.
-pub enum Letter {
-    Own,
-    Neighbour,
-    Zero,
-    Other,
-}
-
 // The first field of a line.
 pub enum StepWord {
     Step,
     End,
     Other,
-}
-
-fn letter_of(f: &[u8]) -> Letter
-    ensures { λ r. ⌜ r ≡ letterOf (now (f .entry)) ⌝ }
-{
-    if text_field::is_same(f, b"O") {
-        return Letter::Own;
-    }
-    if text_field::is_same(f, b"N") {
-        return Letter::Neighbour;
-    }
-    if text_field::is_same(f, b"Z") {
-        return Letter::Zero;
-    }
-    Letter::Other
 }
 
 fn step_word_of(f: &[u8]) -> StepWord
@@ -65,20 +37,12 @@ fn step_word_of(f: &[u8]) -> StepWord
     StepWord::Other
 }
 
-fn neighbour_of(p: Numeral) -> Given
-    ensures { λ r. ⌜ r ≡ neighbourOf p ⌝ }
+// The reason with the letter l that names the bus of this number.
+fn numbered(l: u8, b: Numeral) -> Given
+    ensures { λ r. ⌜ r ≡ numberedReason l b ⌝ }
 {
-    match p {
-        Numeral::Is(v) => Given::Is(Reason::NeighbourOf(v)),
-        Numeral::Wrong => Given::Wrong,
-    }
-}
-
-fn zero_of(w: Numeral) -> Given
-    ensures { λ r. ⌜ r ≡ zeroOf w ⌝ }
-{
-    match w {
-        Numeral::Is(v) => Given::Is(Reason::ZeroInjection(v)),
+    match b {
+        Numeral::Is(v) => step::reason_of(l, NamedBus::Bus(v)),
         Numeral::Wrong => Given::Wrong,
     }
 }
@@ -95,17 +59,17 @@ fn step_of(bus: Numeral, given: Given) -> StepLine
     }
 }
 
-// What follows the reason's letter, which ends at `at`, where it is O.
-fn own_fields(line: &[u8], at: usize) -> Given
-    ensures { λ r. ⌜ r ≡ ownFields (after 9 (now (line .entry)) at) ⌝ }
+// The reason with the letter l, which ends at `at`: no field follows it, or the number of the bus that it names.
+fn lettered_fields(line: &[u8], at: usize, l: u8) -> Given
+    ensures { λ r. ⌜ r ≡ letteredFields l (after 9 (now (line .entry)) at) ⌝ }
 {
-    if at < line.len() {
-        return Given::Wrong;
+    if line.len() <= at {
+        return step::reason_of(l, NamedBus::Nothing);
     }
-    Given::Is(Reason::OwnUnit)
+    numbered(l, case_line::one_number(line, at))
 }
 
-// The reason in the fields that follow the one that ends at `at`.
+// The reason in the fields that follow the one that ends at `at`: a letter of one byte comes first.
 fn reason_fields(line: &[u8], at: usize) -> Given
     ensures { λ r. ⌜ r ≡ reasonFields (after 9 (now (line .entry)) at) ⌝ }
 {
@@ -114,12 +78,10 @@ fn reason_fields(line: &[u8], at: usize) -> Given
     }
     let a = at + 1;
     let e = text_field::piece_end(line, a, b'\t');
-    match letter_of(&line[a..e]) {
-        Letter::Own => own_fields(line, e),
-        Letter::Neighbour => neighbour_of(case_line::one_number(line, e)),
-        Letter::Zero => zero_of(case_line::one_number(line, e)),
-        Letter::Other => Given::Wrong,
+    if e != a + 1 {
+        return Given::Wrong;
     }
+    lettered_fields(line, e, line[a])
 }
 
 fn step_fields(line: &[u8], at: usize) -> StepLine

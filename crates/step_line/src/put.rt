@@ -6,7 +6,7 @@ ghost use Rattle.rules.specs.Steps.{Names};
 ghost use Rattle.text_field.specs.Split.{lineFeed};
 ghost use Rattle.step_line.specs.StepLine.{stepText};
 ghost use Rattle.text_put.specs.Put.{Put};
-use step::Reason;
+use step::NamedBus;
 use step::Step;
 
 // A step and its line feed.
@@ -16,12 +16,12 @@ pub fn put_step(out: &mut [u8], at: usize, x: Step) -> usize
 {
     let b = x.bus;
     let reason = x.reason;
-    match reason {
-        Reason::OwnUnit => {
+    let l = step::letter(reason);
+    match step::named(reason) {
+        NamedBus::Nothing => {
             let a = text_put::put_tagged(out, at, b"step\t", b);
-            text_put::put_all(out, a, b"\tO\n")
+            text_put::put_all(out, a, &[b'\t', l, b'\n'])
         }
-        Reason::NeighbourOf(p) => text_put::put_pair(out, at, b"step\t", b, b"\tN\t", p),
-        Reason::ZeroInjection(w) => text_put::put_pair(out, at, b"step\t", b, b"\tZ\t", w),
+        NamedBus::Bus(p) => text_put::put_pair(out, at, b"step\t", b, &[b'\t', l, b'\t'], p),
     }
 }

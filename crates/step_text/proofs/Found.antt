@@ -10,10 +10,11 @@ use lib.ListN.{length}
 use Rattle.basics.specs.Lists.{Each}
 use Rattle.text_field.specs.Split.{split}
 use Rattle.text_field.proofs.Tested.{both}
-use Rattle.step.specs.declared.Reason.{Reason}
-use Rattle.step.specs.declared.Reason.the-variants.{OwnUnit, NeighbourOf, ZeroInjection}
+use Rattle.step.specs.declared.NamedBus.{NamedBus}
+use Rattle.step.specs.declared.NamedBus.the-variants.{Nothing, Bus}
 use Rattle.step.specs.declared.Step.{Step}
-use Rattle.rules.specs.Steps.{Names, ReasonNames}
+use Rattle.step.specs.Reasons.{namedBy}
+use Rattle.rules.specs.Steps.{BusIfNamed, Names}
 use Rattle.step_line.specs.StepLine.{stepLineOf}
 use Rattle.step_line.specs.declared.StepLine.{StepLine}
 use Rattle.step_line.specs.declared.StepLine.the-variants.{Step as StepOf, End, Wrong}
@@ -22,21 +23,20 @@ use Rattle.refusals.specs.declared.Refusal.{Refusal}
 use Rattle.refusals.specs.declared.Refusal.the-variants.{TextTooLong, OutOfRange, TooManySteps}
 use Rattle.case_judge.specs.Judging.{isBus}
 use Rattle.case_judge.proofs.Judged.{inside, not-one}
-use Rattle.step_text.specs.Steps.{reasonInRange, stepInRange, ended, lineSaid, stepLines}
+use Rattle.step_text.specs.Steps.{namedInRange, reasonInRange, stepInRange, ended, lineSaid, stepLines}
 use Rattle.step_text.specs.Steps.{readSteps, andSteps, stepsIn, stepsFrom, stepsOf}
 use Rattle.step_text.specs.declared.StepsRead.{StepsRead}
 use Rattle.step_text.specs.declared.StepsRead.the-variants.{Steps, Refused}
 
-reason-names : (r : Reason) → reasonInRange r ≡ true → ReasonNames mostBuses r
-reason-names OwnUnit e = tt
-reason-names (NeighbourOf p) e = inside mostBuses p e
-reason-names (ZeroInjection w) e = inside mostBuses w e
+named-bus : (y : NamedBus) → namedInRange y ≡ true → BusIfNamed mostBuses y
+named-bus Nothing e = tt
+named-bus (Bus b) e = inside mostBuses b e
 
 names : (x : Step) → stepInRange x ≡ true → Names mostBuses x
 unfolding stepInRange
 names x e =
     let p = both (isBus mostBuses (x .bus)) (reasonInRange (x .reason)) e in
-    record { bus = inside mostBuses (x .bus) (p .0); reason = reason-names (x .reason) (p .1) }
+    record { bus = inside mostBuses (x .bus) (p .0); reason = named-bus (namedBy (x .reason)) (p .1) }
 
 -- n steps are found from line k on
 pub record StepsFound (k n : ℕ) (xs : List Step) : Type 0 where

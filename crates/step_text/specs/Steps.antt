@@ -7,8 +7,10 @@ use lib.Dec.{ltb}
 use lib.ListN.{length, drop}
 use Rattle.text_field.specs.Split.{split, lineFeed}
 use Rattle.step.specs.declared.Reason.{Reason}
-use Rattle.step.specs.declared.Reason.the-variants.{OwnUnit, NeighbourOf, ZeroInjection}
+use Rattle.step.specs.declared.NamedBus.{NamedBus}
+use Rattle.step.specs.declared.NamedBus.the-variants.{Nothing, Bus}
 use Rattle.step.specs.declared.Step.{Step}
+use Rattle.step.specs.Reasons.{namedBy}
 use Rattle.step_line.specs.StepLine.{stepLineOf}
 use Rattle.step_line.specs.declared.StepLine.{StepLine}
 use Rattle.step_line.specs.declared.StepLine.the-variants.{Step as StepOf, End, Wrong}
@@ -20,11 +22,14 @@ use Rattle.step_text.specs.declared.StepsRead.the-variants.{Steps, Refus
 
 -- ---- one line
 
--- a reason's number, if it has one, is 1 to 64; if not, refusal 3
+-- the bus that is named, if one is, is 1 to 64; if not, refusal 3
+abbrev pub namedInRange : NamedBus → Bool
+namedInRange Nothing = true
+namedInRange (Bus b) = isBus mostBuses b
+
+-- the bus that a reason names, if it names one, is 1 to 64; if not, refusal 3
 abbrev pub reasonInRange : Reason → Bool
-reasonInRange OwnUnit = true
-reasonInRange (NeighbourOf p) = isBus mostBuses p
-reasonInRange (ZeroInjection w) = isBus mostBuses w
+reasonInRange r = namedInRange (namedBy r)
 
 -- a step's numbers are 1 to 64; if not, refusal 3
 unfoldable pub stepInRange : Step → Bool

@@ -12,6 +12,7 @@ use grid::limits::MOST_BUSES;
 use grid::limits::MOST_STEP_BYTES;
 use grid::limits::MOST_STEPS;
 use refusals::Refusal;
+use step::NamedBus;
 use step::Reason;
 use step::Step;
 use step_line::StepLine;
@@ -26,10 +27,9 @@ pub enum StepsRead {
 fn reason_in_range(r: Reason) -> bool
     ensures { λ t. ⌜ t ≡ reasonInRange r ⌝ }
 {
-    match r {
-        Reason::OwnUnit => true,
-        Reason::NeighbourOf(p) => is_bus(MOST_BUSES, p),
-        Reason::ZeroInjection(w) => is_bus(MOST_BUSES, w),
+    match step::named(r) {
+        NamedBus::Nothing => true,
+        NamedBus::Bus(b) => is_bus(MOST_BUSES, b),
     }
 }
 

@@ -1,16 +1,23 @@
--- By the reason: the letter and the bus that it names are put as the fields of `stepText`. `Names` bounds both numbers.
-use mathlib.Core.Path.{subst}
+-- By what the reason names: its letter and that bus are put as the fields of `stepText`. `Names` bounds both numbers.
+use mathlib.Core.Path.{_∙_, sym, subst}
 use mathlib.Core.List.{append-assoc}
 use native.Mathlib.Omega.{arith}
 use Rattle.busset.specs.Sets.{width}
-use Rattle.rules.specs.Steps.{ReasonNames}
+use Rattle.step.specs.declared.NamedBus.the-variants.{Nothing, Bus}
+use Rattle.rules.specs.Steps.{BusIfNamed}
 use Rattle.text_field.specs.Split.{join}
-use Rattle.step_line.specs.StepLine.{stepText}
 use Rattle.text_field.proofs.Digits.{text-length}
-use Rattle.text_put.proofs.Putting.{put-then}
+use Rattle.text_put.proofs.Putting.{put-then, put-same}
+use Rattle.step_line.proofs.StepLines.{step-text}
 use borrow.Author.Needs.{needs}
 use Rattle.step_line.proofs.put.put_step.Statement.{statement}
 use Rattle.step_line.proofs.put.put_step.Tie as tie
+
+letter-requires : tie.Need-letter-requires
+letter-requires c κs = search needs
+
+named-requires : tie.Need-named-requires
+named-requires c κs = search needs
 
 enum-told : tie.Need-enum-told
 enum-told c = search needs
@@ -27,11 +34,11 @@ slice-aggregate-put-all c = search needs
 put-all-requires : tie.Need-put-all-requires
 put-all-requires c κs =
     let at-put-tagged = c .before .before .before .before in
-    let at-args = at-put-tagged .before .before .before .before .before .before in
+    let at-args = at-put-tagged .before .before .before .before .before .before .before .before in
     omega (arith, at-put-tagged .put-tagged .ensures .next, text-length (at-args .args .x .bus))
 
-enum-known-reason : tie.Need-enum-known-reason
-enum-known-reason c = search needs
+enum-known-p : tie.Need-enum-known-p
+enum-known-p c = search needs
 
 slice-aggregate-put-pair : tie.Need-slice-aggregate-put-pair
 slice-aggregate-put-pair c = search needs
@@ -41,78 +48,53 @@ slice-aggregate-put-pair-2 c = search needs
 
 put-pair-requires : tie.Need-put-pair-requires
 put-pair-requires c κs =
-    let at-reason = c .before .before .before .before in
-    let at-args = at-reason .before .before .before in
-    let named = subst (ReasonNames width) (at-reason .reason .given .1) (at-args .pre .1 .reason) in
-    omega (arith, at-args .pre .0, at-args .pre .1 .bus .most, named .most)
-
-enum-known-reason-2 : tie.Need-enum-known-reason-2
-enum-known-reason-2 c = search needs
-
-slice-aggregate-put-pair-3 : tie.Need-slice-aggregate-put-pair-3
-slice-aggregate-put-pair-3 c = search needs
-
-slice-aggregate-put-pair-4 : tie.Need-slice-aggregate-put-pair-4
-slice-aggregate-put-pair-4 c = search needs
-
-put-pair-requires-2 : tie.Need-put-pair-requires-2
-put-pair-requires-2 c κs =
-    let at-reason2 = c .before .before .before .before in
-    let at-args = at-reason2 .before .before .before in
-    let named = subst (ReasonNames width) (at-reason2 .reason2 .given .1) (at-args .pre .1 .reason) in
+    let at-p = c .before .before .before .before in
+    let at-named = at-p .before .before in
+    let at-args = at-named .before .before .before in
+    let named = subst (BusIfNamed width) (sym (at-named .named .ensures) ∙ at-p .p .given .1) (at-args .pre .1 .reason) in
     omega (arith, at-args .pre .0, at-args .pre .1 .bus .most, named .most)
 
 same-length : tie.Need-same-length
 same-length c = search needs
 
 returns : tie.Need-returns
-unfolding stepText join
+unfolding join
 returns c =
     let at-put-all = c .before .before in
     let at-put-tagged = at-put-all .before .before .before .before .before in
-    let at-enum-told = at-put-tagged .before .before .before in
-    rw (at-enum-told .enum-told .given .1, append-assoc) (put-then (at-put-tagged .put-tagged .ensures) (at-put-all .put-all .ensures))
+    let at-none = at-put-tagged .before .before .before in
+    let at-named = at-none .before .before in
+    put-same (step-text _ Nothing (at-named .before .letter .ensures) (at-named .named .ensures) (at-none .enum-told .given .1))
+    (simp append-assoc (put-then (at-put-tagged .put-tagged .ensures) (at-put-all .put-all .ensures)))
 
 same-length-2 : tie.Need-same-length-2
 same-length-2 c = search needs
 
 returns-2 : tie.Need-returns-2
-unfolding stepText join
+unfolding join
 returns-2 c =
     let at-put-pair = c .before .before in
-    let at-reason = at-put-pair .before .before .before .before .before in
-    rw (at-reason .reason .given .1) (at-put-pair .put-pair .ensures)
-
-same-length-3 : tie.Need-same-length-3
-same-length-3 c = search needs
-
-returns-3 : tie.Need-returns-3
-unfolding stepText join
-returns-3 c =
-    let at-put-pair2 = c .before .before in
-    let at-reason2 = at-put-pair2 .before .before .before .before .before in
-    rw (at-reason2 .reason2 .given .1) (at-put-pair2 .put-pair2 .ensures)
+    let at-p = at-put-pair .before .before .before .before .before in
+    let at-named = at-p .before .before in
+    put-same (step-text _ (Bus _) (at-named .before .letter .ensures) (at-named .named .ensures) (at-p .p .given .1))
+    (at-put-pair .put-pair .ensures)
 
 pub put-step-spec : {M : Type 1} → statement M
 put-step-spec =
     tie.close
     (tie.spec
+    letter-requires
+    named-requires
     enum-told
     slice-aggregate-put-tagged
     put-tagged-requires
     slice-aggregate-put-all
     put-all-requires
-    enum-known-reason
+    enum-known-p
     slice-aggregate-put-pair
     slice-aggregate-put-pair-2
     put-pair-requires
-    enum-known-reason-2
-    slice-aggregate-put-pair-3
-    slice-aggregate-put-pair-4
-    put-pair-requires-2
     same-length
     returns
     same-length-2
-    returns-2
-    same-length-3
-    returns-3)
+    returns-2)
