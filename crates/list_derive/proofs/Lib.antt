@@ -1,3 +1,4 @@
 pub mod Nexting
 pub mod Extending
+pub mod Siteless
 pub mod Promised

@@ -1,11 +1,18 @@
 // The derivation.
-ghost use Rattle.grid.specs.Cases.{gridOf, Valid};
+ghost use Prim.Native.Nat.{_≤_};
+ghost use Rattle.busset.specs.Sets.{Within, setOf};
+ghost use Rattle.busset.specs.Held.{SetWord};
+ghost use Rattle.grid.specs.Limits.{mostBuses};
+ghost use Rattle.grid.specs.Rows.{neighbours};
+ghost use Rattle.grid.specs.Cases.{gridWith, Lines};
 ghost use Rattle.list_derive.specs.Deriving.{Derives};
 ghost use Rattle.list_derive.specs.Replies.{DerivationReply};
 
 pub mod searching;
 
+use busset::BusSet;
 use grid::Case;
+use grid::Rows;
 use list_value::StepList;
 use list_value::no_steps;
 use list_value::push;
@@ -24,15 +31,15 @@ pub struct Derived {
     pub list: StepList,
 }
 
-// The next step, again and again, until no step is allowed.
-pub fn derive(case: Case) -> StepList
-    requires { ⌜ Valid case ⌝ }
-    ensures { λ r. ⌜ Derives (gridOf case) r ⌝ }
+// The next step, again and again, until no step is allowed. The sites are whatever they are.
+pub fn derive(n: usize, nbr: &Rows, zero: BusSet, units: BusSet) -> StepList
+    requires { ⌜ (n ≤ mostBuses) × Lines n (neighbours (now nbr)) × Within n (setOf zero) × Within n (setOf units) ⌝ }
+    ensures { λ r. ⌜ ((sites : SetWord) → Derives (gridWith n (now (nbr .entry)) zero sites units) r) ⌝ }
 {
     let mut s = busset::none();
     let mut list = no_steps();
     loop {
-        let Next::Take(x) = next_step(case, s) else {
+        let Next::Take(x) = next_step(n, nbr, zero, units, s) else {
             return list;
         };
         list = push(list, x);
@@ -51,7 +58,7 @@ pub fn derivation(case: Case) -> Derived
             list: none,
         };
     }
-    let list = derive(case);
+    let list = derive(case.n, &case.nbr, case.zero, case.units);
     Derived {
         answer: DerivationAnswer::Found,
         list,

@@ -1,9 +1,13 @@
 // The next step of the derivation: a nested search over buses and their reasons, left at the first allowed step.
-ghost use Rattle.busset.specs.Sets.{setOf};
-ghost use Rattle.grid.specs.Cases.{gridOf, Valid};
+ghost use Prim.Native.Nat.{_≤_};
+ghost use Rattle.busset.specs.Sets.{Within, setOf};
+ghost use Rattle.busset.specs.Held.{SetWord};
+ghost use Rattle.grid.specs.Limits.{mostBuses};
+ghost use Rattle.grid.specs.Rows.{neighbours};
+ghost use Rattle.grid.specs.Cases.{gridWith, Lines};
 ghost use Rattle.list_derive.specs.Searching.{NextAnswer};
 use busset::BusSet;
-use grid::Case;
+use grid::Rows;
 use observe::test::by_unit;
 use observe::test::by_zero;
 use step::Reason;
@@ -15,16 +19,17 @@ pub enum Next {
 }
 
 // The next step where s is observed: for the lowest bus that any rule reaches, O before N before Z, lowest p, lowest w.
-pub fn next_step(case: Case, s: BusSet) -> Next
-    requires { ⌜ Valid case ⌝ }
-    ensures { λ r. ⌜ NextAnswer (gridOf case) (setOf s) r ⌝ }
+// The sites are whatever they are: no reason reads them.
+pub fn next_step(n: usize, nbr: &Rows, zero: BusSet, units: BusSet, s: BusSet) -> Next
+    requires { ⌜ (n ≤ mostBuses) × Lines n (neighbours (now nbr)) × Within n (setOf zero) × Within n (setOf units) ⌝ }
+    ensures { λ r. ⌜ ((sites : SetWord)
+        → NextAnswer (gridWith n (now (nbr .entry)) zero sites units) (setOf s) r) ⌝ }
 {
-    let end = case.n + 1;
-    let nbr = case.nbr;
+    let end = n + 1;
     let mut found = Next::Nothing;
     'search: for b in 1..end {
         if !busset::has(s, b) {
-            if busset::has(case.units, b) {
+            if busset::has(units, b) {
                 found = Next::Take(Step {
                     bus: b,
                     reason: Reason::OwnUnit,
@@ -32,7 +37,7 @@ pub fn next_step(case: Case, s: BusSet) -> Next
                 break 'search;
             }
             for p in 1..end {
-                if by_unit(&nbr, case.units, b, p) {
+                if by_unit(nbr, units, b, p) {
                     found = Next::Take(Step {
                         bus: b,
                         reason: Reason::NeighbourOf(p),
@@ -41,7 +46,7 @@ pub fn next_step(case: Case, s: BusSet) -> Next
                 }
             }
             for w in 1..end {
-                if by_zero(&nbr, case.zero, s, b, w) {
+                if by_zero(nbr, zero, s, b, w) {
                     found = Next::Take(Step {
                         bus: b,
                         reason: Reason::ZeroInjection(w),

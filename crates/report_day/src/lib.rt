@@ -37,9 +37,8 @@ fn report(case: Case, out: &mut [u8]) -> Written
     ensures { λ r. ⌜ PrintedReply (DayReport case) (now (out .entry)) (now (out .exit)) r ⌝ }
 {
     let n = case.n;
-    let nbr = case.nbr;
-    let list = list_derive::derive(case);
-    let alone = place_confirm::unconfirmed(n, &nbr, case.units);
+    let list = list_derive::derive(n, &case.nbr, case.zero, case.units);
+    let alone = place_confirm::unconfirmed(n, &case.nbr, case.units);
     print_day(out, n, list, busset::count(alone))
 }
 

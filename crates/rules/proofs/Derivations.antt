@@ -15,7 +15,7 @@ use Rattle.step.specs.Reasons.{namedBy}
 use Rattle.step.proofs.Reasons.{reason-unique, same-letter}
 use Rattle.rules.specs.Grids.{Grid}
 use Rattle.rules.specs.Observation.{ObservedSet}
-use Rattle.rules.specs.Steps.{reachedFrom, AcceptedFrom, reached, Finished}
+use Rattle.rules.specs.Steps.{Holds, Allowed, reachedFrom, AcceptedFrom, reached, Finished}
 use Rattle.rules.specs.Derivation.{NamesAtMost, TakenFirst, NextIs, DerivedFrom, finished, next, Derivation}
 use Rattle.rules.proofs.Lists.{finished-least, accepted-length}
 
@@ -64,3 +64,27 @@ derivation-least g xs d = let r = derived-accepted d in finished-least g xs (r .
 
 pub derivation-length : (g : Grid) (xs : List Step) → Derivation g xs → length xs ≡ size (reached xs)
 derivation-length g xs d = accepted-length g xs (derived-accepted d .0)
+
+-- ---- two grids in which the same reasons hold
+
+module _ (g h : Grid) (to : (s b : ℕ) (r : Reason) → Holds g s b r → Holds h s b r) (from : (s b : ℕ) (r : Reason) → Holds h s b r → Holds g s b r)
+  where
+    allowed-to : {s : ℕ} {x : Step} → Allowed g s x → Allowed h s x
+    allowed-to {s} {x} a = record { new = a .new; holds = to s (x .bus) (x .reason) (a .holds) }
+
+    allowed-from : {s : ℕ} {x : Step} → Allowed h s x → Allowed g s x
+    allowed-from {s} {x} a = record { new = a .new; holds = from s (x .bus) (x .reason) (a .holds) }
+
+    pub finished-to : {s : ℕ} → Finished g s → Finished h s
+    finished-to f x a = f x (allowed-from a)
+
+    pub next-to : {s : ℕ} {x : Step} → NextIs g s x → NextIs h s x
+    next-to n = record {
+      allowed = allowed-to (n .allowed);
+      lowest = λ y a. n .lowest y (allowed-from a);
+      first = λ y a e. n .first y (allowed-from a) e;
+    }
+
+    pub derived-to : {s : ℕ} {xs : List Step} → DerivedFrom g s xs → DerivedFrom h s xs
+    derived-to (finished f) = finished (finished-to f)
+    derived-to (next n d) = next (next-to n) (derived-to d)

@@ -10,7 +10,7 @@ use Rattle.step.specs.declared.NamedBus.{NamedBus}
 use Rattle.step.specs.declared.NamedBus.the-variants.{Nothing, Bus as BusNamed}
 use Rattle.step.specs.declared.Step.{Step}
 use Rattle.step.specs.Reasons.{namedBy}
-use Rattle.rules.specs.Grids.{Grid, Proper}
+use Rattle.rules.specs.Grids.{Grid, withSitesAndUnits, Proper}
 use Rattle.rules.specs.Observation.{Closed}
 use Rattle.rules.specs.Steps.{Holds, Allowed, BusIfNamed, ReasonNames, Names}
 
@@ -28,6 +28,12 @@ holds-more g s t b sub (ZeroInjection w) h = record {
   joined = h .joined;
   others = λ a m ne. omega (arith, sub a, h .others a m ne);
 }
+
+-- no reason reads the sites
+pub holds-sites : (g : Grid) (sites s b : ℕ) (r : Reason) → Holds g s b r → Holds (withSitesAndUnits g sites (g .units)) s b r
+holds-sites g sites s b OwnUnit h = h
+holds-sites g sites s b (NeighbourOf p) h = h
+holds-sites g sites s b (ZeroInjection w) h = h
 
 pub closed-reasoned : (g : Grid) (s : ℕ) → Closed g s → HasReasoned g s
 closed-reasoned g s cl b OwnUnit h = cl .direct .own b h

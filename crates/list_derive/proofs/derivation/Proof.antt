@@ -8,7 +8,8 @@ use borrow.Author.Needs.{needs}
 use Rattle.list_derive.proofs.derivation.Statement.{statement}
 use Rattle.list_derive.proofs.derivation.Tie as tie
 
-valid : (c : tie.Else1) → Valid (c .before .before .args .case)
+-- `t1` is the case
+valid : (c : tie.Else1) → Valid (c .before .before .args .t1)
 valid c = c .before .is-valid .ensures .yes (not-false _ (c .if1 .left))
 
 is-valid-requires : tie.Need-is-valid-requires
@@ -21,10 +22,12 @@ returns : tie.Need-returns
 returns c = (inl (refutes (c .before .before .is-valid .ensures) (not-true _ (c .before .if1 .taken)), itself _), c .no-steps .ensures)
 
 derive-requires : tie.Need-derive-requires
-derive-requires c κs = valid c
+derive-requires c κs =
+    let v = valid (c .before .before) in
+    (v .buses .most, v .proper .lines, v .proper .zeros, v .proper .units)
 
 returns-2 : tie.Need-returns-2
-returns-2 c = ((valid (c .before), tt), c .derive .ensures)
+returns-2 c = ((valid (c .before .before .before), tt), c .derive .ensures _)
 
 pub derivation-spec : {M : Type 1} → statement M
 derivation-spec = tie.close (tie.spec is-valid-requires no-steps-requires returns derive-requires returns-2)

@@ -8,39 +8,49 @@ use Rattle.grid.specs.Limits.{mostBuses}
 use Rattle.busset.specs.Sets.{Bus, size, setOf}
 use Rattle.busset.proofs.Members.{bus-more, with-add}
 use Rattle.busset.proofs.Sizes.{size-add}
+use Rattle.busset.specs.Held.{emptyWord}
+use Rattle.rules.specs.Grids.{Grid, Proper}
 use Rattle.rules.specs.Derivation.{NextIs}
 use Rattle.rules.proofs.Reasons.{allowed-bus}
-use Rattle.grid.specs.Cases.{gridOf, Valid}
+use Rattle.grid.specs.Cases.{gridWith}
 use Rattle.list_derive.specs.Searching.{NextAnswer}
 use Rattle.list_derive.proofs.Extending.{Extends, extends-none, extends-few, extends-more, extends-all}
+use Rattle.list_derive.proofs.Siteless.{siteless-proper, derives-sites}
 use borrow.Author.Needs.{needs}
 use Rattle.list_derive.proofs.derive.Statement.{statement}
 use Rattle.list_derive.proofs.derive.Tie as tie
 
 abbrev Inv-loop : tie.InvT-loop
-Inv-loop case s₀ list₀ s list = Extends (gridOf case) (setOf s) list
+Inv-loop n nbr zero units s₀ list₀ s list = Extends (gridWith n nbr zero emptyWord units) (setOf s) list
 
 abbrev μ-loop : tie.MeasureT-loop
-μ-loop case s₀ list₀ s list = mostBuses - size (setOf s)
+μ-loop n nbr zero units s₀ list₀ s list = mostBuses - size (setOf s)
 
 -- the step that is taken
 abbrev Place : Type 0
 Place = tie.After-x Inv-loop μ-loop
 
-abbrev start : Place → tie.Start Inv-loop μ-loop
+abbrev Begun : Type 0
+Begun = tie.Start Inv-loop μ-loop
+
+abbrev start : Place → Begun
 start c = c .before .before .before .before .before .before
 
-valid : (c : Place) → Valid (start c .args .case)
-valid c = start c .pre
+-- the grid with no site
+abbrev asked : Begun → Grid
+asked c = gridWith (c .args .n) (c .args .nbr .now) (c .args .zero) emptyWord (c .args .units)
 
-stepped : (c : Place) → NextIs (gridOf (start c .args .case)) (setOf (c .before .before .before .loop .s)) (c .x .given .0 .0)
-stepped c = subst (NextAnswer _ _) (c .x .given .1) (c .before .before .next-step .ensures)
+proper : (c : Begun) → Proper (asked c)
+proper c = siteless-proper _ _ _ _ (c .pre .1) (c .pre .2) (c .pre .3)
+
+stepped : (c : Place) → NextIs (asked (start c)) (setOf (c .before .before .before .loop .s)) (c .x .given .0 .0)
+stepped c = subst (NextAnswer _ _) (c .x .given .1) (c .before .before .next-step .ensures emptyWord)
 
 few : (c : Place) → size (setOf (c .before .before .before .loop .s)) < mostBuses
-few c = extends-few (valid c .proper) (valid c .buses .most) (stepped c) (c .before .before .before .loop .inv)
+few c = extends-few (proper (start c)) (start c .pre .0) (stepped c) (c .before .before .before .loop .inv)
 
-bus : (c : Place) → Bus (start c .args .case .n) (c .x .given .0 .0 .bus)
-bus c = allowed-bus (valid c .proper) (stepped c .allowed)
+bus : (c : Place) → Bus (start c .args .n) (c .x .given .0 .0 .bus)
+bus c = allowed-bus (proper (start c)) (stepped c .allowed)
 
 none-requires : tie.Need-none-requires Inv-loop μ-loop
 none-requires c κs = search needs
@@ -61,9 +71,10 @@ enum-told : tie.Need-enum-told Inv-loop μ-loop
 enum-told c = search needs
 
 returns : tie.Need-returns Inv-loop μ-loop
-returns c =
-    extends-all (c .before .before .before .loop .inv)
-    (subst (NextAnswer _ _) (c .enum-told .given .1) (c .before .before .next-step .ensures))
+returns c sites =
+    derives-sites _ _ _ _ sites
+    (extends-all (c .before .before .before .loop .inv)
+    (subst (NextAnswer _ _) (c .enum-told .given .1) (c .before .before .next-step .ensures emptyWord)))
 
 push-requires : tie.Need-push-requires Inv-loop μ-loop
 push-requires c κs =
@@ -72,7 +83,7 @@ push-requires c κs =
     omega (arith, ap (λ l. l .n) (inv .is), inv .count, few x)
 
 with-requires : tie.Need-with-requires Inv-loop μ-loop
-with-requires c κs = bus-more (bus (c .before .before)) (valid (c .before .before) .buses .most)
+with-requires c κs = bus-more (bus (c .before .before)) (start (c .before .before) .pre .0)
 
 loop-less : tie.Need-loop-less Inv-loop μ-loop
 loop-less c =
@@ -82,7 +93,7 @@ loop-less c =
 loop-again : tie.Need-loop-again Inv-loop μ-loop
 loop-again c =
     let x = c .before .before .before in
-    extends-more (valid x .proper) (valid x .buses .most) (stepped x) (x .before .before .before .loop .inv)
+    extends-more (proper (start x)) (start x .pre .0) (stepped x) (x .before .before .before .loop .inv)
     (c .before .push .ensures) (c .with .ensures)
 
 pub derive-spec : {M : Type 1} → statement M

@@ -1,59 +1,76 @@
 -- Three invariants: no step is allowed for a bus below b; no unit below p, and no Z bus below w, is a reason for b.
--- So the first step found has the lowest bus and the reason that is taken first. In each loop what is left of 1 to n falls.
-use Prim.Native.Nat.{_+_, _-_, _≤_}
+-- Each part adds that the reasons of its turn fail. So the first step found has the lowest bus and the reason that is taken first.
+-- In each loop what is left of 1 to n falls.
+use Prim.Native.Nat.{suc, _+_, _-_, _≤_}
 use mathlib.Core.Path.{_≡_, refl, _∙_, subst⁻¹}
 use mathlib.Core.Logic.{⊎-elim}
 use native.Mathlib.Omega.{arith}
 use borrow.Author.Tests.{not-true, not-false}
 use Rattle.busset.specs.Sets.{Out, setOf}
+use Rattle.busset.specs.Held.{SetWord, emptyWord}
 use Rattle.basics.proofs.Tests.{refutes}
 use Rattle.busset.proofs.Members.{out-of}
-use Rattle.rules.specs.Grids.{Proper}
-use Rattle.rules.specs.Steps.{ByUnit, ByZero}
-use Rattle.grid.specs.Rows.{neighbours}
-use Rattle.grid.specs.Cases.{gridOf}
 use Rattle.step.specs.declared.Reason.the-variants.{OwnUnit, NeighbourOf, ZeroInjection}
+use Rattle.step.proofs.Reasons.{own-turn, neighbour-turn, zero-turn}
+use Rattle.rules.specs.Grids.{Grid, Proper}
+use Rattle.rules.specs.Steps.{Holds}
+use Rattle.grid.specs.Cases.{gridWith}
 use Rattle.list_derive.specs.Searching.{NextAnswer}
-use Rattle.list_derive.specs.declared.searching.Next.the-variants.{Nothing}
-use Rattle.list_derive.proofs.Nexting.{Lacks, lacks-more, no-unit-zero, no-zero-zero, Clear, clear-none, clear-more}
-use Rattle.list_derive.proofs.Nexting.{none-holds, finished-by, next-by, first-own, first-near, first-zero}
+use Rattle.list_derive.specs.declared.searching.Next.{Next}
+use Rattle.list_derive.specs.declared.searching.Next.the-variants.{Take, Nothing}
+use Rattle.list_derive.proofs.Nexting.{Lacks, lacks-more, names-none, fails-none, fails-alone, fails-named, none-holds}
+use Rattle.list_derive.proofs.Nexting.{Clear, clear-none, clear-more, finished-by, next-by, first-alone, first-named}
+use Rattle.list_derive.proofs.Siteless.{siteless-proper, next-sites}
 use borrow.Author.Needs.{needs}
 use Rattle.list_derive.proofs.searching.next_step.Statement.{statement}
 use Rattle.list_derive.proofs.searching.next_step.Tie as tie
 
 abbrev Inv-loop : tie.InvT-loop
-Inv-loop case s end nbr found₀ b p₀ found p =
-    (1 ≤ p) × (p ≤ case .n + 1) × (found ≡ Nothing) × Lacks (ByUnit (neighbours (case .nbr)) (setOf (case .units)) b) p
+Inv-loop n nbr zero units s end found₀ b p₀ found p =
+    (1 ≤ p) × (p ≤ n + 1) × (found ≡ Nothing) × Lacks (λ a. Holds (gridWith n nbr zero emptyWord units) (setOf s) b (NeighbourOf a)) p
 
 abbrev μ-loop : tie.MeasureT-loop
-μ-loop case s end nbr found₀ b p₀ found p = case .n + 1 - p
+μ-loop n nbr zero units s end found₀ b p₀ found p = n + 1 - p
 
 abbrev Inv-loop2 : tie.InvT-loop2
-Inv-loop2 case s end nbr found₀ b w₀ found w =
-    (1 ≤ w) × (w ≤ case .n + 1) × (found ≡ Nothing) × Lacks (ByZero (neighbours (case .nbr)) (setOf (case .zero)) (setOf s) b) w
+Inv-loop2 n nbr zero units s end found₀ b w₀ found w =
+    (1 ≤ w) × (w ≤ n + 1) × (found ≡ Nothing) × Lacks (λ a. Holds (gridWith n nbr zero emptyWord units) (setOf s) b (ZeroInjection a)) w
 
 abbrev μ-loop2 : tie.MeasureT-loop2
-μ-loop2 case s end nbr found₀ b w₀ found w = case .n + 1 - w
+μ-loop2 n nbr zero units s end found₀ b w₀ found w = n + 1 - w
 
 abbrev Inv-search : tie.InvT-search
-Inv-search case s end nbr found₀ b₀ found b = (1 ≤ b) × (b ≤ case .n + 1) × (found ≡ Nothing) × Clear (gridOf case) (setOf s) b
+Inv-search n nbr zero units s end found₀ b₀ found b =
+    (1 ≤ b) × (b ≤ n + 1) × (found ≡ Nothing) × Clear (gridWith n nbr zero emptyWord units) (setOf s) b
 
 abbrev μ-search : tie.MeasureT-search
-μ-search case s end nbr found₀ b₀ found b = case .n + 1 - b
+μ-search n nbr zero units s end found₀ b₀ found b = n + 1 - b
 
-proper : (c : tie.Start Inv-loop μ-loop Inv-loop2 μ-loop2 Inv-search μ-search) → Proper (gridOf (c .args .case))
-proper c = c .pre .proper
+abbrev Begun : Type 0
+Begun = tie.Start Inv-loop μ-loop Inv-loop2 μ-loop2 Inv-search μ-search
+
+-- the grid that is searched, with no site
+abbrev asked : Begun → Grid
+asked c = gridWith (c .args .n) (c .args .nbr .now) (c .args .zero) emptyWord (c .args .units)
+
+proper : (c : Begun) → Proper (asked c)
+proper c = siteless-proper _ _ _ _ (c .pre .1) (c .pre .2) (c .pre .3)
+
+-- what is answered of it is so with any sites
+answered : (c : Begun) (r : Next) → NextAnswer (asked c) (setOf (c .args .s)) r → (sites : SetWord)
+    → NextAnswer (gridWith (c .args .n) (c .args .nbr .now) (c .args .zero) sites (c .args .units)) (setOf (c .args .s)) r
+answered c r h sites = next-sites (c .args .n) (c .args .nbr .now) (c .args .zero) (c .args .units) sites (setOf (c .args .s)) r h
 
 -- a bus that the search looks at is not in s
 new : (c : tie.Then1 Inv-loop μ-loop Inv-loop2 μ-loop2 Inv-search μ-search)
-    → let at = c .before .before .before in Out (setOf (at .before .before .before .args .s)) (at .search .b)
+    → let at = c .before .before .before in Out (setOf (at .before .args .s)) (at .search .b)
 new c = out-of _ _ (refutes (c .before .has .ensures) (not-true _ (c .if1 .taken)))
 
 add-end : tie.Need-add-end Inv-loop μ-loop Inv-loop2 μ-loop2 Inv-search μ-search
 add-end c = search needs
 
 search-holds : tie.Need-search-holds Inv-loop μ-loop Inv-loop2 μ-loop2 Inv-search μ-search
-search-holds c = (search needs, search needs, refl, clear-none _ (proper (c .before .before)))
+search-holds c = (search needs, search needs, refl, clear-none _ (proper c))
 
 has-requires : tie.Need-has-requires Inv-loop μ-loop Inv-loop2 μ-loop2 Inv-search μ-search
 has-requires c κs = search needs
@@ -64,7 +81,7 @@ has-requires-2 c κs = search needs
 loop-holds : tie.Need-loop-holds Inv-loop μ-loop Inv-loop2 μ-loop2 Inv-search μ-search
 loop-holds c =
     let at = c .before .before .before .before .before in
-    (search needs, search needs, at .search .inv .2, no-unit-zero _ (proper (at .before .before .before)))
+    (search needs, search needs, at .search .inv .2, names-none (setOf (at .before .args .s)) _ neighbour-turn (proper (at .before)))
 
 by-unit-requires : tie.Need-by-unit-requires Inv-loop μ-loop Inv-loop2 μ-loop2 Inv-search μ-search
 by-unit-requires c κs = search needs
@@ -77,13 +94,13 @@ loop-less c = search needs
 
 loop-again : tie.Need-loop-again Inv-loop μ-loop Inv-loop2 μ-loop2 Inv-search μ-search
 loop-again c =
-    let inv = c .before .before .before .before .loop .inv in
+    let inv = c .before .before .before .loop .inv in
     (search needs, search needs, inv .2, lacks-more (inv .3) (refutes (c .before .by-unit .ensures) (c .if3 .left)))
 
 loop2-holds : tie.Need-loop2-holds Inv-loop μ-loop Inv-loop2 μ-loop2 Inv-search μ-search
 loop2-holds c =
     let at = c .before .before .before .before .before .before .before in
-    (search needs, search needs, c .before .loop .inv .2, no-zero-zero _ _ (proper (at .before .before .before)))
+    (search needs, search needs, c .before .loop .inv .2, names-none _ _ zero-turn (proper (at .before)))
 
 by-zero-requires : tie.Need-by-zero-requires Inv-loop μ-loop Inv-loop2 μ-loop2 Inv-search μ-search
 by-zero-requires c κs = search needs
@@ -96,7 +113,7 @@ loop2-less c = search needs
 
 loop2-again : tie.Need-loop2-again Inv-loop μ-loop Inv-loop2 μ-loop2 Inv-search μ-search
 loop2-again c =
-    let inv = c .before .before .before .before .loop2 .inv in
+    let inv = c .before .before .before .loop2 .inv in
     (search needs, search needs, inv .2, lacks-more (inv .3) (refutes (c .before .by-zero .ensures) (c .if4 .left)))
 
 add-b : tie.Need-add-b Inv-loop μ-loop Inv-loop2 μ-loop2 Inv-search μ-search
@@ -108,14 +125,17 @@ search-less c = search needs
 search-again : tie.Need-search-again Inv-loop μ-loop Inv-loop2 μ-loop2 Inv-search μ-search
 search-again c =
     let at = c .before .before .before in
-    let inv = at .search .inv in (
+    let inv = at .search .inv in
+    let v = proper (at .before) in (
       search needs,
       search needs,
       ⊎-elim (λ w. w .7 ∙ w .5 .inv .2) (λ w. w .1 ∙ inv .2) (c .if1 .came),
       clear-more (inv .3)
           (⊎-elim
-          (λ w r n. none-holds (proper (at .before .before .before)) (refutes (w .1 .ensures) (w .2 .left)) (w .4 .left) (w .3 .inv .3)
-          (w .6 .left) (w .5 .inv .3) r)
+          (λ w r n.
+          let own = fails-alone own-turn (fails-none _ _ _) (refutes (w .1 .ensures) (w .2 .left)) in
+          let near = fails-named neighbour-turn v own (w .4 .left) (w .3 .inv .3) in
+          none-holds (fails-named zero-turn v near (w .6 .left) (w .5 .inv .3)) r)
           (λ w r n h. let q = c .before .has .ensures .yes (not-false _ (w .0 .left)) in absurd (omega (arith, q, n)))
           (c .if1 .came)),
     )
@@ -123,29 +143,35 @@ search-again c =
 returns : tie.Need-returns Inv-loop μ-loop Inv-loop2 μ-loop2 Inv-search μ-search
 returns c =
     let at = c .before in
-    subst⁻¹ (NextAnswer _ _) (at .search .inv .2) (finished-by (proper (at .before .before .before)) (search needs) (at .search .inv .3))
+    answered (at .before) (at .search .found)
+    (subst⁻¹ (NextAnswer _ _) (at .search .inv .2) (finished-by (proper (at .before)) (search needs) (at .search .inv .3)))
 
 returns-2 : tie.Need-returns-2 Inv-loop μ-loop Inv-loop2 μ-loop2 Inv-search μ-search
 returns-2 c =
     let at = c .before .before .before .before .before in
-    next-by OwnUnit (at .search .inv .3) (new (c .before .before)) (c .before .has2 .ensures .yes (c .if2 .taken)) (first-own _ _ _)
+    answered (at .before) (Take _)
+    (next-by OwnUnit (at .search .inv .3) (new (c .before .before)) (c .before .has2 .ensures .yes (c .if2 .taken))
+    (first-alone own-turn (fails-none _ _ _)))
 
 returns-3 : tie.Need-returns-3 Inv-loop μ-loop Inv-loop2 μ-loop2 Inv-search μ-search
 returns-3 c =
-    let own = c .before .before .before .before .before in
-    let at = own .before .before .before .before .before in
-    next-by (NeighbourOf _) (at .search .inv .3) (new (own .before .before)) (c .before .by-unit .ensures .yes (c .if3 .taken))
-    (first-near _ _ (refutes (own .before .has2 .ensures) (own .if2 .left)) (c .before .before .before .before .loop .inv .3))
+    let at-own = c .before .before .before .before in
+    let at = at-own .before .before .before .before .before in
+    let own = fails-alone own-turn (fails-none _ _ _) (refutes (at-own .before .has2 .ensures) (at-own .if2 .left)) in
+    answered (at .before) (Take _)
+    (next-by (NeighbourOf _) (at .search .inv .3) (new (at-own .before .before)) (c .before .by-unit .ensures .yes (c .if3 .taken))
+    (first-named neighbour-turn own (c .before .before .before .loop .inv .3)))
 
 returns-4 : tie.Need-returns-4 Inv-loop μ-loop Inv-loop2 μ-loop2 Inv-search μ-search
 returns-4 c =
-    let near = c .before .before .before .before .before in
-    let own = near .before .before in
-    let at = own .before .before .before .before .before in
-    next-by (ZeroInjection _) (at .search .inv .3) (new (own .before .before)) (c .before .by-zero .ensures .yes (c .if4 .taken))
-    (first-zero (proper (at .before .before .before)) (refutes (own .before .has2 .ensures) (own .if2 .left)) (near .loop-test .left)
-    (near .before .loop .inv .3)
-    (c .before .before .before .before .loop2 .inv .3))
+    let at-near = c .before .before .before .before in
+    let at-own = at-near .before .before in
+    let at = at-own .before .before .before .before .before in
+    let own = fails-alone own-turn (fails-none _ _ _) (refutes (at-own .before .has2 .ensures) (at-own .if2 .left)) in
+    let near = fails-named neighbour-turn (proper (at .before)) own (at-near .loop-test .left) (at-near .before .loop .inv .3) in
+    answered (at .before) (Take _)
+    (next-by (ZeroInjection _) (at .search .inv .3) (new (at-own .before .before)) (c .before .by-zero .ensures .yes (c .if4 .taken))
+    (first-named zero-turn near (c .before .before .before .loop2 .inv .3)))
 
 pub next-step-spec : {M : Type 1} → statement M
 next-step-spec =
