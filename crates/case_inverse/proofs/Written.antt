@@ -1,5 +1,5 @@
 -- What is written is read: the writer goes through the places in order, and the reader accepts each record.
-use mathlib.Core.Path.{_≡_, refl, sym, ap, ap₂, _∙_, subst}
+use mathlib.Core.Path.{_≡_, refl, sym, ap, ap₂, _∙_, subst, subst⁻¹}
 use mathlib.Core.Bool.{Bool, true, false, cond}
 use mathlib.Core.List.{List, [], _∷_, _++_}
 use mathlib.Core.Logic.{_⊎_, ⊎-elim}
@@ -312,8 +312,9 @@ read-row c ls rs a (suc m) b s p h l e k g on =
     let y : Pair a b = record { one = h; less = l; high = omega arith } in
     let M = members (Line a) (neighbours (c .nbr) a) (b + 1) m ++ ls in
     let push = row-push (has (neighbours (c .nbr) a) b) (Line a b) (members (Line a) (neighbours (c .nbr) a) (b + 1) m) ls in
-    rw push
-    (line-turn c M rs a b s p (has (neighbours (c .nbr) a) b) refl y (omega arith) (rw push at g)
+    subst⁻¹ (λ (L : List Record). Readable c s (L ++ rs)) push
+    (line-turn c M rs a b s p (has (neighbours (c .nbr) a) b) refl y (omega arith)
+    (subst (λ (L : List Record). Lining c s p a b (length L)) push g)
     (λ v o w. read-row c ls rs a m (b + 1) v o h (omega arith) (omega arith) k w on))
 
 -- ---- a whole case
