@@ -1,4 +1,4 @@
--- What is read has at most 256 lines.
+-- What is read has at most the most lines.
 use mathlib.Core.Path.{_≡_, refl, _∙_, subst}
 use mathlib.Core.Bool.{Bool, true, false, cond}
 use mathlib.Core.List.{List, [], _∷_, _++_}
@@ -8,6 +8,7 @@ use native.Mathlib.Omega.{arith}
 use borrow.Author.Tests.{eqb-true}
 use lib.ListN.{length}
 use Rattle.basics.proofs.Tests.{below-or, same-or}
+use Rattle.grid.specs.Limits.{mostBuses, mostLines}
 use Rattle.grid.specs.Rows.{neighbours}
 use Rattle.case_line.specs.declared.Record.{Record}
 use Rattle.case_line.specs.declared.Record.the-variants.{Grid, Bus, Line, Pmu, End, Wrong}
@@ -19,9 +20,11 @@ use Rattle.case_line.specs.CaseText.{has, members, lineRecords}
 use Rattle.grid.specs.declared.Case.{Case}
 use Rattle.case_judge.specs.declared.Judgement.the-variants.{Next}
 use Rattle.case_judge.proofs.Judged.{fit-of}
-use Rattle.case_inverse.proofs.Places.{linePlace, Pair, Ask, AskInRange, place, recordPlace, answer, joined, unchanged}
+use Rattle.case_build.proofs.Joined.{joined, Pair}
+use Rattle.case_inverse.proofs.Spots.{busPlace, linePlace, line-rises, row-rises, bus-line}
+use Rattle.case_inverse.proofs.Places.{Ask, AskInRange, place, recordPlace, answer, unchanged, pair-unit}
 use Rattle.case_inverse.proofs.Places.Ask.{lineAt}
-use Rattle.case_inverse.proofs.Unique.{Stand, Stepped, stepped, Settled, settled}
+use Rattle.case_inverse.proofs.Unique.{Stand, Stepped, stepped, not-end, Settled, settled}
 use Rattle.case_inverse.proofs.Texts.{begun, first-stand}
 use Rattle.case_inverse.proofs.Written.{row-push}
 
@@ -42,13 +45,13 @@ From c w L = (p : ℕ) → p < w → Rising c p L
 row-turn : (c : Case) (a b : ℕ) (L : List Record) (t : Bool) → has (neighbours (c .nbr) a) b ≡ t → Pair a b
     → From c (linePlace a (b + 1)) L
     → From c (linePlace a b) (cond t (Line a b ∷ L) L)
-row-turn c a b L true e y f p l = (y, l, eqb-true _ 1 e, f (linePlace a b) (omega arith))
-row-turn c a b L false e y f p l = f p (omega arith)
+row-turn c a b L true e y f p l = (y, l, eqb-true _ 1 e, f (linePlace a b) (line-rises a b (b + 1) (omega arith)))
+row-turn c a b L false e y f p l = f p (omega (arith, line-rises a b (b + 1) (omega arith)))
 
-row-from : (c : Case) (a m b : ℕ) (L : List Record) → 1 ≤ a → a < b → b + m ≤ 65 → From c (linePlace (a + 1) 0) L
+row-from : (c : Case) (a m b : ℕ) (L : List Record) → 1 ≤ a → a < b → b + m ≤ suc mostBuses → From c (linePlace (a + 1) 0) L
     → From c (linePlace a b) (members (Line a) (neighbours (c .nbr) a) b m ++ L)
 unfolding members
-row-from c a zero b L h l k f = λ p q. f p (omega arith)
+row-from c a zero b L h l k f = λ p q. f p (omega (arith, row-rises a b (a + 1) 0 (omega arith) (omega arith)))
 row-from c a (suc m) b L h l k f =
     let t = has (neighbours (c .nbr) a) b in
     let M = members (Line a) (neighbours (c .nbr) a) (b + 1) m in
@@ -56,28 +59,28 @@ row-from c a (suc m) b L h l k f =
     (row-turn c a b (M ++ L) t refl (record { one = h; less = l; high = omega arith })
     (row-from c a m (b + 1) L h (omega arith) (omega arith) f))
 
-lines-from : (c : Case) (m a : ℕ) → 1 ≤ a → a + m ≤ 65 → From c (linePlace a 0) (lineRecords (neighbours (c .nbr)) a m)
+lines-from : (c : Case) (m a : ℕ) → 1 ≤ a → a + m ≤ suc mostBuses → From c (linePlace a 0) (lineRecords (neighbours (c .nbr)) a m)
 unfolding lineRecords
 lines-from c zero a h k p q = tt
 lines-from c (suc m) a h k p q =
     row-from c a m (a + 1) (lineRecords (neighbours (c .nbr)) (a + 1) m) h (omega arith) (omega arith)
-    (lines-from c m (a + 1) (omega arith) (omega arith)) p (omega arith)
+    (lines-from c m (a + 1) (omega arith) (omega arith)) p (omega (arith, line-rises a 0 (a + 1) (omega arith)))
 
 -- nothing is answered between where the reader stands and its next record
 quiet : {s : Reader} {p : ℕ} {c : Case} (r : Record) (q : Ask) → Stand s p → Stepped s p r → Settled c (nextReader s r) (recordPlace r)
     → AskInRange q
     → p < place q → place q < recordPlace r → answer c q ≡ 0
 quiet {s} r q t u m h l k =
-    m q h (omega arith) ∙ unchanged s r q (t .at .rows) (t .grid) (u .fact) h (λ e. omega arith) ∙ t .at .fresh q h l
+    m q h (omega arith) ∙ unchanged s r q (t .at .sized) (t .grid) (u .fact) h (λ e. omega arith) ∙ t .at .fresh q h l
 
-few-turn : {s : Reader} {p : ℕ} {x : List ℕ} {c : Case} → Stand s p → s .place .lines ≤ 256 → (r : Record) → judged (s .place) r ≡ Next
+few-turn : {s : Reader} {p : ℕ} {x : List ℕ} {c : Case} → Stand s p → s .place .lines ≤ mostLines → (r : Record) → judged (s .place) r ≡ Next
     → ReadsAs (nextReader s r) x c → (a b : ℕ) (L : List Record) → Rising c p (Line a b ∷ L) → Stepped s p r
-    → (nextReader s r .place .lines ≤ 256 → (M : List Record) → Rising c (recordPlace r) M → nextReader s r .place .lines + length M ≤ 256)
-    → s .place .lines + suc (length L) ≤ 256
+    → (nextReader s r .place .lines ≤ mostLines → (M : List Record) → Rising c (recordPlace r) M → nextReader s r .place .lines + length M ≤ mostLines)
+    → s .place .lines + suc (length L) ≤ mostLines
 few-turn {s} t l (Grid n) e d a b L g u on = absurd (omega (arith, u .fact, t .grid))
-few-turn {s} t l (Bus k z o) e d a b L g u on = on l (Line a b ∷ L) (g .0, omega (arith, u .fact .bus .most), g .2, g .3)
+few-turn {s} t l (Bus k z o) e d a b L g u on = on l (Line a b ∷ L) (g .0, bus-line k a b (omega (arith, u .fact .bus .most)), g .2, g .3)
 few-turn {s} {p} {c = c} t l (Line i j) e d a b L g u on =
-    let n : s .place .lines < 256 = fit-of (s .place) (Line i j) (t .at .small) e .2 in
+    let n : s .place .lines < mostLines = fit-of (s .place) (Line i j) (t .at .small) e .2 in
     ⊎-elim
     (λ (k : recordPlace (Line a b) < recordPlace (Line i j)).
     absurd (omega (arith, g .2, quiet {c = c} (Line i j) (lineAt a b) t u (settled (u .on) d) (g .0) (g .1) k)))
@@ -89,12 +92,12 @@ few-turn {s} {p} {c = c} t l (Line i j) e d a b L g u on =
     (below-or (recordPlace (Line a b)) (recordPlace (Line i j)))
 few-turn {s} {c = c} t l (Pmu k) e d a b L g u on =
     let y = g .0 in
-    absurd (omega (arith, g .2, quiet {c = c} (Pmu k) (lineAt a b) t u (settled (u .on) d) y (g .1) (omega (arith, y .less, y .high))))
-few-turn {s} t l End e d a b L g u on = absurd (omega (arith, u .over))
+    absurd (omega (arith, g .2, quiet {c = c} (Pmu k) (lineAt a b) t u (settled (u .on) d) y (g .1) (pair-unit a b k y)))
+few-turn {s} t l End e d a b L g u on = absurd (not-end (s .place) End e refl)
 few-turn {s} t l Wrong e d a b L g u on = absurd (u .fact)
 
-few-ends : {s : Reader} {p : ℕ} → Stand s p → s .place .lines ≤ 256 → (L : List Record) → Rising (caseSoFar s) p L
-    → s .place .lines + length L ≤ 256
+few-ends : {s : Reader} {p : ℕ} → Stand s p → s .place .lines ≤ mostLines → (L : List Record) → Rising (caseSoFar s) p L
+    → s .place .lines + length L ≤ mostLines
 few-ends t l [] g = omega arith
 few-ends t l (Grid n ∷ L) g = absurd g
 few-ends t l (Bus k z o ∷ L) g = absurd g
@@ -103,10 +106,10 @@ few-ends t l (Pmu k ∷ L) g = absurd g
 few-ends t l (End ∷ L) g = absurd g
 few-ends t l (Wrong ∷ L) g = absurd g
 
-few-goes : {s : Reader} {p : ℕ} {x : List ℕ} {c : Case} → Stand s p → s .place .lines ≤ 256 → (r : Record) → judged (s .place) r ≡ Next
+few-goes : {s : Reader} {p : ℕ} {x : List ℕ} {c : Case} → Stand s p → s .place .lines ≤ mostLines → (r : Record) → judged (s .place) r ≡ Next
     → ReadsAs (nextReader s r) x c → (L : List Record) → Rising c p L → Stepped s p r
-    → (nextReader s r .place .lines ≤ 256 → (M : List Record) → Rising c (recordPlace r) M → nextReader s r .place .lines + length M ≤ 256)
-    → s .place .lines + length L ≤ 256
+    → (nextReader s r .place .lines ≤ mostLines → (M : List Record) → Rising c (recordPlace r) M → nextReader s r .place .lines + length M ≤ mostLines)
+    → s .place .lines + length L ≤ mostLines
 few-goes t l r e d [] g u on = omega arith
 few-goes t l r e d (Grid n ∷ L) g u on = absurd g
 few-goes t l r e d (Bus k z o ∷ L) g u on = absurd g
@@ -115,13 +118,13 @@ few-goes t l r e d (Pmu k ∷ L) g u on = absurd g
 few-goes t l r e d (End ∷ L) g u on = absurd g
 few-goes t l r e d (Wrong ∷ L) g u on = absurd g
 
-few-lines : {s : Reader} {p : ℕ} {x : List ℕ} {c : Case} → Stand s p → s .place .lines ≤ 256 → ReadsAs s x c → (L : List Record)
-    → Rising c p L → s .place .lines + length L ≤ 256
+few-lines : {s : Reader} {p : ℕ} {x : List ℕ} {c : Case} → Stand s p → s .place .lines ≤ mostLines → ReadsAs s x c → (L : List Record)
+    → Rising c p L → s .place .lines + length L ≤ mostLines
 few-lines t l (ends e) L g = few-ends t l L g
 few-lines t l (goes r e d) L g = few-goes t l r e d L g (stepped r t e) (λ h M k. few-lines (stepped r t e .on) h d M k)
 
--- what is read has at most 256 lines
-pub read-few : (x : List ℕ) (c : Case) → ReadsAs start x c → length (lineRecords (neighbours (c .nbr)) 1 (c .n)) ≤ 256
+-- what is read has at most the most lines
+pub read-few : (x : List ℕ) (c : Case) → ReadsAs start x c → length (lineRecords (neighbours (c .nbr)) 1 (c .n)) ≤ mostLines
 read-few x c d =
     let b = begun d in
     let t = first-stand (c .n) (b .told) in
@@ -129,5 +132,5 @@ read-few x c d =
     omega (
       arith,
       few-lines t (omega arith) (b .on) (lineRecords (neighbours (c .nbr)) 1 (c .n))
-          (lines-from c (c .n) 1 (omega arith) (omega arith) 0 (omega arith)),
+          (lines-from c (c .n) 1 (omega arith) (omega arith) (busPlace 0) (bus-line 0 1 0 (omega arith))),
     )

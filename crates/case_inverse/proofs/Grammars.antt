@@ -5,6 +5,7 @@ use mathlib.Core.List.{List, [], _∷_, _++_}
 use Prim.Native.Nat.{ℕ, _+_, _≤_, _<_}
 use native.Mathlib.Omega.{arith}
 use Rattle.text_field.specs.Split.{split, join}
+use Rattle.text_field.specs.Number.{mostRead}
 use Rattle.text_field.proofs.Cutting.{split-cut}
 use Rattle.case_line.specs.Record.{recordOf, recordText, Formed}
 use Rattle.case_line.specs.declared.Record.{Record}
@@ -14,6 +15,7 @@ use Rattle.case_judge.specs.Judging.{isBus, inPlace, inRange, nextOrLast, judge
 use Rattle.case_read.specs.Reading.{caseSoFar, Reader, nextReader, refused, caseEnded, recordSaid, got, readLines}
 use Rattle.case_inverse.specs.Grammar.{ReadsAs}
 use Rattle.case_inverse.specs.Grammar.ReadsAs.{ends, goes}
+use Rattle.grid.specs.Limits.{mostBuses}
 use Rattle.grid.specs.declared.Case.{Case}
 use Rattle.case_read.specs.declared.CaseRead.{CaseRead}
 use Rattle.case_judge.specs.declared.Judgement.{Judgement}
@@ -23,11 +25,11 @@ use Rattle.case_read.specs.declared.ReadAnswer.the-variants.{Read, Refused}
 use Rattle.case_judge.proofs.Judged.{accepted-of, last-of, small-of, bounded, line-ends, not-one}
 use Rattle.case_judge.specs.declared.Place.{Place}
 
-small-number : (n k : ℕ) → n ≤ 64 → isBus n k ≡ true → k < 10000
+small-number : (n k : ℕ) → n ≤ mostBuses → isBus n k ≡ true → k < mostRead
 small-number n k h e = let b = bounded n k h e in omega (arith, b .most)
 
-formed : (s : Place) (r : Record) → s .n ≤ 64 → inPlace s r ≡ true → inRange s r ≡ true → Formed r
-formed s (Grid n) h p e = small-number 64 n (omega arith) e
+formed : (s : Place) (r : Record) → s .n ≤ mostBuses → inPlace s r ≡ true → inRange s r ≡ true → Formed r
+formed s (Grid n) h p e = small-number mostBuses n (omega arith) e
 formed s (Bus k z o) h p e = small-number (s .n) k h e
 formed s (Line a b) h p e = let t = line-ends s a b e in (omega (arith, t .from .most), omega (arith, t .to .most))
 formed s (Pmu q) h p e = small-number (s .n) q h e
@@ -35,7 +37,7 @@ formed s End h p e = tt
 formed s Wrong h p e = not-one (cc)
 
 -- a text of the grammar is read
-pub reads-read : (s : Reader) (x : List ℕ) (c : Case) (k : ℕ) → s .place .n ≤ 64 → ReadsAs s x c
+pub reads-read : (s : Reader) (x : List ℕ) (c : Case) (k : ℕ) → s .place .n ≤ mostBuses → ReadsAs s x c
     → readLines s k (split 10 x .first) (split 10 x .rest) ≡ got c
 unfolding readLines split
 reads-read s x c k h (ends e) = rw (split-cut 10 (recordText End) [] (text-free End tt), read-record End tt, e)

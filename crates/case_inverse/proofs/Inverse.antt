@@ -8,9 +8,9 @@ use Rattle.busset.specs.Sets.{Out, Within, setOf}
 use Rattle.busset.proofs.Members.{out-of}
 use Rattle.text_field.specs.Split.{join}
 use Rattle.case_line.specs.declared.Record.the-variants.{Pmu}
-use Rattle.grid.specs.Limits.{mostBytes}
+use Rattle.grid.specs.Limits.{mostLines, mostBytes}
 use Rattle.grid.specs.Rows.{neighbours}
-use Rattle.grid.specs.Cases.{gridOf, Valid}
+use Rattle.grid.specs.Cases.{gridOf, Sized, Valid}
 use Rattle.grid.specs.declared.Case.{Case}
 use Rattle.rules.specs.Grids.{Proper as ProperGrid}
 use Rattle.case_read.specs.Reading.{start, got, readLines, readCase}
@@ -37,7 +37,7 @@ above-none c p (siteAt k) a = none-above (c .n) (setOf (c .site)) k (p .sites) a
 above-none c p (unitAt k) a = none-above (c .n) (setOf (c .units)) k (p .units) a
 above-none c p (lineAt i j) a = none-above (c .n) (neighbours (c .nbr) i) j (λ b h. p .lines i b h .to) a
 
-few-records : (c : Case) → Valid c → length (lineRecords (neighbours (c .nbr)) 1 (c .n)) ≤ 256
+few-records : (c : Case) → Valid c → length (lineRecords (neighbours (c .nbr)) 1 (c .n)) ≤ mostLines
 few-records c v = let f = v .few in omega (arith, line-records (c .n) (neighbours (c .nbr)) (v .proper .lines) (c .n))
 
 writable : (c : Case) → Valid c → Writable c
@@ -49,23 +49,23 @@ text-within c v =
     let n = v .buses .most in
     omega (arith, lines-length (records c), records-length)
   where
-    records-length : length (records c) ≤ 2 + (c .n + (256 + c .n))
+    records-length : length (records c) ≤ 2 + (c .n + (mostLines + c .n))
     records-length = simp (length-append, buses-length) (omega (arith, few-records c v, members-length Pmu (setOf (c .units)) 1 (c .n)))
 
--- reading what is written for a valid case gives that case (a case value has 64 rows)
-pub read-written : (c : Case) → length (c .nbr) ≡ 64 → Valid c → readCase (caseText c) ≡ got c
+-- reading what is written for a valid case gives that case
+pub read-written : (c : Case) → Sized c → Valid c → readCase (caseText c) ≡ got c
 read-written c l v =
     let r = readable c (writable c v) in
     let e : c ≡ r .case′ =
-    known c (r .case′) (v .buses .most) (r .size) (record { rows = l; proper = v .proper })
+    known c (r .case′) (v .buses .most) (r .size) (record { sized = l; proper = v .proper })
     (read-sound _ (r .case′) (r .reads)) (r .agree) in
     of-reads (caseText c) c (text-within c v) (subst⁻¹ (λ (d : Case). ReadsAs start (caseText c) d) e (r .reads))
 
 -- ---- what is read is valid
 
--- a text that is read as a case gives a valid one, with 64 rows
+-- a text that is read as a case gives a valid one, with what the type says
 pub record ReadValid (c : Case) : Type 0 where
-  pub rows : length (c .nbr) ≡ 64
+  pub sized : Sized c
   pub valid : Valid c
 
 reads-valid : (x : List ℕ) (c : Case) → ReadsAs start x c → ReadValid c
@@ -73,7 +73,7 @@ reads-valid x c d =
     let s = read-sound x c d in
     let t = first-stand (c .n) (begun d .told) in
     record {
-      rows = s .rows;
+      sized = s .sized;
       valid = record {
         buses = record { some = t .grid; most = t .at .small };
         proper = s .proper;
@@ -96,4 +96,4 @@ one-text = same-text
 
 -- a text that reads as a case is the text written for it
 pub written-text : (x : List ℕ) (c : Case) → readCase x ≡ got c → x ≡ caseText c
-written-text x c e = let v = read-valid x c e in one-text x (caseText c) c e (read-written c (v .rows) (v .valid))
+written-text x c e = let v = read-valid x c e in one-text x (caseText c) c e (read-written c (v .sized) (v .valid))

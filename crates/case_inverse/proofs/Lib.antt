@@ -1,4 +1,5 @@
 pub mod Grammars
+pub mod Spots
 pub mod Places
 pub mod Unique
 pub mod Texts

@@ -1,98 +1,32 @@
 -- Where a reader stands: each record answers the questions at its own place, and places rise.
 -- A case is a bundle of answers to yes-or-no questions: is bus k of class Z, is it a site, has it a unit, are i and j joined.
--- Each question has a place, and a record answers the questions at its own place: `bus k` at k, `line a b` after all buses,
--- by a and then by b, and `pmu p` after all lines. The numbers only keep these three ranges apart, at 64 buses.
--- The order of records in a text is the order of their places. So a reader that has read up to a place knows all answers
--- below it, and a record that it passes over answers no.
+-- Each question has a place, and a record answers the questions at its own place. Places are in the order of the records of a
+-- text: `bus k` by k, then `line a b` by a and then by b, then `pmu p` by p. Spots.antt has the laws of that order.
+-- So a reader that has read up to a place knows all answers below it, and a record that it passes over answers no.
 -- From this the two directions follow. What is written is read: the writer goes through the places in order, and the reader
 -- accepts each record because its place rises. What is read is written: the case that is read fixes the answer at each
 -- place, so the next record of any text that gives this case is fixed too, and with it the text.
-use mathlib.Core.Path.{_≡_, refl, sym, ap, _∙_, subst⁻¹}
+use mathlib.Core.Path.{_≡_, refl, sym, ap, ap₂, _∙_, subst⁻¹}
 use mathlib.Core.Bool.{Bool, true, false, _&&_, _||_}
-use mathlib.Core.List.{List}
-use mathlib.Core.Logic.{_⊎_, ⊎-elim}
 use Prim.Native.Nat.{ℕ, suc, zero, _+_, _-_, _*_, _≤_, _<_}
 use native.Mathlib.Omega.{arith}
 use borrow.Author.Tests.{leb-true, ltb-true, eqb-true}
 use lib.Dec.{eqb, ltb, leb}
-use lib.ListN.{length, length-set}
-use Rattle.busset.specs.Sets.{bit, add, setOf, width, Bus as IsBus}
-use Rattle.busset.specs.Held.{wordOf}
-use Rattle.basics.proofs.Tests.{same-or}
-use Rattle.busset.proofs.Members.{add-here, add-there}
-use Rattle.busset.proofs.Holding.{word-add, hold-there, if-there}
+use Rattle.busset.specs.Sets.{bit, setOf, width, Bus as IsBus}
+use Rattle.busset.proofs.Holding.{hold-there, if-there}
 use Rattle.text_field.proofs.Tested.{both}
 use Rattle.case_line.specs.declared.Record.{Record}
 use Rattle.case_line.specs.declared.Record.the-variants.{Grid, Bus, Line, Pmu, End, Wrong}
 use Rattle.grid.specs.Limits.{mostBuses}
-use Rattle.grid.specs.Rows.{neighbours}
+use Rattle.grid.specs.Cases.{Sized}
 use Rattle.grid.specs.declared.Case.{Case}
-use Rattle.grid.proofs.Rows.{row-bus, row-put-same, row-put-other}
-use Rattle.case_build.specs.Building.{withEnd, withLine}
+use Rattle.case_build.proofs.Joined.{joined, Pair, line-there, line-length}
 use Rattle.case_judge.specs.Judging.{isAfter, pastBuses}
 use Rattle.case_read.specs.Reading.{Reader, caseSoFar, nextReader}
 use Rattle.case_judge.specs.declared.Place.{Place}
 use Rattle.case_judge.proofs.Judged.{TestsPassed, inside, line-ends, not-one}
-
--- ---- rows
-
--- 1 where i and j are joined as seen from i, else 0
-abbrev pub joined : List ℕ → ℕ → ℕ → ℕ
-joined rows i j = bit (neighbours rows i) j
-
-module _ (rows : List ℕ) (a b : ℕ) (h : 1 ≤ a) (k : 1 ≤ b) (l : a ≤ length rows) where
-  end-row : neighbours (withEnd rows a b) a ≡ add (neighbours rows a) b
-  end-row =
-      row-put-same rows a (wordOf (add (neighbours rows a) b)) h l ∙ word-add (neighbours rows a) b (row-bus rows a) k
-
-  pub end-here : joined (withEnd rows a b) a b ≡ 1
-  end-here = ap (λ (s : ℕ). bit s b) end-row ∙ add-here (neighbours rows a) b
-
-  pub end-there : (i j : ℕ) → ((i ≡ a) → (j ≡ b) → ⊥) → joined (withEnd rows a b) i j ≡ joined rows i j
-  end-there i j n =
-      ⊎-elim
-      (λ (e : i ≡ a). subst⁻¹ (λ (x : ℕ). joined (withEnd rows a b) x j ≡ joined rows x j) e
-      (ap (λ (s : ℕ). bit s j) end-row ∙ add-there (neighbours rows a) b j (n e)))
-      (λ (d : i ≡ a → ⊥). ap (λ (s : ℕ). bit s j) (row-put-other rows a (wordOf (add (neighbours rows a) b)) h i d))
-      (same-or i a)
-
--- the number of the line from i to j: rising by i, and then by j
-abbrev pub lineNumber : ℕ → ℕ → ℕ
-lineNumber i j = i * 128 + j
-
--- its place, after all buses
-abbrev pub linePlace : ℕ → ℕ → ℕ
-linePlace i j = 1000 + lineNumber i j
-
--- the place of the unit at k, after all lines
-abbrev pub unitPlace : ℕ → ℕ
-unitPlace k = 10000 + k
-
--- a and b are two buses, a the lower
-pub record Pair (a b : ℕ) : Type 0 where
-  pub one : 1 ≤ a
-  pub less : a < b
-  pub high : b ≤ 64
-
-module _ (rows : List ℕ) (a b : ℕ) (l : length rows ≡ 64) (p : Pair a b) where
-  second-in : b ≤ length (withEnd rows a b)
-  second-in = simp length-set (omega arith)
-
-  pub line-here : joined (withLine rows a b) a b ≡ 1
-  line-here =
-      end-there (withEnd rows a b) b a (omega arith) (omega arith) second-in a b (λ e f. omega arith)
-      ∙ end-here rows a b (p .one) (omega arith) (omega arith)
-
-  pub line-back : joined (withLine rows a b) b a ≡ 1
-  line-back = end-here (withEnd rows a b) b a (omega arith) (omega arith) second-in
-
-  pub line-other : (i j : ℕ) → ((i ≡ a) → (j ≡ b) → ⊥) → ((i ≡ b) → (j ≡ a) → ⊥) → joined (withLine rows a b) i j ≡ joined rows i j
-  line-other i j n m =
-      end-there (withEnd rows a b) b a (omega arith) (omega arith) second-in i j m
-      ∙ end-there rows a b (p .one) (omega arith) (omega arith) i j n
-
-  line-there : (i j : ℕ) → Pair i j → (lineNumber i j ≡ lineNumber a b → ⊥) → joined (withLine rows a b) i j ≡ joined rows i j
-  line-there i j q n = line-other i j (λ e f. n (omega arith)) (λ e f. omega arith)
+use Rattle.case_inverse.proofs.Spots.{busPlace, linePlace, unitPlace, lastPlace, bus-rises, line-rises, row-rises, unit-rises}
+use Rattle.case_inverse.proofs.Spots.{bus-line, bus-unit, line-unit, unit-last, bus-same, line-same, unit-same}
 
 -- ---- questions and places
 
@@ -115,18 +49,53 @@ AskInRange (lineAt i j) = Pair i j
 
 -- the place of a question, and of a record
 abbrev pub place : Ask → ℕ
-place (zeroAt k) = k
-place (siteAt k) = k
+place (zeroAt k) = busPlace k
+place (siteAt k) = busPlace k
 place (unitAt k) = unitPlace k
 place (lineAt i j) = linePlace i j
 
 abbrev pub recordPlace : Record → ℕ
-recordPlace (Grid n) = 0
-recordPlace (Bus k z o) = k
+recordPlace (Grid n) = busPlace 0
+recordPlace (Bus k z o) = busPlace k
 recordPlace (Line a b) = linePlace a b
 recordPlace (Pmu p) = unitPlace p
-recordPlace End = 0
-recordPlace Wrong = 0
+recordPlace End = lastPlace
+recordPlace Wrong = lastPlace
+
+-- ---- the order of places
+
+-- the two buses of a line
+pub pair-unit : (a b k : ℕ) → Pair a b → linePlace a b < unitPlace k
+pair-unit a b k y = line-unit a b k (omega arith) (omega arith)
+
+-- all places are before the end
+pub all-below : (q : Ask) → AskInRange q → place q < lastPlace
+all-below (zeroAt k) h = let m = h .most in omega (arith, bus-unit k 0 (omega arith), unit-last 0 (omega arith))
+all-below (siteAt k) h = let m = h .most in omega (arith, bus-unit k 0 (omega arith), unit-last 0 (omega arith))
+all-below (unitAt k) h = let m = h .most in unit-last k (omega arith)
+all-below (lineAt i j) h = omega (arith, pair-unit i j 0 h, unit-last 0 (omega arith))
+
+-- what holds of the questions of a record holds of every question at its place
+module _ (P : Ask → Type 0) where
+  pub at-bus : (k : ℕ) → IsBus width k → P (zeroAt k) → P (siteAt k) → (q : Ask) → AskInRange q → place q ≡ busPlace k → P q
+  at-bus k b z o (zeroAt j) h e = subst⁻¹ (λ (x : ℕ). P (zeroAt x)) (bus-same j k (omega (arith, h .most)) (omega (arith, b .most)) e) z
+  at-bus k b z o (siteAt j) h e = subst⁻¹ (λ (x : ℕ). P (siteAt x)) (bus-same j k (omega (arith, h .most)) (omega (arith, b .most)) e) o
+  at-bus k b z o (unitAt j) h e = absurd (omega (arith, bus-unit k j (omega (arith, b .most))))
+  at-bus k b z o (lineAt i j) h e = absurd (omega (arith, bus-line k i j (omega (arith, b .most))))
+
+  pub at-line : (a b : ℕ) → Pair a b → P (lineAt a b) → (q : Ask) → AskInRange q → place q ≡ linePlace a b → P q
+  at-line a b y l (zeroAt j) h e = absurd (omega (arith, bus-line j a b (omega (arith, h .most))))
+  at-line a b y l (siteAt j) h e = absurd (omega (arith, bus-line j a b (omega (arith, h .most))))
+  at-line a b y l (unitAt j) h e = absurd (omega (arith, pair-unit a b j y))
+  at-line a b y l (lineAt i j) h e =
+      let f = line-same i j a b (omega (arith, h .high)) (omega (arith, y .high)) e in
+      subst⁻¹ (λ (x : ℕ). P (lineAt x j)) (f .0) (subst⁻¹ (λ (x : ℕ). P (lineAt a x)) (f .1) l)
+
+  pub at-unit : (k : ℕ) → IsBus width k → P (unitAt k) → (q : Ask) → AskInRange q → place q ≡ unitPlace k → P q
+  at-unit k b u (zeroAt j) h e = absurd (omega (arith, bus-unit j k (omega (arith, h .most))))
+  at-unit k b u (siteAt j) h e = absurd (omega (arith, bus-unit j k (omega (arith, h .most))))
+  at-unit k b u (unitAt j) h e = subst⁻¹ (λ (x : ℕ). P (unitAt x)) (unit-same j k (omega (arith, h .most)) (omega (arith, b .most)) e) u
+  at-unit k b u (lineAt i j) h e = absurd (omega (arith, pair-unit i j k h))
 
 -- ---- what an accepted record says, in numbers
 
@@ -139,7 +108,7 @@ pub record NextLine (s : Place) (a b : ℕ) : Type 0 where
   pub past : s .n ≤ s .bus
   pub none : s .unit ≡ 0
   pub pair : Pair a b
-  pub rises : lineNumber (s .a) (s .b) < lineNumber a b
+  pub rises : linePlace (s .a) (s .b) < linePlace a b
 
 pub record NextUnit (s : Place) (p : ℕ) : Type 0 where
   pub past : s .n ≤ s .bus
@@ -158,15 +127,17 @@ pub past-buses : (s : Place) → pastBuses s ≡ true → s .n ≤ s .bus
 unfolding pastBuses
 past-buses s e = let p = both (ltb 0 (s .n)) (leb (s .n) (s .bus)) e in leb-true (s .n) (s .bus) (p .1)
 
-risen : (a b c d : ℕ) → b ≤ 64 → isAfter a b c d ≡ true → lineNumber a b < lineNumber c d
+risen : (a b c d : ℕ) → b ≤ mostBuses → isAfter a b c d ≡ true → linePlace a b < linePlace c d
 unfolding isAfter
 risen a b c d h e = go (ltb a c) refl e
   where
-    go : (t : Bool) → ltb a c ≡ t → (t || (eqb a c && ltb b d)) ≡ true → lineNumber a b < lineNumber c d
-    go true f e = omega (arith, ltb-true a c f)
-    go false f e = let p = both (eqb a c) (ltb b d) e in omega (arith, eqb-true a c (p .0), ltb-true b d (p .1))
+    go : (t : Bool) → ltb a c ≡ t → (t || (eqb a c && ltb b d)) ≡ true → linePlace a b < linePlace c d
+    go true f e = row-rises a b c d (ltb-true a c f) (omega arith)
+    go false f e =
+        let p = both (eqb a c) (ltb b d) e in
+        subst⁻¹ (λ (x : ℕ). linePlace x b < linePlace c d) (eqb-true a c (p .0)) (line-rises c b d (ltb-true b d (p .1)))
 
-pub facts : (s : Place) (r : Record) → s .n ≤ mostBuses → s .b ≤ 64 → TestsPassed s r → Facts s r
+pub facts : (s : Place) (r : Record) → s .n ≤ mostBuses → s .b ≤ mostBuses → TestsPassed s r → Facts s r
 facts s (Grid n) h k a = eqb-true (s .n) 0 (a .place)
 facts s (Bus x z o) h k a =
     let i = inside (s .n) x (a .range) in
@@ -200,9 +171,9 @@ facts s Wrong h k a = let e = a .place in not-one (cc)
 -- the reader stands at p: it has answered nothing beyond, and its next record lies beyond
 pub record At (s : Reader) (p : ℕ) : Type 0 where
   pub small : s .place .n ≤ mostBuses
-  pub low : s .place .b ≤ 64
-  pub rows : length (s .rows) ≡ 64
-  pub to-bus : s .place .bus < s .place .n → p ≤ s .place .bus
+  pub low : s .place .b ≤ mostBuses
+  pub sized : Sized (caseSoFar s)
+  pub to-bus : s .place .bus < s .place .n → p ≤ busPlace (s .place .bus)
   pub to-line : s .place .unit ≡ 0 → p ≤ linePlace (s .place .a) (s .place .b)
   pub to-unit : p ≤ unitPlace (s .place .unit)
   pub fresh : (q : Ask) → AskInRange q → p < place q → answer (caseSoFar s) q ≡ 0
@@ -210,39 +181,41 @@ pub record At (s : Reader) (p : ℕ) : Type 0 where
 -- a record is beyond where the reader stands
 pub beyond : (s : Reader) (p : ℕ) (r : Record) → At s p → 0 < s .place .n → (r ≡ End → ⊥) → Facts (s .place) r → p < recordPlace r
 beyond s p (Grid n) t g e f = absurd (omega arith)
-beyond s p (Bus k z o) t g e f = omega (arith, t .to-bus (f .more))
-beyond s p (Line a b) t g e f = omega (arith, t .to-line (f .none))
-beyond s p (Pmu k) t g e f = omega (arith, t .to-unit)
+beyond s p (Bus k z o) t g e f =
+    omega (arith, t .to-bus (f .more), bus-rises (s .place .bus) k (omega (arith, f .next)))
+beyond s p (Line a b) t g e f = omega (arith, t .to-line (f .none), f .rises)
+beyond s p (Pmu k) t g e f = omega (arith, t .to-unit, unit-rises (s .place .unit) k (f .rises))
 beyond s p End t g e f = absurd (e refl)
 beyond s p Wrong t g e f = absurd f
 
 -- it changes no answer but those at its own place
-pub unchanged : (s : Reader) (r : Record) (q : Ask) → length (s .rows) ≡ 64 → 0 < s .place .n → Facts (s .place) r → AskInRange q
+pub unchanged : (s : Reader) (r : Record) (q : Ask) → Sized (caseSoFar s) → 0 < s .place .n → Facts (s .place) r → AskInRange q
     → (place q ≡ recordPlace r → ⊥)
     → answer (caseSoFar (nextReader s r)) q ≡ answer (caseSoFar s) q
 unchanged s (Grid n) q l g f h d = absurd (omega arith)
-unchanged s (Bus k z o) (zeroAt j) l g f h d = if-there z (s .marks .zero) k j (f .bus .some) d
-unchanged s (Bus k z o) (siteAt j) l g f h d = if-there o (s .marks .site) k j (f .bus .some) d
+unchanged s (Bus k z o) (zeroAt j) l g f h d = if-there z (s .marks .zero) k j (f .bus .some) (λ e. d (ap busPlace e))
+unchanged s (Bus k z o) (siteAt j) l g f h d = if-there o (s .marks .site) k j (f .bus .some) (λ e. d (ap busPlace e))
 unchanged s (Bus k z o) (unitAt j) l g f h d = refl
 unchanged s (Bus k z o) (lineAt i j) l g f h d = refl
 unchanged s (Line a b) (zeroAt j) l g f h d = refl
 unchanged s (Line a b) (siteAt j) l g f h d = refl
 unchanged s (Line a b) (unitAt j) l g f h d = refl
-unchanged s (Line a b) (lineAt i j) l g f h d = line-there (s .rows) a b l (f .pair) i j h (λ e. d (omega arith))
+unchanged s (Line a b) (lineAt i j) l g f h d = line-there (s .rows) a b (l .rows) (f .pair) i j h (λ e g. d (ap₂ linePlace e g))
 unchanged s (Pmu p) (zeroAt j) l g f h d = refl
 unchanged s (Pmu p) (siteAt j) l g f h d = refl
-unchanged s (Pmu p) (unitAt j) l g f h d = hold-there (s .marks .units) p j (f .bus .some) (λ e. d (omega arith))
+unchanged s (Pmu p) (unitAt j) l g f h d = hold-there (s .marks .units) p j (f .bus .some) (λ e. d (ap unitPlace e))
 unchanged s (Pmu p) (lineAt i j) l g f h d = refl
 unchanged s End q l g f h d = refl
 unchanged s Wrong q l g f h d = absurd f
 
-same-rows : (s : Reader) (r : Record) → length (s .rows) ≡ 64 → length (nextReader s r .rows) ≡ 64
-same-rows s (Grid n) l = l
-same-rows s (Bus k z o) l = l
-same-rows s (Line a b) l = simp length-set l
-same-rows s (Pmu p) l = l
-same-rows s End l = l
-same-rows s Wrong l = l
+-- and leaves what the type says
+same-size : (s : Reader) (r : Record) → Facts (s .place) r → Sized (caseSoFar s) → Sized (caseSoFar (nextReader s r))
+same-size s (Grid n) f l = record { rows = l .rows }
+same-size s (Bus k z o) f l = record { rows = l .rows }
+same-size s (Line a b) f l = record { rows = line-length (s .rows) a b (l .rows) (f .pair) }
+same-size s (Pmu p) f l = record { rows = l .rows }
+same-size s End f l = l
+same-size s Wrong f l = absurd f
 
 -- and the reader then stands at its place
 pub stands : (s : Reader) (p : ℕ) (r : Record) → At s p → 0 < s .place .n → (r ≡ End → ⊥) → Facts (s .place) r
@@ -250,12 +223,12 @@ pub stands : (s : Reader) (p : ℕ) (r : Record) → At s p → 0 < s .place .n 
 stands s p r t g e f =
     let b = beyond s p r t g e f in
     let new : (q : Ask) → AskInRange q → recordPlace r < place q → answer (caseSoFar (nextReader s r)) q ≡ 0 =
-    λ q h l. unchanged s r q (t .rows) g f h (λ d. omega arith) ∙ t .fresh q h (omega arith) in
-    stood s r t g e f new (same-rows s r (t .rows))
+    λ q h l. unchanged s r q (t .sized) g f h (λ d. omega arith) ∙ t .fresh q h (omega arith) in
+    stood s r t g e f new (same-size s r f (t .sized))
   where
     stood : (s : Reader) (r : Record) → At s p → 0 < s .place .n → (r ≡ End → ⊥) → Facts (s .place) r →
         ((q : Ask) → AskInRange q → recordPlace r < place q → answer (caseSoFar (nextReader s r)) q ≡ 0)
-        → length (nextReader s r .rows) ≡ 64
+        → Sized (caseSoFar (nextReader s r))
         → At (nextReader s r) (recordPlace r)
     stood s (Grid n) t g e f new l = absurd (omega arith)
     stood s (Bus k z o) t g e f new l =
@@ -263,10 +236,10 @@ stands s p r t g e f =
         record {
           small = t .small;
           low = t .low;
-          rows = l;
+          sized = l;
           to-bus = λ h. omega arith;
-          to-line = λ h. omega arith;
-          to-unit = omega arith;
+          to-line = λ h. omega (arith, bus-line k (s .place .a) (s .place .b) (omega arith));
+          to-unit = omega (arith, bus-unit k (s .place .unit) (omega arith));
           fresh = new;
         }
     stood s (Line a b) t g e f new l =
@@ -275,10 +248,10 @@ stands s p r t g e f =
         record {
           small = t .small;
           low = j .high;
-          rows = l;
-          to-bus = λ h. omega arith;
+          sized = l;
+          to-bus = λ h. absurd (omega arith);
           to-line = λ h. omega arith;
-          to-unit = omega (arith, j .less, j .high);
+          to-unit = omega (arith, pair-unit a b (s .place .unit) j);
           fresh = new;
         }
     stood s (Pmu k) t g e f new l =
@@ -287,9 +260,9 @@ stands s p r t g e f =
         record {
           small = t .small;
           low = t .low;
-          rows = l;
-          to-bus = λ h. omega arith;
-          to-line = λ h. omega arith;
+          sized = l;
+          to-bus = λ h. absurd (omega arith);
+          to-line = λ h. absurd (omega arith);
           to-unit = omega arith;
           fresh = new;
         }

@@ -8,7 +8,7 @@ use native.Mathlib.Omega.{arith}
 use lib.ListN.{length, getD}
 use lib.Seq.{ext-getD}
 use Rattle.busset.specs.Sets.{bit, In, Out, Within, setOf, width, Bus as IsBus}
-use Rattle.busset.specs.Held.{hold, holdIf}
+use Rattle.busset.specs.Held.{emptyWord, hold, holdIf}
 use Rattle.basics.proofs.Tests.{below-or, same-or}
 use Rattle.busset.proofs.Digits.{ext}
 use Rattle.busset.proofs.Members.{out-of}
@@ -17,8 +17,9 @@ use Rattle.busset.proofs.Holding.{hold-there}
 use Rattle.case_line.specs.declared.Record.{Record}
 use Rattle.case_line.specs.declared.Record.the-variants.{Grid, Bus, Line, Pmu, End, Wrong}
 use Rattle.rules.specs.Grids.{Proper as ProperGrid, Line as HasLine}
-use Rattle.grid.specs.Rows.{neighbours}
-use Rattle.grid.specs.Cases.{gridOf, Lines}
+use Rattle.grid.specs.Limits.{mostBuses}
+use Rattle.grid.specs.Rows.{Rows, neighbours}
+use Rattle.grid.specs.Cases.{gridOf, Lines, Sized}
 use Rattle.grid.specs.declared.Case.{Case}
 use Rattle.case_build.specs.Building.{withLine}
 use Rattle.case_judge.specs.Judging.{inRange}
@@ -26,7 +27,8 @@ use Rattle.case_read.specs.Reading.{Reader, caseSoFar, nextReader, start}
 use Rattle.case_inverse.specs.Grammar.{ReadsAs}
 use Rattle.case_inverse.specs.Grammar.ReadsAs.{ends, goes}
 use Rattle.case_judge.proofs.Judged.{accepted-of, inside, line-ends}
-use Rattle.case_inverse.proofs.Places.{Pair, Ask, AskInRange, answer, joined, Facts, line-here, line-back, line-other}
+use Rattle.case_build.proofs.Joined.{joined, Pair, line-here, line-back, line-other}
+use Rattle.case_inverse.proofs.Places.{Ask, AskInRange, answer, Facts}
 use Rattle.case_inverse.proofs.Places.Ask.{zeroAt, siteAt, unitAt, lineAt}
 use Rattle.case_inverse.proofs.Unique.{Stand, stepped}
 use Rattle.case_inverse.proofs.Texts.{begun, first-stand, no-bus, no-line}
@@ -42,7 +44,7 @@ if-within : (t : Bool) (n w k : ℕ) → IsBus n k → Within n (setOf w) → Wi
 if-within true n w k b h = hold-within n w k b h
 if-within false n w k b h = h
 
-module _ (n : ℕ) (rows : List ℕ) (a b : ℕ) (l : length rows ≡ 64) (p : Pair a b) (from : IsBus n a) (to : IsBus n b)
+module _ (n : ℕ) (rows : Rows) (a b : ℕ) (l : length rows ≡ mostBuses) (p : Pair a b) (from : IsBus n a) (to : IsBus n b)
     (lines : Lines n (neighbours rows)) where
   other-line : (i j : ℕ) → ((i ≡ a) → (j ≡ b) → ⊥) → ((i ≡ b) → (j ≡ a) → ⊥) → In (neighbours (withLine rows a b) i) j
       → HasLine n (neighbours (withLine rows a b)) i j
@@ -89,7 +91,7 @@ module _ (n : ℕ) (rows : List ℕ) (a b : ℕ) (l : length rows ≡ 64) (p : P
 abbrev ProperAt : Reader → Type 0
 ProperAt s = ProperGrid (gridOf (caseSoFar s))
 
-proper-next : (s : Reader) (r : Record) → length (s .rows) ≡ 64 → 0 < s .place .n → Facts (s .place) r → inRange (s .place) r ≡ true
+proper-next : (s : Reader) (r : Record) → Sized (caseSoFar s) → 0 < s .place .n → Facts (s .place) r → inRange (s .place) r ≡ true
     → ProperAt s → ProperAt (nextReader s r)
 proper-next s (Grid n) l g f e c = absurd (omega arith)
 proper-next s (Bus k z o) l g f e c =
@@ -98,7 +100,7 @@ proper-next s (Bus k z o) l g f e c =
 proper-next s (Line a b) l g f e c =
     let t = line-ends (s .place) a b e in
     record {
-      lines = with-lines _ (s .rows) a b l (f .pair) (t .from) (t .to) (c .lines);
+      lines = with-lines _ (s .rows) a b (l .rows) (f .pair) (t .from) (t .to) (c .lines);
       zeros = c .zeros;
       sites = c .sites;
       units = c .units;
@@ -111,14 +113,14 @@ proper-next s Wrong l g f e c = absurd f
 -- ---- what is read
 
 pub record Sound (c : Case) : Type 0 where
-  pub rows : length (c .nbr) ≡ 64
+  pub sized : Sized c
   pub proper : ProperGrid (gridOf c)
 
 sound-reads : {s : Reader} {p : ℕ} {x : List ℕ} {c : Case} → Stand s p → ProperAt s → ReadsAs s x c → Sound c
-sound-reads t o (ends e) = record { rows = t .at .rows; proper = o }
+sound-reads t o (ends e) = record { sized = t .at .sized; proper = o }
 sound-reads {s} t o (goes r e d) =
     let u = stepped r t e in
-    sound-reads (u .on) (proper-next s r (t .at .rows) (t .grid) (u .fact) (accepted-of (s .place) r e .range) o) d
+    sound-reads (u .on) (proper-next s r (t .at .sized) (t .grid) (u .fact) (accepted-of (s .place) r e .range) o) d
 
 none-proper : (n : ℕ) → ProperAt (nextReader start (Grid n))
 none-proper n = record {
@@ -133,10 +135,10 @@ read-sound x c d = let b = begun d in sound-reads (first-stand (c .n) (b .told))
 
 -- ---- a case with a proper grid is known by its answers
 
-out-high : (n s i : ℕ) → n ≤ 64 → Within n s → 64 < i → Out s i
+out-high : (n s i : ℕ) → n ≤ mostBuses → Within n s → mostBuses < i → Out s i
 out-high n s i l w h = out-of s i (λ p. let b = w i p in omega (arith, b .most))
 
-set-known : (n v w : ℕ) → n ≤ 64 → Within n (setOf v) → Within n (setOf w) → ((k : ℕ) → IsBus width k → bit (setOf v) k ≡ bit (setOf w) k)
+set-known : (n v w : ℕ) → n ≤ mostBuses → Within n (setOf v) → Within n (setOf w) → ((k : ℕ) → IsBus width k → bit (setOf v) k ≡ bit (setOf w) k)
     → v ≡ w
 set-known n v w l a b e = set-inj v w (ext (setOf v) (setOf w) at)
   where
@@ -144,15 +146,15 @@ set-known n v w l a b e = set-inj v w (ext (setOf v) (setOf w) at)
     at zero = set-zero v ∙ sym (set-zero w)
     at (suc i) =
         ⊎-elim
-        (λ (h : 64 < suc i). out-high n (setOf v) (suc i) l a h ∙ sym (out-high n (setOf w) (suc i) l b h))
-        (λ (h : suc i ≤ 64). e (suc i) (record { some = omega arith; most = h }))
-        (below-or 64 (suc i))
+        (λ (h : mostBuses < suc i). out-high n (setOf v) (suc i) l a h ∙ sym (out-high n (setOf w) (suc i) l b h))
+        (λ (h : suc i ≤ mostBuses). e (suc i) (record { some = omega arith; most = h }))
+        (below-or mostBuses (suc i))
 
 -- the neighbours of a bus are buses
-row-within : (n : ℕ) (rows : List ℕ) → Lines n (neighbours rows) → (i : ℕ) → Within n (neighbours rows i)
+row-within : (n : ℕ) (rows : Rows) → Lines n (neighbours rows) → (i : ℕ) → Within n (neighbours rows i)
 row-within n rows lines i j h = lines i j h .to
 
-module _ (c d : Case) (l : c .n ≤ 64) (same : c .n ≡ d .n) (x : Sound c) (y : Sound d)
+module _ (c d : Case) (l : c .n ≤ mostBuses) (same : c .n ≡ d .n) (x : Sound c) (y : Sound d)
     (e : (q : Ask) → AskInRange q → answer c q ≡ answer d q) where
   second : (s : ℕ) → Within (d .n) s → Within (c .n) s
   second s w i p = subst⁻¹ (λ (n : ℕ). IsBus n i) same (w i p)
@@ -169,10 +171,10 @@ module _ (c d : Case) (l : c .n ≤ 64) (same : c .n ≡ d .n) (x : Sound c) (y 
       (same-or j i))
       (below-or i j)
 
-  row-known : (i : ℕ) → i < 64 → getD (c .nbr) i 0 ≡ getD (d .nbr) i 0
+  row-known : (i : ℕ) → i < mostBuses → getD (c .nbr) i emptyWord ≡ getD (d .nbr) i emptyWord
   unfolding neighbours
   row-known i h =
-      set-known (c .n) (getD (c .nbr) i 0) (getD (d .nbr) i 0) l (row-within _ (c .nbr) (x .proper .lines) (suc i))
+      set-known (c .n) (getD (c .nbr) i emptyWord) (getD (d .nbr) i emptyWord) l (row-within _ (c .nbr) (x .proper .lines) (suc i))
       (second _ (row-within _ (d .nbr) (y .proper .lines) (suc i)))
       (λ k b. pair-known (suc i) k (record { some = omega arith; most = omega arith }) b)
 
@@ -184,5 +186,6 @@ module _ (c d : Case) (l : c .n ≤ 64) (same : c .n ≡ d .n) (x : Sound c) (y 
       (λ k b. e (siteAt k) b) in
       let u : c .units ≡ d .units = set-known (c .n) (c .units) (d .units) l (x .proper .units) (second _ (y .proper .units))
       (λ k b. e (unitAt k) b) in
-      let r : c .nbr ≡ d .nbr = ext-getD 0 (c .nbr) (d .nbr) (x .rows ∙ sym (y .rows)) (λ i h. row-known i (omega (arith, x .rows))) in
+      let r : c .nbr ≡ d .nbr = ext-getD emptyWord (c .nbr) (d .nbr) (x .sized .rows ∙ sym (y .sized .rows))
+      (λ i h. row-known i (omega (arith, x .sized .rows))) in
       λ i. record { n = same i; nbr = r i; zero = z i; site = s i; units = u i }

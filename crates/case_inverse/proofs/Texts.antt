@@ -6,11 +6,14 @@ use Prim.Native.Nat.{ℕ, suc, zero, _+_, _-_, _≤_}
 use native.Mathlib.Omega.{arith}
 use borrow.Author.Tests.{le-ltb}
 use lib.Dec.{ltb}
-use lib.ListN.{length, getD, replicate, length-replicate}
+use lib.ListN.{length, getD, replicate}
 use Rattle.busset.specs.Sets.{bit, setOf}
+use Rattle.busset.specs.Held.{SetWord, emptyWord}
 use Rattle.busset.proofs.Digits.{bit-zero}
 use Rattle.busset.proofs.Words.{set-empty}
+use Rattle.grid.specs.Limits.{mostBuses, mostBytes}
 use Rattle.grid.specs.Rows.{neighbours, noRows}
+use Rattle.grid.proofs.Rows.{no-rows-length}
 use Rattle.text_field.proofs.Tested.{both}
 use Rattle.text_field.specs.Split.{split}
 use Rattle.text_field.proofs.Cutting.{join-split}
@@ -27,6 +30,7 @@ use Rattle.refusals.specs.declared.Refusal.the-variants.{TextTooLong}
 use Rattle.case_judge.proofs.Judged.{accepted-of, last-place, inside, not-one}
 use Rattle.case_inverse.proofs.Grammars.{not-got, reads-read, read-reads}
 use Rattle.case_inverse.proofs.Places.{Ask, place, answer, same-n}
+use Rattle.case_inverse.proofs.Spots.{busPlace, bus-line, bus-unit}
 use Rattle.case_inverse.proofs.Places.Ask.{zeroAt, siteAt, unitAt, lineAt}
 use Rattle.case_inverse.proofs.Unique.{Stand, stepped, unique}
 
@@ -35,30 +39,30 @@ use Rattle.case_inverse.proofs.Unique.{Stand, stepped, unique}
 -- a text is read as c exactly when the grammar has it
 pub reads-of : (x : List ℕ) (c : Case) → readCase x ≡ got c → ReadsAs start x c
 unfolding readCase readText
-reads-of x c e = go (ltb 8192 (length x)) e
+reads-of x c e = go (ltb mostBytes (length x)) e
   where
     go : (b : Bool) → cond b (refused TextTooLong) (readLines start 1 (split 10 x .first) (split 10 x .rest)) ≡ got c → ReadsAs start x c
     go true e = absurd (not-got c e)
     go false e = subst (λ (y : List ℕ). ReadsAs start y c) (join-split 10 x) (read-reads (split 10 x .rest) start 1 (split 10 x .first) c e)
 
-pub of-reads : (x : List ℕ) (c : Case) → length x ≤ 8192 → ReadsAs start x c → readCase x ≡ got c
+pub of-reads : (x : List ℕ) (c : Case) → length x ≤ mostBytes → ReadsAs start x c → readCase x ≡ got c
 unfolding readCase readText
-of-reads x c h d = rw (le-ltb 8192 (length x) h) (reads-read start x c 1 (omega arith) d)
+of-reads x c h d = rw (le-ltb mostBytes (length x) h) (reads-read start x c 1 (omega arith) d)
 
 -- ---- the first line
 
-pub zeros : (k i : ℕ) → _≡_ {A = ℕ} (getD (replicate k 0) i 0) 0
+pub zeros : (k i : ℕ) → getD (replicate k emptyWord) i emptyWord ≡ emptyWord
 zeros zero i = refl
 zeros (suc k) zero = refl
 zeros (suc k) (suc i) = zeros k i
 
-pub no-bus : (k : ℕ) → bit (setOf 0) k ≡ 0
+pub no-bus : (k : ℕ) → bit (setOf emptyWord) k ≡ 0
 no-bus k = ap (λ (s : ℕ). bit s k) set-empty ∙ bit-zero k
 
 pub no-line : (i j : ℕ) → bit (neighbours noRows i) j ≡ 0
 unfolding neighbours
 no-line zero j = no-bus j
-no-line (suc i) j = ap (λ (x : ℕ). bit (setOf x) j) (zeros 64 i) ∙ no-bus j
+no-line (suc i) j = ap (λ (w : SetWord). bit (setOf w) j) (zeros mostBuses i) ∙ no-bus j
 
 pub empty-answer : (n : ℕ) (q : Ask) → answer (caseSoFar (nextReader start (Grid n))) q ≡ 0
 empty-answer n (zeroAt k) = no-bus k
@@ -66,17 +70,17 @@ empty-answer n (siteAt k) = no-bus k
 empty-answer n (unitAt k) = no-bus k
 empty-answer n (lineAt i j) = no-line i j
 
-pub first-stand : (n : ℕ) → judged (start .place) (Grid n) ≡ Next → Stand (nextReader start (Grid n)) 0
+pub first-stand : (n : ℕ) → judged (start .place) (Grid n) ≡ Next → Stand (nextReader start (Grid n)) (busPlace 0)
 first-stand n e =
-    let b = inside 64 n (accepted-of (start .place) (Grid n) e .range) in
+    let b = inside mostBuses n (accepted-of (start .place) (Grid n) e .range) in
     record {
       at = record {
         small = b .most;
         low = omega arith;
-        rows = length-replicate {A = ℕ} 64 0;
+        sized = record { rows = no-rows-length };
         to-bus = λ h. omega arith;
-        to-line = λ h. omega arith;
-        to-unit = omega arith;
+        to-line = λ h. omega (arith, bus-line 0 0 0 (omega arith));
+        to-unit = omega (arith, bus-unit 0 0 (omega arith));
         fresh = λ q h l. empty-answer n q;
       };
       grid = b .some;

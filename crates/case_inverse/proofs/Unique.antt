@@ -18,9 +18,11 @@ use Rattle.case_inverse.specs.Grammar.ReadsAs.{ends, goes}
 use Rattle.grid.specs.declared.Case.{Case}
 use Rattle.case_judge.specs.declared.Place.{Place}
 use Rattle.case_judge.specs.declared.Judgement.the-variants.{Next, Last}
+use Rattle.case_build.proofs.Joined.{line-here}
 use Rattle.case_judge.proofs.Judged.{accepted-of, goes-of, last-place, not-one}
 use Rattle.case_inverse.proofs.Places.{Ask, AskInRange, place, recordPlace, answer, Facts, facts, At}
-use Rattle.case_inverse.proofs.Places.{beyond, unchanged, stands, more-buses, past-buses, line-here}
+use Rattle.case_inverse.proofs.Places.{pair-unit, beyond, unchanged, stands, more-buses, past-buses}
+use Rattle.case_inverse.proofs.Spots.{busPlace, line-same, unit-same}
 use Rattle.case_inverse.proofs.Places.Ask.{zeroAt, siteAt, unitAt, lineAt}
 
 -- a reader that has read `grid` and stands at p
@@ -34,7 +36,7 @@ pub record Stepped (s : Reader) (p : ℕ) (r : Record) : Type 0 where
   pub over : p < recordPlace r
   pub on : Stand (nextReader s r) (recordPlace r)
 
-not-end : (s : Place) (r : Record) → judged s r ≡ Next → r ≡ End → ⊥
+pub not-end : (s : Place) (r : Record) → judged s r ≡ Next → r ≡ End → ⊥
 not-end s r e f = not-one (cc (goes-of s r e, ap nextOrLast f))
 
 pub stepped : {s : Reader} {p : ℕ} (r : Record) → Stand s p → judged (s .place) r ≡ Next → Stepped s p r
@@ -54,7 +56,7 @@ pub settled : {s : Reader} {p : ℕ} {x : List ℕ} {c : Case} → Stand s p →
 settled {s} {p} t (ends e) q h l = refl
 settled {s} {p} t (goes r e d) q h l =
     let u = stepped r t e in
-    settled (u .on) d q h (omega (arith, u .over)) ∙ unchanged s r q (t .at .rows) (t .grid) (u .fact) h (λ z. omega (arith, u .over))
+    settled (u .on) d q h (omega (arith, u .over)) ∙ unchanged s r q (t .at .sized) (t .grid) (u .fact) h (λ z. omega (arith, u .over))
 
 -- ---- the next record is determined by the case
 
@@ -67,7 +69,7 @@ missed {s} {p} {c} r r′ q t u v m m′ h e one l =
       arith,
       m q h (omega arith),
       m′ q h (omega arith),
-      unchanged s r′ q (t .at .rows) (t .grid) (v .fact) h (λ z. omega arith),
+      unchanged s r′ q (t .at .sized) (t .grid) (v .fact) h (λ z. omega arith),
       t .at .fresh q h (omega (arith, u .over)),
       one,
     )
@@ -78,9 +80,14 @@ flags true false e = absurd (omega arith)
 flags false true e = absurd (omega arith)
 flags false false e = refl
 
+not-apart : {m n : ℕ} → (m < n → ⊥) → (n < m → ⊥) → m ≡ n
+not-apart {m} {n} f g =
+    ⊎-elim (λ (l : m < n). absurd (f l)) (λ (l : n ≤ m). ⊎-elim (λ (k : n < m). absurd (g k)) (λ (k : m ≤ n). omega arith) (below-or n m))
+    (below-or m n)
+
 module _ {s : Reader} {p : ℕ} {c : Case} (t : Stand s p) where
   buses : (k j : ℕ) (z o y w : Bool) → Stepped s p (Bus k z o) → Stepped s p (Bus j y w) →
-      Settled c (nextReader s (Bus k z o)) k → Settled c (nextReader s (Bus j y w)) j → Bus k z o ≡ Bus j y w
+      Settled c (nextReader s (Bus k z o)) (busPlace k) → Settled c (nextReader s (Bus j y w)) (busPlace j) → Bus k z o ≡ Bus j y w
   buses k j z o y w u v m n =
       let e : k ≡ j = omega (arith, u .fact .next, v .fact .next) in
       let hk = u .fact .bus in
@@ -100,7 +107,7 @@ module _ {s : Reader} {p : ℕ} {c : Case} (t : Stand s p) where
       → Settled c (nextReader s r) (recordPlace r)
       → recordPlace (Line a b) < recordPlace r → ⊥
   line-missed a b r u v m n l =
-      missed {c = c} (Line a b) r (lineAt a b) t u v m n (u .fact .pair) refl (line-here (s .rows) a b (t .at .rows) (u .fact .pair)) l
+      missed {c = c} (Line a b) r (lineAt a b) t u v m n (u .fact .pair) refl (line-here (s .rows) a b (t .at .sized .rows) (u .fact .pair)) l
 
   unit-missed : (k : ℕ) (r : Record) → Stepped s p (Pmu k) → Stepped s p r → Settled c (nextReader s (Pmu k)) (recordPlace (Pmu k))
       → Settled c (nextReader s r) (recordPlace r)
@@ -112,29 +119,19 @@ module _ {s : Reader} {p : ℕ} {c : Case} (t : Stand s p) where
       → Settled c (nextReader s (Line i j)) (recordPlace (Line i j))
       → Line a b ≡ Line i j
   lines a b i j u v m n =
-      let low : recordPlace (Line i j) ≤ recordPlace (Line a b) =
-      ⊎-elim (λ (l : recordPlace (Line a b) < recordPlace (Line i j)). absurd (line-missed a b (Line i j) u v m n l))
-      (λ (l : recordPlace (Line i j) ≤ recordPlace (Line a b)). l) (below-or (recordPlace (Line a b)) (recordPlace (Line i j))) in
-      let high : recordPlace (Line a b) ≤ recordPlace (Line i j) =
-      ⊎-elim (λ (l : recordPlace (Line i j) < recordPlace (Line a b)). absurd (line-missed i j (Line a b) v u n m l))
-      (λ (l : recordPlace (Line a b) ≤ recordPlace (Line i j)). l) (below-or (recordPlace (Line i j)) (recordPlace (Line a b))) in
+      let e = not-apart (line-missed a b (Line i j) u v m n) (line-missed i j (Line a b) v u n m) in
       let hu = u .fact .pair .high in
       let hv = v .fact .pair .high in
-      let e : a ≡ i = omega arith in
-      let f : b ≡ j = omega arith in
-      cc (e, f)
+      let f = line-same a b i j (omega arith) (omega arith) e in
+      cc (f .0, f .1)
 
   units : (k j : ℕ) → Stepped s p (Pmu k) → Stepped s p (Pmu j) → Settled c (nextReader s (Pmu k)) (recordPlace (Pmu k))
       → Settled c (nextReader s (Pmu j)) (recordPlace (Pmu j)) → Pmu k ≡ Pmu j
   units k j u v m n =
-      let low : recordPlace (Pmu j) ≤ recordPlace (Pmu k) =
-      ⊎-elim (λ (l : recordPlace (Pmu k) < recordPlace (Pmu j)). absurd (unit-missed k (Pmu j) u v m n l))
-      (λ (l : recordPlace (Pmu j) ≤ recordPlace (Pmu k)). l) (below-or (recordPlace (Pmu k)) (recordPlace (Pmu j))) in
-      let high : recordPlace (Pmu k) ≤ recordPlace (Pmu j) =
-      ⊎-elim (λ (l : recordPlace (Pmu j) < recordPlace (Pmu k)). absurd (unit-missed j (Pmu k) v u n m l))
-      (λ (l : recordPlace (Pmu k) ≤ recordPlace (Pmu j)). l) (below-or (recordPlace (Pmu j)) (recordPlace (Pmu k))) in
-      let e : k ≡ j = omega arith in
-      ap Pmu e
+      let e = not-apart (unit-missed k (Pmu j) u v m n) (unit-missed j (Pmu k) v u n m) in
+      let hu = u .fact .bus .most in
+      let hv = v .fact .bus .most in
+      ap Pmu (unit-same k j (omega arith) (omega arith) e)
 
   same-record : (r r′ : Record) → judged (s .place) r ≡ Next → judged (s .place) r′ ≡ Next → Stepped s p r → Stepped s p r′
       → Settled c (nextReader s r) (recordPlace r) → Settled c (nextReader s r′) (recordPlace r′) → r ≡ r′
@@ -149,13 +146,13 @@ module _ {s : Reader} {p : ℕ} {c : Case} (t : Stand s p) where
   same-record (Line a b) (Bus j y w) d e u v m n = absurd (omega (arith, u .fact .past, v .fact .more))
   same-record (Line a b) (Line i j) d e u v m n = lines a b i j u v m n
   same-record (Line a b) (Pmu j) d e u v m n =
-      absurd (line-missed a b (Pmu j) u v m n (omega (arith, u .fact .pair .less, u .fact .pair .high)))
+      absurd (line-missed a b (Pmu j) u v m n (pair-unit a b j (u .fact .pair)))
   same-record (Line a b) End d e u v m n = absurd (not-end (s .place) End e refl)
   same-record (Line a b) Wrong d e u v m n = absurd (v .fact)
   same-record (Pmu k) (Grid n) d e u v m n′ = absurd (omega (arith, v .fact, t .grid))
   same-record (Pmu k) (Bus j y w) d e u v m n = absurd (omega (arith, u .fact .past, v .fact .more))
   same-record (Pmu k) (Line i j) d e u v m n =
-      absurd (line-missed i j (Pmu k) v u n m (omega (arith, v .fact .pair .less, v .fact .pair .high)))
+      absurd (line-missed i j (Pmu k) v u n m (pair-unit i j k (v .fact .pair)))
   same-record (Pmu k) (Pmu j) d e u v m n = units k j u v m n
   same-record (Pmu k) End d e u v m n = absurd (not-end (s .place) End e refl)
   same-record (Pmu k) Wrong d e u v m n = absurd (v .fact)
@@ -172,7 +169,7 @@ module _ {s : Reader} {p : ℕ} {c : Case} (t : Stand s p) where
       omega (
         arith,
         m (lineAt a b) y (omega arith),
-        line-here (s .rows) a b (t .at .rows) y,
+        line-here (s .rows) a b (t .at .sized .rows) y,
         t .at .fresh (lineAt a b) y (u .over),
         ap (λ (x : Case). answer x (lineAt a b)) e,
       )

@@ -1,5 +1,5 @@
 -- What is written is read: the writer goes through the places in order, and the reader accepts each record.
-use mathlib.Core.Path.{_≡_, refl, sym, ap, ap₂, _∙_, subst, subst⁻¹}
+use mathlib.Core.Path.{_≡_, refl, sym, _∙_, subst, subst⁻¹}
 use mathlib.Core.Bool.{Bool, true, false, cond}
 use mathlib.Core.List.{List, [], _∷_, _++_}
 use mathlib.Core.Logic.{_⊎_, ⊎-elim}
@@ -8,10 +8,12 @@ use native.Mathlib.Omega.{arith}
 use borrow.Author.Tests.{lt-ltb, le-ltb, le-leb, eq-eqb, eqb-true, eqb-false}
 use lib.ListN.{length}
 use Rattle.busset.specs.Sets.{bit, setOf, width, Bus as IsBus}
-use Rattle.busset.specs.Held.{hold, holdIf}
+use Rattle.busset.specs.Held.{holdIf}
 use Rattle.basics.proofs.Tests.{below-or, same-or}
 use Rattle.busset.proofs.Holding.{hold-here, if-here}
+use Rattle.grid.specs.Limits.{mostBuses, mostLines}
 use Rattle.grid.specs.Rows.{neighbours}
+use Rattle.grid.specs.Cases.{Sized}
 use Rattle.case_judge.specs.declared.Place.{Place}
 use Rattle.case_line.specs.declared.Record.{Record}
 use Rattle.case_line.specs.declared.Record.the-variants.{Grid, Line, Pmu, End}
@@ -21,10 +23,12 @@ use Rattle.case_inverse.specs.Grammar.{ReadsAs}
 use Rattle.case_inverse.specs.Grammar.ReadsAs.{ends, goes}
 use Rattle.case_line.specs.CaseText.{has, busRecord, busRecords, members, lineRecords, linesText, records}
 use Rattle.grid.specs.declared.Case.{Case}
+use Rattle.case_build.proofs.Joined.{joined, Pair, line-here}
 use Rattle.case_judge.specs.declared.Judgement.the-variants.{Next}
 use Rattle.case_judge.proofs.Judged.{accept}
-use Rattle.case_inverse.proofs.Places.{lineNumber, linePlace, unitPlace, Pair, Ask, AskInRange}
-use Rattle.case_inverse.proofs.Places.{place, recordPlace, joined, answer, unchanged, line-here}
+use Rattle.case_inverse.proofs.Spots.{next-spot, busPlace, linePlace, unitPlace, lastPlace, bus-rises, line-rises, row-rises, unit-rises}
+use Rattle.case_inverse.proofs.Spots.{bus-line, bus-unit, line-unit, unit-last, bus-below, line-most, line-below, unit-below}
+use Rattle.case_inverse.proofs.Places.{Ask, AskInRange, place, recordPlace, answer, unchanged, pair-unit, all-below, at-bus, at-line, at-unit}
 use Rattle.case_inverse.proofs.Places.Ask.{zeroAt, siteAt, unitAt, lineAt}
 use Rattle.case_inverse.proofs.Unique.{Stand, stepped}
 use Rattle.case_inverse.proofs.Texts.{first-stand}
@@ -58,12 +62,12 @@ skip {c} {s} {p} {w} v l u z =
           (below-or (place q) w);
     }
 
--- a record whose answers are the case's
-pub take-next : {c : Case} {s : Reader} {p : ℕ} (r : Record) → Upto c s p (recordPlace r) → judged (s .place) r ≡ Next
-    → nextReader s r .place .n ≡ s .place .n
+-- a record whose answers are the case's, up to the place after its own
+pub take-next : {c : Case} {s : Reader} {p : ℕ} (r : Record) (v : ℕ) → recordPlace r + 1 ≡ v → Upto c s p (recordPlace r)
+    → judged (s .place) r ≡ Next → nextReader s r .place .n ≡ s .place .n
     → ((q : Ask) → AskInRange q → place q ≡ recordPlace r → answer c q ≡ answer (caseSoFar (nextReader s r)) q)
-    → Upto c (nextReader s r) (recordPlace r) (recordPlace r + 1)
-take-next {c} {s} {p} r u e m a =
+    → Upto c (nextReader s r) (recordPlace r) v
+take-next {c} {s} {p} r v z u e m a =
     let t = stepped r (u .stand) e in
     record {
       stand = t .on;
@@ -73,7 +77,7 @@ take-next {c} {s} {p} r u e m a =
           (λ (b : place q ≡ recordPlace r). a q h b)
           (λ (d : place q ≡ recordPlace r → ⊥).
           let l : place q < recordPlace r = omega arith in
-          u .agree q h l ∙ sym (unchanged s r q (u .stand .at .rows) (u .stand .grid) (t .fact) h d))
+          u .agree q h l ∙ sym (unchanged s r q (u .stand .at .sized) (u .stand .grid) (t .fact) h d))
           (same-or (place q) (recordPlace r));
     }
 
@@ -90,13 +94,7 @@ read-on : {c : Case} {s : Reader} (r : Record) {rs : List Record} → judged (s 
 unfolding linesText
 read-on r e t = record { case′ = t .case′; reads = goes r e (t .reads); size = t .size; agree = t .agree }
 
-all-below : (q : Ask) → AskInRange q → place q < unitPlace 65
-all-below (zeroAt k) h = omega (arith, h .most)
-all-below (siteAt k) h = omega (arith, h .most)
-all-below (unitAt k) h = omega (arith, h .most)
-all-below (lineAt i j) h = omega (arith, h .less, h .high)
-
-read-end : {c : Case} {s : Reader} {p : ℕ} → Upto c s p (unitPlace 65) → s .place .n ≤ s .place .bus → Readable c s (End ∷ [])
+read-end : {c : Case} {s : Reader} {p : ℕ} → Upto c s p lastPlace → s .place .n ≤ s .place .bus → Readable c s (End ∷ [])
 unfolding linesText
 read-end {c} {s} u l =
     record {
@@ -118,24 +116,15 @@ abbrev busOf : Case → ℕ → Record
 busOf c k = busRecord (setOf (c .zero)) (setOf (c .site)) k
 
 -- the answers at a bus's place are its class and its site
-bus-answer : (c : Case) (s : Reader) (p k : ℕ) → Upto c s p k → IsBus width k → (q : Ask) → AskInRange q → place q ≡ k →
-    answer c q ≡ answer (caseSoFar (nextReader s (busOf c k))) q
-bus-answer c s p k u b (zeroAt j) h e =
-    let f : j ≡ k = e in
-    let t = has (setOf (c .zero)) k in
-    ap (λ (x : ℕ). bit (setOf (c .zero)) x) f
-    ∙ sym (has-bit (setOf (c .zero)) k)
-    ∙ sym (if-here t (s .marks .zero) k (b .some) (u .stand .at .fresh (zeroAt k) b (u .low)))
-    ∙ ap (λ (x : ℕ). bit (setOf (holdIf t (s .marks .zero) k)) x) (sym f)
-bus-answer c s p k u b (siteAt j) h e =
-    let f : j ≡ k = e in
-    let t = has (setOf (c .site)) k in
-    ap (λ (x : ℕ). bit (setOf (c .site)) x) f
-    ∙ sym (has-bit (setOf (c .site)) k)
-    ∙ sym (if-here t (s .marks .site) k (b .some) (u .stand .at .fresh (siteAt k) b (u .low)))
-    ∙ ap (λ (x : ℕ). bit (setOf (holdIf t (s .marks .site) k)) x) (sym f)
-bus-answer c s p k u b (unitAt j) h e = let m = b .most in absurd (omega arith)
-bus-answer c s p k u b (lineAt i j) h e = let m = b .most in absurd (omega arith)
+bus-answer : (c : Case) (s : Reader) (p k : ℕ) → Upto c s p (busPlace k) → IsBus width k → (q : Ask) → AskInRange q → place q ≡ busPlace k
+    → answer c q ≡ answer (caseSoFar (nextReader s (busOf c k))) q
+bus-answer c s p k u b =
+    at-bus (λ (q : Ask). answer c q ≡ answer (caseSoFar (nextReader s (busOf c k))) q) k b
+    (marked (s .marks .zero) (setOf (c .zero)) (u .stand .at .fresh (zeroAt k) b (u .low)))
+    (marked (s .marks .site) (setOf (c .site)) (u .stand .at .fresh (siteAt k) b (u .low)))
+  where
+    marked : (w v : ℕ) → bit (setOf w) k ≡ 0 → bit v k ≡ bit (setOf (holdIf (has v k) w k)) k
+    marked w v e = sym (has-bit v k) ∙ sym (if-here (has v k) w k (b .some) e)
 
 -- no line and no unit has been read
 pub record Early (s : Reader) : Type 0 where
@@ -144,58 +133,60 @@ pub record Early (s : Reader) : Type 0 where
   pub b : s .place .b ≡ 0
   pub lines : s .place .lines ≡ 0
 
-pub read-buses : (c : Case) (rs : List Record) (m k : ℕ) (s : Reader) (p : ℕ) → Upto c s p k → k ≡ s .place .bus + 1 → k + m ≡ c .n + 1
+pub read-buses : (c : Case) (rs : List Record) (m k : ℕ) (s : Reader) (p : ℕ) → Upto c s p (busPlace k) → k ≡ s .place .bus + 1
+    → k + m ≡ c .n + 1
     → Early s
-    → ((t : Reader) (o : ℕ) → Upto c t o (c .n + 1) → t .place .bus ≡ c .n → Early t → Readable c t rs) →
+    → ((t : Reader) (o : ℕ) → Upto c t o (busPlace (c .n + 1)) → t .place .bus ≡ c .n → Early t → Readable c t rs) →
     Readable c s (busRecords (setOf (c .zero)) (setOf (c .site)) k m ++ rs)
 unfolding busRecords
 read-buses c rs zero k s p u b l z on =
     let e : k ≡ c .n + 1 = omega arith in
-    on s p (subst (λ (w : ℕ). Upto c s p w) e u) (omega arith) z
+    on s p (subst (λ (w : ℕ). Upto c s p (busPlace w)) e u) (omega arith) z
 read-buses c rs (suc m) k s p u b l z on =
     let r = busOf c k in
     let n = u .size in
     let h : 1 ≤ k = omega arith in
     let i : k ≤ s .place .n = omega arith in
-    let j : k ≤ 64 = omega (arith, u .stand .at .small) in
+    let j : k ≤ width = omega (arith, u .stand .at .small) in
     let e = accept (s .place) r (lt-ltb (s .place .bus) (s .place .n) (omega arith)) (inside (s .place .n) k h i)
     (eq-eqb k (s .place .bus + 1) b) in
     read-on r e
-    (read-buses c rs m (k + 1) (nextReader s r) k (take-next r u e refl (bus-answer c s p k u (record { some = h; most = j }))) refl
+    (read-buses c rs m (k + 1) (nextReader s r) (busPlace k)
+    (take-next r (busPlace (k + 1)) (next-spot _ _ _) u e refl (bus-answer c s p k u (record { some = h; most = j }))) refl
     (omega arith)
     (record { unit = z .unit; a = z .a; b = z .b; lines = z .lines }) on)
 
 -- the answer at a unit's place is whether it stands there
-unit-answer : (c : Case) (s : Reader) (k : ℕ) → has (setOf (c .units)) k ≡ true → 1 ≤ k → (q : Ask) → AskInRange q → place q ≡ unitPlace k →
-    answer c q ≡ answer (caseSoFar (nextReader s (Pmu k))) q
-unit-answer c s k t a (zeroAt j) h e = let m = h .most in absurd (omega arith)
-unit-answer c s k t a (siteAt j) h e = let m = h .most in absurd (omega arith)
-unit-answer c s k t a (unitAt j) h e =
-    let f : j ≡ k = omega arith in
-    ap (λ (x : ℕ). bit (setOf (c .units)) x) f ∙ eqb-true _ 1 t ∙ sym (hold-here (s .marks .units) k a)
-    ∙ ap (λ (x : ℕ). bit (setOf (hold (s .marks .units) k)) x) (sym f)
-unit-answer c s k t a (lineAt i j) h e = absurd (omega (arith, h .less, h .high))
+unit-answer : (c : Case) (s : Reader) (k : ℕ) → has (setOf (c .units)) k ≡ true → IsBus width k → (q : Ask) → AskInRange q
+    → place q ≡ unitPlace k
+    → answer c q ≡ answer (caseSoFar (nextReader s (Pmu k))) q
+unit-answer c s k t b =
+    at-unit (λ (q : Ask). answer c q ≡ answer (caseSoFar (nextReader s (Pmu k))) q) k b
+    (eqb-true _ 1 t ∙ sym (hold-here (s .marks .units) k (b .some)))
 
-unit-none : (c : Case) (k : ℕ) → has (setOf (c .units)) k ≡ false → (q : Ask) → AskInRange q → unitPlace k ≤ place q
-    → place q < unitPlace k + 1
+-- the next place is the next unit's
+unit-none : (c : Case) (k : ℕ) → has (setOf (c .units)) k ≡ false → IsBus width k → (q : Ask) → AskInRange q → unitPlace k ≤ place q
+    → place q < unitPlace (k + 1)
     → answer c q ≡ 0
-unit-none c k t (zeroAt j) h a b = let m = h .most in absurd (omega arith)
-unit-none c k t (siteAt j) h a b = let m = h .most in absurd (omega arith)
-unit-none c k t (unitAt j) h a b =
-    let f : j ≡ k = omega arith in
-    ap (λ (x : ℕ). bit (setOf (c .units)) x) f ∙ omega (arith, eqb-false (bit (setOf (c .units)) k) 1 t)
-unit-none c k t (lineAt i j) h a b = absurd (omega (arith, h .less, h .high))
+unit-none c k t b q h x y =
+    at-unit (λ (q : Ask). answer c q ≡ 0) k b (omega (arith, eqb-false (bit (setOf (c .units)) k) 1 t)) q h
+    (omega (arith, next-spot 2 0 k))
 
 unit-turn : (c : Case) (rs : List Record) (m k : ℕ) (s : Reader) (p : ℕ) (t : Bool) → has (setOf (c .units)) k ≡ t
     → Upto c s p (unitPlace k)
     → s .place .n ≤ s .place .bus → s .place .unit < k → 1 ≤ k → k ≤ s .place .n
-    → ((v : Reader) (o : ℕ) → Upto c v o (unitPlace k + 1) → v .place .n ≤ v .place .bus → v .place .unit < k + 1
+    → ((v : Reader) (o : ℕ) → Upto c v o (unitPlace (k + 1)) → v .place .n ≤ v .place .bus → v .place .unit < k + 1
     → Readable c v (members Pmu (setOf (c .units)) (k + 1) m ++ rs))
     → Readable c s (cond t (Pmu k ∷ members Pmu (setOf (c .units)) (k + 1) m) (members Pmu (setOf (c .units)) (k + 1) m) ++ rs)
 unit-turn c rs m k s p true t u l z h i on =
     let e = accept (s .place) (Pmu k) (past-is (s .place) (u .stand .grid) l) (inside (s .place .n) k h i) (lt-ltb (s .place .unit) k z) in
-    read-on (Pmu k) e (on (nextReader s (Pmu k)) (unitPlace k) (take-next (Pmu k) u e refl (unit-answer c s k t h)) l (omega arith))
-unit-turn c rs m k s p false t u l z h i on = on s p (skip (unitPlace k + 1) (omega arith) u (unit-none c k t)) l (omega arith)
+    let b : IsBus width k = record { some = h; most = omega (arith, u .stand .at .small) } in
+    read-on (Pmu k) e
+    (on (nextReader s (Pmu k)) (unitPlace k)
+    (take-next (Pmu k) (unitPlace (k + 1)) (next-spot _ _ _) u e refl (unit-answer c s k t b)) l (omega arith))
+unit-turn c rs m k s p false t u l z h i on =
+    let b : IsBus width k = record { some = h; most = omega (arith, u .stand .at .small) } in
+    on s p (skip (unitPlace (k + 1)) (omega (arith, unit-rises k (k + 1) (omega arith))) u (unit-none c k t b)) l (omega arith)
 
 pub read-units : (c : Case) (rs : List Record) (m k : ℕ) (s : Reader) (p : ℕ) → Upto c s p (unitPlace k) → s .place .n ≤ s .place .bus
     → s .place .unit < k → 1 ≤ k → k + m ≡ c .n + 1
@@ -203,58 +194,44 @@ pub read-units : (c : Case) (rs : List Record) (m k : ℕ) (s : Reader) (p : ℕ
     → Readable c s (members Pmu (setOf (c .units)) k m ++ rs)
 unfolding members
 read-units c rs zero k s p u l z h e on =
-    let f : unitPlace k ≡ unitPlace (c .n + 1) = omega arith in
-    on s p (subst (λ (w : ℕ). Upto c s p w) f u) l
+    let f : k ≡ c .n + 1 = omega arith in
+    on s p (subst (λ (w : ℕ). Upto c s p (unitPlace w)) f u) l
 read-units c rs (suc m) k s p u l z h e on =
     let n = u .size in
     unit-turn c rs m k s p (has (setOf (c .units)) k) refl u l z h (omega arith)
-    (λ v o w l′ z′. let f : unitPlace k + 1 ≡ unitPlace (k + 1) = omega arith in
-    read-units c rs m (k + 1) v o (subst (λ (x : ℕ). Upto c v o x) f w) l′ z′ (omega arith) (omega arith) on)
+    (λ v o w l′ z′. read-units c rs m (k + 1) v o w l′ z′ (omega arith) (omega arith) on)
 
 -- ---- lines
 
-above-is : (a b c d : ℕ) → b ≤ 64 → d ≤ 64 → lineNumber a b < lineNumber c d → isAfter a b c d ≡ true
+above-is : (a b c d : ℕ) → d ≤ mostBuses → linePlace a b < linePlace c d → isAfter a b c d ≡ true
 unfolding isAfter
-above-is a b c d h k l =
+above-is a b c d k l =
+    let t = line-below a b c d (omega arith) l in
     ⊎-elim
     (λ (s : a < c). rw (lt-ltb a c s))
-    (λ (s : c ≤ a). let e : a ≡ c = omega arith in rw (le-ltb a c s, eq-eqb a c e, lt-ltb b d (omega arith)))
+    (λ (s : c ≤ a). let e : a ≡ c = omega (arith, t .0) in rw (le-ltb a c s, eq-eqb a c e, lt-ltb b d (t .1 e)))
     (below-or a c)
 
-line-answer : (c : Case) (s : Reader) (a b : ℕ) → length (s .rows) ≡ 64 → Pair a b → has (neighbours (c .nbr) a) b ≡ true → (q : Ask)
+line-answer : (c : Case) (s : Reader) (a b : ℕ) → Sized (caseSoFar s) → Pair a b → has (neighbours (c .nbr) a) b ≡ true → (q : Ask)
     → AskInRange q → place q ≡ linePlace a b
     → answer c q ≡ answer (caseSoFar (nextReader s (Line a b))) q
-line-answer c s a b l y t (zeroAt j) h e = absurd (omega (arith, y .one))
-line-answer c s a b l y t (siteAt j) h e = absurd (omega (arith, y .one))
-line-answer c s a b l y t (unitAt j) h e = absurd (omega (arith, y .less, y .high))
-line-answer c s a b l y t (lineAt i j) h e =
-    let hh = h .high in
-    let yh = y .high in
-    let f : i ≡ a = omega arith in
-    let g : j ≡ b = omega arith in
-    ap₂ (λ (x z : ℕ). joined (c .nbr) x z) f g ∙ eqb-true _ 1 t ∙ sym (line-here (s .rows) a b l y)
-    ∙ ap₂ (λ (x z : ℕ). joined (nextReader s (Line a b) .rows) x z) (sym f) (sym g)
+line-answer c s a b l y t =
+    at-line (λ (q : Ask). answer c q ≡ answer (caseSoFar (nextReader s (Line a b))) q) a b y
+    (eqb-true _ 1 t ∙ sym (line-here (s .rows) a b (l .rows) y))
 
 line-none : (c : Case) (a b : ℕ) → Pair a b → has (neighbours (c .nbr) a) b ≡ false → (q : Ask) → AskInRange q
     → linePlace a b ≤ place q
     → place q < linePlace a (b + 1) → answer c q ≡ 0
-line-none c a b y t (zeroAt j) h k l = let m = h .most in absurd (omega arith)
-line-none c a b y t (siteAt j) h k l = let m = h .most in absurd (omega arith)
-line-none c a b y t (unitAt j) h k l = absurd (omega (arith, y .less, y .high))
-line-none c a b y t (lineAt i j) h k l =
-    let hh = h .high in
-    let yh = y .high in
-    let f : i ≡ a = omega arith in
-    let g : j ≡ b = omega arith in
-    ap₂ (λ (x z : ℕ). joined (c .nbr) x z) f g ∙ omega (arith, eqb-false (joined (c .nbr) a b) 1 t)
+line-none c a b y t q h k l =
+    at-line (λ (q : Ask). answer c q ≡ 0) a b y (omega (arith, eqb-false (joined (c .nbr) a b) 1 t)) q h (omega (arith, next-spot 1 a b))
 
 -- past the buses and before the units, below the line a b, with room for so many lines
 pub record Lining (c : Case) (s : Reader) (p a b left : ℕ) : Type 0 where
   pub upto : Upto c s p (linePlace a b)
   pub past : s .place .n ≤ s .place .bus
   pub none : s .place .unit ≡ 0
-  pub below : lineNumber (s .place .a) (s .place .b) < lineNumber a b
-  pub room : s .place .lines + left ≤ 256
+  pub below : linePlace (s .place .a) (s .place .b) < linePlace a b
+  pub room : s .place .lines + left ≤ mostLines
 
 line-turn : (c : Case) (ls rs : List Record) (a b : ℕ) (s : Reader) (p : ℕ) (t : Bool) → has (neighbours (c .nbr) a) b ≡ t → Pair a b
     → b ≤ c .n
@@ -269,23 +246,20 @@ line-turn c ls rs a b s p true t y l g on =
     let i : a ≤ s .place .n = omega arith in
     let j : b ≤ s .place .n = omega arith in
     let hb : 1 ≤ b = omega arith in
-    let lo = u .stand .at .low in
     let e = accept (s .place) (Line a b)
     (rw (past-is (s .place) (u .stand .grid) (g .past), eq-eqb (s .place .unit) 0 (g .none)))
-    (rw (inside (s .place .n) a yo i, inside (s .place .n) b hb j, lt-ltb (s .place .lines) 256 (omega (arith, g .room))))
-    (rw (lt-ltb a b yl, above-is (s .place .a) (s .place .b) a b lo (y .high) (g .below))) in
-    let f : linePlace a b + 1 ≡ linePlace a (b + 1) = omega arith in
+    (rw (inside (s .place .n) a yo i, inside (s .place .n) b hb j, lt-ltb (s .place .lines) mostLines (omega (arith, g .room))))
+    (rw (lt-ltb a b yl, above-is (s .place .a) (s .place .b) a b (y .high) (g .below))) in
     read-on (Line a b) e (on (nextReader s (Line a b)) (linePlace a b)
     (record {
-      upto =
-          subst (λ (w : ℕ). Upto c (nextReader s (Line a b)) (linePlace a b) w) f
-          (take-next (Line a b) u e refl (line-answer c s a b (u .stand .at .rows) y t));
+      upto = take-next (Line a b) (linePlace a (b + 1)) (next-spot _ _ _) u e refl (line-answer c s a b (u .stand .at .sized) y t);
       past = g .past;
       none = g .none;
-      below = omega arith;
+      below = line-rises a b (b + 1) (omega arith);
       room = omega (arith, g .room);
     }))
 line-turn c ls rs a b s p false t y l g on =
+    let r = line-rises a b (b + 1) (omega arith) in
     on s p
     (record {
       upto = skip (linePlace a (b + 1)) (omega arith) (g .upto) (line-none c a b y t);
@@ -300,7 +274,7 @@ row-push true r xs ls = refl
 row-push false r xs ls = refl
 
 -- one row
-read-row : (c : Case) (ls rs : List Record) (a m b : ℕ) (s : Reader) (p : ℕ) → 1 ≤ a → a < b → b + m ≡ c .n + 1 → c .n ≤ 64 →
+read-row : (c : Case) (ls rs : List Record) (a m b : ℕ) (s : Reader) (p : ℕ) → 1 ≤ a → a < b → b + m ≡ c .n + 1 → c .n ≤ mostBuses →
     Lining c s p a b (length (members (Line a) (neighbours (c .nbr) a) b m ++ ls)) →
     ((v : Reader) (o : ℕ) → Lining c v o a (c .n + 1) (length ls) → Readable c v (ls ++ rs)) →
     Readable c s ((members (Line a) (neighbours (c .nbr) a) b m ++ ls) ++ rs)
@@ -326,20 +300,29 @@ Above n (siteAt k) = n < k
 Above n (unitAt k) = n < k
 Above n (lineAt i j) = n < j
 
--- 1 to 64 buses, at most 256 lines, and nothing at a bus above n
+-- 1 to the most buses, at most the most lines, and nothing at a bus above n
 pub record Writable (c : Case) : Type 0 where
   pub one : 1 ≤ c .n
-  pub most : c .n ≤ 64
-  pub few : length (lineRecords (neighbours (c .nbr)) 1 (c .n)) ≤ 256
+  pub most : c .n ≤ mostBuses
+  pub few : length (lineRecords (neighbours (c .nbr)) 1 (c .n)) ≤ mostLines
   pub above : (q : Ask) → AskInRange q → Above (c .n) q → answer c q ≡ 0
 
 -- the places after row a and before row a + 1
 row-gap : (c : Case) (a : ℕ) → Writable c → a ≤ c .n → (q : Ask) → AskInRange q → linePlace a (c .n + 1) ≤ place q
     → place q < linePlace (a + 1) (a + 1 + 1) → answer c q ≡ 0
-row-gap c a w l (zeroAt k) h x y = let m = h .most in absurd (omega arith)
-row-gap c a w l (siteAt k) h x y = let m = h .most in absurd (omega arith)
-row-gap c a w l (unitAt k) h x y = let m = w .most in absurd (omega arith)
-row-gap c a w l (lineAt i j) h x y = let m = w .most in let hl = h .less in let hh = h .high in w .above (lineAt i j) h (omega arith)
+row-gap c a w l (zeroAt k) h x y = absurd (omega (arith, bus-line k a (c .n + 1) (omega (arith, h .most))))
+row-gap c a w l (siteAt k) h x y = absurd (omega (arith, bus-line k a (c .n + 1) (omega (arith, h .most))))
+row-gap c a w l (unitAt k) h x y =
+    let m = w .most in absurd (omega (arith, line-unit (a + 1) (a + 1 + 1) k (omega arith) (omega arith)))
+row-gap c a w l (lineAt i j) h x y =
+    let m = w .most in
+    let hl = h .less in
+    let hh = h .high in
+    let from = line-most a (c .n + 1) i j (omega arith) x in
+    let to = line-below i j (a + 1) (a + 1 + 1) (omega arith) y in
+    w .above (lineAt i j) h
+    (⊎-elim (λ (e : a ≡ i). omega (arith, from .1 e)) (λ (d : a ≡ i → ⊥). absurd (omega (arith, from .0, to .0, to .1 (omega (arith, from .0, to .0)))))
+    (same-or a i))
 
 pub read-lines : (c : Case) (rs : List Record) → Writable c → (m a : ℕ) (s : Reader) (p : ℕ) → 1 ≤ a → a + m ≡ c .n + 1
     → Lining c s p a (a + 1) (length (lineRecords (neighbours (c .nbr)) a m))
@@ -351,6 +334,7 @@ read-lines c rs w zero a s p h e g on =
     on s p (subst (λ (x : ℕ). Lining c s p x (x + 1) 0) f g)
 read-lines c rs w (suc m) a s p h e g on =
     let k = w .most in
+    let rise = row-rises a (c .n + 1) (a + 1) (a + 1 + 1) (omega arith) (omega arith) in
     read-row c (lineRecords (neighbours (c .nbr)) (a + 1) m) rs a m (a + 1) s p h (omega arith) (omega arith) k g
     (λ v o r. read-lines c rs w m (a + 1) v o (omega arith) (omega arith)
     (record {
@@ -363,49 +347,59 @@ read-lines c rs w (suc m) a s p h e g on =
     on)
 
 -- the places between the buses and the lines, the lines and the units, and after the units
-bus-gap : (c : Case) → Writable c → (q : Ask) → AskInRange q → c .n + 1 ≤ place q → place q < linePlace 1 (1 + 1) → answer c q ≡ 0
-bus-gap c w (zeroAt k) h x y = w .above (zeroAt k) h (omega arith)
-bus-gap c w (siteAt k) h x y = w .above (siteAt k) h (omega arith)
-bus-gap c w (unitAt k) h x y = let m = h .most in absurd (omega arith)
-bus-gap c w (lineAt i j) h x y = let o = h .one in let l = h .less in absurd (omega arith)
+bus-gap : (c : Case) → Writable c → (q : Ask) → AskInRange q → busPlace (c .n + 1) ≤ place q → place q < linePlace 1 (1 + 1) → answer c q ≡ 0
+bus-gap c w (zeroAt k) h x y = w .above (zeroAt k) h (bus-below (c .n) k (omega (arith, h .most)) (omega (arith, bus-rises (c .n) (c .n + 1) (omega arith))))
+bus-gap c w (siteAt k) h x y = w .above (siteAt k) h (bus-below (c .n) k (omega (arith, h .most)) (omega (arith, bus-rises (c .n) (c .n + 1) (omega arith))))
+bus-gap c w (unitAt k) h x y = absurd (omega (arith, line-unit 1 (1 + 1) k (omega arith) (omega arith)))
+bus-gap c w (lineAt i j) h x y =
+    let o = h .one in
+    let l = h .less in
+    let to = line-below i j 1 (1 + 1) (omega arith) y in
+    absurd (omega (arith, to .0, to .1 (omega (arith, to .0))))
 
 line-gap : (c : Case) → Writable c → (q : Ask) → AskInRange q → linePlace (c .n + 1) (c .n + 1 + 1) ≤ place q → place q < unitPlace 1
     → answer c q ≡ 0
-line-gap c w (zeroAt k) h x y = let m = h .most in absurd (omega arith)
-line-gap c w (siteAt k) h x y = let m = h .most in absurd (omega arith)
-line-gap c w (unitAt k) h x y = let m = h .most in absurd (omega arith)
-line-gap c w (lineAt i j) h x y = let l = h .less in let k = h .high in w .above (lineAt i j) h (omega arith)
+line-gap c w (zeroAt k) h x y = absurd (omega (arith, bus-line k (c .n + 1) (c .n + 1 + 1) (omega (arith, h .most))))
+line-gap c w (siteAt k) h x y = absurd (omega (arith, bus-line k (c .n + 1) (c .n + 1 + 1) (omega (arith, h .most))))
+line-gap c w (unitAt k) h x y = absurd (omega (arith, h .some, unit-below k 1 (omega arith) y))
+line-gap c w (lineAt i j) h x y =
+    let l = h .less in
+    w .above (lineAt i j) h (omega (arith, line-most (c .n + 1) (c .n + 1 + 1) i j (omega (arith, h .high)) x .0))
 
-unit-gap : (c : Case) → Writable c → (q : Ask) → AskInRange q → unitPlace (c .n + 1) ≤ place q → place q < unitPlace 65 → answer c q ≡ 0
-unit-gap c w (zeroAt k) h x y = let m = h .most in absurd (omega arith)
-unit-gap c w (siteAt k) h x y = let m = h .most in absurd (omega arith)
-unit-gap c w (unitAt k) h x y = w .above (unitAt k) h (omega arith)
-unit-gap c w (lineAt i j) h x y = let l = h .less in let k = h .high in absurd (omega arith)
+unit-gap : (c : Case) → Writable c → (q : Ask) → AskInRange q → unitPlace (c .n + 1) ≤ place q → place q < lastPlace → answer c q ≡ 0
+unit-gap c w (zeroAt k) h x y = absurd (omega (arith, bus-unit k (c .n + 1) (omega (arith, h .most))))
+unit-gap c w (siteAt k) h x y = absurd (omega (arith, bus-unit k (c .n + 1) (omega (arith, h .most))))
+unit-gap c w (unitAt k) h x y = 
+    w .above (unitAt k) h (unit-below (c .n) k (omega (arith, h .most)) (omega (arith, unit-rises (c .n) (c .n + 1) (omega arith))))
+unit-gap c w (lineAt i j) h x y = absurd (omega (arith, pair-unit i j (c .n + 1) h))
 
-no-place : (c : Case) (n : ℕ) (q : Ask) → AskInRange q → place q < 1 → answer c q ≡ answer (caseSoFar (nextReader start (Grid n))) q
-no-place c n (zeroAt k) h l = let m = h .some in absurd (omega arith)
-no-place c n (siteAt k) h l = let m = h .some in absurd (omega arith)
-no-place c n (unitAt k) h l = absurd (omega arith)
-no-place c n (lineAt i j) h l = absurd (omega arith)
+no-place : (c : Case) (n : ℕ) (q : Ask) → AskInRange q → place q < busPlace 1 → answer c q ≡ answer (caseSoFar (nextReader start (Grid n))) q
+no-place c n (zeroAt k) h l = absurd (omega (arith, h .some, bus-below k 1 (omega arith) l))
+no-place c n (siteAt k) h l = absurd (omega (arith, h .some, bus-below k 1 (omega arith) l))
+no-place c n (unitAt k) h l = absurd (omega (arith, bus-unit 1 k (omega arith)))
+no-place c n (lineAt i j) h l = absurd (omega (arith, bus-line 1 i j (omega arith)))
 
 pub readable : (c : Case) → Writable c → Readable c start (records c)
 readable c w =
     let e : judged (start .place) (Grid (c .n)) ≡ Next =
-    accept (start .place) (Grid (c .n)) refl (inside 64 (c .n) (w .one) (w .most)) refl in
+    accept (start .place) (Grid (c .n)) refl (inside mostBuses (c .n) (w .one) (w .most)) refl in
     let k = w .most in
     read-on (Grid (c .n)) e
-    (read-buses c _ (c .n) 1 (nextReader start (Grid (c .n))) 0
-    (record { stand = first-stand (c .n) e; low = omega arith; size = refl; agree = no-place c (c .n) })
+    (read-buses c _ (c .n) 1 (nextReader start (Grid (c .n))) (busPlace 0)
+    (record { stand = first-stand (c .n) e; low = bus-rises 0 1 (omega arith); size = refl; agree = no-place c (c .n) })
     refl (omega arith) (record { unit = refl; a = refl; b = refl; lines = refl })
     (λ s p u b z. let n = u .size in
+    let first = bus-line (c .n + 1) 1 (1 + 1) (omega arith) in
     read-lines c _ w (c .n) 1 s p (omega arith) (omega arith)
     (record {
       upto = skip (linePlace 1 (1 + 1)) (omega arith) u (bus-gap c w);
       past = omega arith;
       none = z .unit;
-      below = omega (arith, z .a, z .b);
+      below = row-rises (s .place .a) (s .place .b) 1 (1 + 1) (omega (arith, z .a)) (omega (arith, z .b));
       room = omega (arith, w .few, z .lines);
     })
-    (λ t o g. read-units c _ (c .n) 1 t o (skip (unitPlace 1) (omega arith) (g .upto) (line-gap c w)) (g .past) (omega (arith, g .none))
+    (λ t o g. let next = line-unit (c .n + 1) (c .n + 1 + 1) 1 (omega arith) (omega arith) in
+    let last = unit-last (c .n + 1) (omega arith) in
+    read-units c _ (c .n) 1 t o (skip (unitPlace 1) (omega arith) (g .upto) (line-gap c w)) (g .past) (omega (arith, g .none))
     (omega arith) (omega arith)
-    (λ v r x l. read-end (skip (unitPlace 65) (omega arith) x (unit-gap c w)) l))))
+    (λ v r x l. read-end (skip lastPlace (omega arith) x (unit-gap c w)) l))))

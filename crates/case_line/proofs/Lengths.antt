@@ -1,11 +1,13 @@
 -- How long a record's text is.
 use mathlib.Core.Path.{_≡_, refl}
 use mathlib.Core.Bool.{Bool, true, false}
-use Prim.Native.Nat.{ℕ, _≤_}
+use Prim.Native.Nat.{ℕ, _+_, _*_, _≤_}
 use native.Mathlib.Omega.{arith}
 use lib.ListN.{length, length-append}
 use Rattle.text_field.specs.Split.{join}
+use Rattle.text_field.specs.Number.{mostDigits}
 use Rattle.text_field.proofs.Digits.{text-length}
+use Rattle.case_line.specs.Fields.{letterZ, letterI, letterY, letterN}
 use Rattle.case_line.specs.Record.{letterIf, recordText}
 use Rattle.case_line.specs.declared.Record.{Record}
 use Rattle.case_line.specs.declared.Record.the-variants.{Grid, Bus, Line, Pmu, End, Wrong}
@@ -14,10 +16,14 @@ pub letter-length : (t : Bool) (p q : ℕ) → length (letterIf t p q) ≡ 1
 letter-length true p q = refl
 letter-length false p q = refl
 
-pub record-length : (r : Record) → length (recordText r) ≤ 14
+-- no record is longer than this: `line`, two tabs and two numbers
+abbrev pub recordRoom : ℕ
+recordRoom = 6 + 2 * mostDigits
+
+pub record-length : (r : Record) → length (recordText r) ≤ recordRoom
 unfolding recordText join
 record-length (Grid n) = omega (arith, text-length n)
-record-length (Bus n z o) = simp length-append (omega (arith, text-length n, letter-length z 90 73, letter-length o 89 78))
+record-length (Bus n z o) = simp length-append (omega (arith, text-length n, letter-length z letterZ letterI, letter-length o letterY letterN))
 record-length (Line a b) = simp length-append (omega (arith, text-length a, text-length b))
 record-length (Pmu n) = omega (arith, text-length n)
 record-length End = omega arith

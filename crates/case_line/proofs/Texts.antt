@@ -40,16 +40,16 @@ word-free c End h = ((λ e. omega arith), ((λ e. omega arith), ((λ e. omega ar
 word-free c Wrong h = tt
 
 pub fields-free : (c : ℕ) (r : Record) → c < 48 → Formed r → AllFree c (fieldTexts r)
-fields-free c (Grid n) h f = (number-free c n h f, tt)
+fields-free c (Grid n) h f = (number-free c n h (omega arith), tt)
 fields-free c (Bus n z o) h f = (
-  number-free c n h f,
+  number-free c n h (omega arith),
   (
     letter-free c 90 73 z (λ e. omega arith) (λ e. omega arith),
     (letter-free c 89 78 o (λ e. omega arith) (λ e. omega arith), tt),
   ),
 )
-fields-free c (Line a b) h f = (number-free c a h (f .0), (number-free c b h (f .1), tt))
-fields-free c (Pmu n) h f = (number-free c n h f, tt)
+fields-free c (Line a b) h f = (number-free c a h (omega (arith, f .0)), (number-free c b h (omega (arith, f .1)), tt))
+fields-free c (Pmu n) h f = (number-free c n h (omega arith), tt)
 fields-free c End h f = tt
 fields-free c Wrong h f = tt
 

@@ -4,11 +4,12 @@ use mathlib.Core.List.{List, [], _∷_, _++_}
 use Prim.Native.Nat.{ℕ, zero, suc, _+_}
 use lib.Dec.{eqb}
 use Rattle.busset.specs.Sets.{bit, setOf}
+use Rattle.busset.specs.Held.{SetWord}
 use Rattle.text_field.specs.Split.{lineFeed}
 use Rattle.case_line.specs.Record.{recordText}
 use Rattle.case_line.specs.declared.Record.{Record}
 use Rattle.case_line.specs.declared.Record.the-variants.{Grid, Bus, Line, Pmu, End}
-use Rattle.grid.specs.Rows.{neighbours}
+use Rattle.grid.specs.Rows.{Rows, neighbours}
 use Rattle.grid.specs.declared.Case.{Case}
 
 -- bus k is in the set s
@@ -34,14 +35,18 @@ unfoldable pub lineRecords : (ℕ → ℕ) → ℕ → ℕ → List Record
 lineRecords nbr a zero = []
 lineRecords nbr a (suc m) = members (Line a) (nbr a) (a + 1) m ++ lineRecords nbr (a + 1) m
 
--- all in order
-abbrev pub records : Case → List Record
-records c =
-    Grid (c .n)
-    ∷ (busRecords (setOf (c .zero)) (setOf (c .site)) 1 (c .n)
-    ++ (lineRecords (neighbours (c .nbr)) 1 (c .n)
-    ++ (members Pmu (setOf (c .units)) 1 (c .n)
+-- all in order, of n buses with these rows, Z buses, Y sites and units
+abbrev pub recordsWith : ℕ → Rows → SetWord → SetWord → SetWord → List Record
+recordsWith n rows zeros sites units =
+    Grid n
+    ∷ (busRecords (setOf zeros) (setOf sites) 1 n
+    ++ (lineRecords (neighbours rows) 1 n
+    ++ (members Pmu (setOf units) 1 n
     ++ End ∷ [])))
+
+-- of a case
+abbrev pub records : Case → List Record
+records c = recordsWith (c .n) (c .nbr) (c .zero) (c .site) (c .units)
 
 -- each record ended by a line feed
 unfoldable pub linesText : List Record → List ℕ

@@ -3,7 +3,7 @@ use mathlib.Core.Bool.{Bool, cond}
 use mathlib.Core.List.{List, [], _∷_}
 use Prim.Native.Nat.{ℕ, _<_}
 use Rattle.text_field.specs.Split.{split, join, same, bytes, tab}
-use Rattle.text_field.specs.Number.{numeralOf, numberText}
+use Rattle.text_field.specs.Number.{mostRead, numeralOf, numberText}
 use Rattle.text_field.specs.declared.Numeral.{Numeral}
 use Rattle.text_field.specs.declared.Numeral.the-variants.{Is, Wrong as NoNumber}
 use Rattle.case_line.specs.Fields.{letterZ, letterI, letterY, letterN, classOf, ifNoField, oneNumber, oneSite}
@@ -105,11 +105,11 @@ fieldTexts Wrong = []
 unfoldable pub recordText : Record → List ℕ
 recordText r = join tab (wordText r) (fieldTexts r)
 
--- a record that has a text: its numbers have 1 to 4 digits
+-- a record that is read from a text: its numbers have 1 to 4 digits
 abbrev pub Formed : Record → Type 0
-Formed (Grid n) = n < 10000
-Formed (Bus n zero site) = n < 10000
-Formed (Line a b) = (a < 10000) × (b < 10000)
-Formed (Pmu n) = n < 10000
+Formed (Grid n) = n < mostRead
+Formed (Bus n zero site) = n < mostRead
+Formed (Line a b) = (a < mostRead) × (b < mostRead)
+Formed (Pmu n) = n < mostRead
 Formed End = Unit {0}
 Formed Wrong = ⊥

@@ -8,12 +8,12 @@ use lib.ListN.{length, length-append}
 use Rattle.grid.specs.Limits.{mostBuses}
 use Rattle.case_line.specs.declared.Record.{Record}
 use Rattle.case_line.specs.declared.Record.the-variants.{Line}
-use Rattle.case_line.proofs.Lengths.{record-length}
+use Rattle.case_line.proofs.Lengths.{recordRoom, record-length}
 use Rattle.case_line.specs.CaseText.{has, busRecords, members, lineRecords, linesText}
 
 -- no record is longer than this, with its line feed
 abbrev pub lineRoom : ℕ
-lineRoom = 15
+lineRoom = suc recordRoom
 
 -- nor are the lines of one bus than this
 abbrev pub rowRoom : ℕ

@@ -1,10 +1,11 @@
 -- What is printed into lent bytes: from a text put where there is room for it; and two replies that print what is asked are one.
 use mathlib.Core.Path.{_≡_, refl, sym, ap, _∙_}
 use mathlib.Core.List.{List, _++_}
-use Prim.Native.Nat.{ℕ, _≤_, _<_}
+use Prim.Native.Nat.{ℕ, _+_, _*_, _≤_, _<_}
 use native.Mathlib.Omega.{arith}
 use lib.ListN.{length, drop, length-append}
 use Rattle.text_field.specs.Split.{join}
+use Rattle.text_field.specs.Number.{mostDigits}
 use Rattle.text_field.proofs.Digits.{text-length}
 use Rattle.refusals.specs.Refusals.{numberOf, placeOf}
 use Rattle.refusals.specs.declared.Refusal.{Refusal}
@@ -88,7 +89,10 @@ printed-unique one lent (Refused r) (Refused s) left right p q =
     let g : left ≡ right = p .kept ∙ sym (q .kept) in
     λ i. record { reply = f i; left = g i }
 
--- how long a refusal's line is
-pub refused-length : (q : Refusal) → length (refusedText q) ≤ 18
+-- how long a refusal's line is: `refused`, two tabs, two numbers and a line feed
+abbrev pub refusedRoom : ℕ
+refusedRoom = 10 + 2 * mostDigits
+
+pub refused-length : (q : Refusal) → length (refusedText q) ≤ refusedRoom
 unfolding refusedText join
 refused-length q = simp length-append (omega (arith, text-length (numberOf q), text-length (placeOf q)))

@@ -3,12 +3,12 @@ use mathlib.Core.Path.{_≡_, refl, sym, ap, ap₂, _∙_}
 use mathlib.Core.Bool.{Bool, true, false, cond}
 use mathlib.Core.List.{List, [], _∷_, _++_, append-assoc, append-nil}
 use mathlib.Core.Logic.{_⊎_, inl, inr, ⊎-elim}
-use Prim.Native.Nat.{ℕ, suc, zero, _+_, _-_, _*_, _/_, _%_, _≤_, _<_}
+use Prim.Native.Nat.{ℕ, suc, zero, _+_, _-_, _*_, _/_, _%_, _^_, _≤_, _<_}
 use native.Mathlib.Omega.{arith}
 use borrow.Author.Tests.{le-leb, lt-ltb, le-ltb, ltb-true, ltb-false}
 use lib.Dec.{ltb}
 use lib.ListN.{length, length-append}
-use Rattle.text_field.specs.Number.{isDigit, takesDigit, numberFrom, numeralOf, digits, numberText}
+use Rattle.text_field.specs.Number.{mostRead, isDigit, takesDigit, numberFrom, numeralOf, mostDigits, mostPrinted, digits, numberText}
 use Rattle.text_field.specs.declared.Numeral.{Numeral}
 use Rattle.text_field.specs.declared.Numeral.the-variants.{Is, Wrong}
 use Rattle.text_field.proofs.Numbers.{Digit, DigitTaken, digit-of, taken-of}
@@ -20,7 +20,7 @@ digit-is {d} h = rw (le-leb 48 d (h .low), le-leb d 57 (h .high))
 
 takes-is : {v d : ℕ} → DigitTaken v d → takesDigit v d ≡ true
 unfolding takesDigit
-takes-is {v} {d} h = rw (digit-is (h .digit), lt-ltb 0 v (h .some), lt-ltb v 1000 (h .small))
+takes-is {v} {d} h = rw (digit-is (h .digit), lt-ltb 0 v (h .some), lt-ltb v (mostRead / 10) (h .small))
 
 -- the two ways a number's text is made
 digits-few : (k n : ℕ) → n < 10 → digits k n ≡ (48 + n) ∷ []
@@ -39,39 +39,32 @@ few-or-many n = go (ltb n 10) refl
     go true e = inl (ltb-true n 10 e)
     go false e = inr (ltb-false n 10 e)
 
--- what is shown of one digit, and of one digit more, holds of the numbers of up to four digits
-by-digits : (P : ℕ → Type 0) → ((n : ℕ) → n < 10 → P n) → ((n : ℕ) → 10 ≤ n → n < 10000 → P (n / 10) → P n) → (n : ℕ) → n < 10000 → P n
-by-digits P one more n h = below-10000 n h
+-- what is shown of one digit, and of one digit more, holds of the numbers that are written
+by-digits : (P : ℕ → Type 0) → ((n : ℕ) → n < 10 → P n) → ((n : ℕ) → 10 ≤ n → n < mostPrinted → P (n / 10) → P n) → (n : ℕ)
+    → n < mostPrinted → P n
+by-digits P one more n h = below (mostDigits - 1) n h h
   where
-    step : (b : ℕ) → b ≤ 1000 → ((n : ℕ) → n < b → P n) → (n : ℕ) → n < b * 10 → P n
-    step b l f n h =
-        ⊎-elim (λ (s : n < 10). one n s) (λ (m : 10 ≤ n). more n m (omega arith) (f (n / 10) (omega arith))) (few-or-many n)
+    below : (k n : ℕ) → n < 10 ^ suc k → n < mostPrinted → P n
+    below zero n l h = one n (omega arith)
+    below (suc k) n l h =
+        ⊎-elim (λ (s : n < 10). one n s) (λ (m : 10 ≤ n). more n m h (below k (n / 10) (omega arith) (omega arith))) (few-or-many n)
 
-    below-100 : (n : ℕ) → n < 100 → P n
-    below-100 = step 10 (omega arith) one
-
-    below-1000 : (n : ℕ) → n < 1000 → P n
-    below-1000 = step 100 (omega arith) below-100
-
-    below-10000 : (n : ℕ) → n < 10000 → P n
-    below-10000 = step 1000 (omega arith) below-1000
-
-fuel : (k b : ℕ) → ((m : ℕ) → m < b → digits k m ≡ digits (suc k) m) → (m : ℕ) → m < b * 10 → digits (suc k) m ≡ digits (suc (suc k)) m
-fuel k b f m h =
+-- a digit more than a number has changes nothing
+fuel : (k n : ℕ) → n < 10 ^ suc k → digits k n ≡ digits (suc k) n
+fuel zero n h = digits-few 0 n (omega arith) ∙ sym (digits-few 1 n (omega arith))
+fuel (suc k) n h =
     ⊎-elim
-    (λ (s : m < 10). digits-few (suc k) m s ∙ sym (digits-few (suc (suc k)) m s))
-    (λ (l : 10 ≤ m). digits-many k m l ∙ ap (λ (t : List ℕ). t ++ (48 + m % 10) ∷ []) (f (m / 10) (omega arith))
-    ∙ sym (digits-many (suc k) m l))
-    (few-or-many m)
+    (λ (s : n < 10). digits-few (suc k) n s ∙ sym (digits-few (suc (suc k)) n s))
+    (λ (l : 10 ≤ n). digits-many k n l ∙ ap (λ (t : List ℕ). t ++ (48 + n % 10) ∷ []) (fuel k (n / 10) (omega arith))
+    ∙ sym (digits-many (suc k) n l))
+    (few-or-many n)
 
 pub text-few : (n : ℕ) → n < 10 → numberText n ≡ (48 + n) ∷ []
-text-few = digits-few 3
+text-few = digits-few (mostDigits - 1)
 
-pub text-many : (n : ℕ) → 10 ≤ n → n < 10000 → numberText n ≡ numberText (n / 10) ++ (48 + n % 10) ∷ []
+pub text-many : (n : ℕ) → 10 ≤ n → n < mostPrinted → numberText n ≡ numberText (n / 10) ++ (48 + n % 10) ∷ []
 text-many n h l =
-    digits-many 2 n h
-    ∙ ap (λ (t : List ℕ). t ++ (48 + n % 10) ∷ [])
-    (fuel 1 100 (fuel 0 10 (λ m s. digits-few 0 m s ∙ sym (digits-few 1 m s))) (n / 10) (omega arith))
+    digits-many (mostDigits - 2) n h ∙ ap (λ (t : List ℕ). t ++ (48 + n % 10) ∷ []) (fuel (mostDigits - 2) (n / 10) (omega arith))
 
 -- ---- a number that was read passed its tests
 
@@ -110,15 +103,16 @@ read-digit n h =
     let d : Digit (48 + n) = record { low = omega arith; high = omega arith } in
     rw (text-few n h, digit-is d, e)
 
-pub read-number : (n : ℕ) → n < 10000 → numeralOf (numberText n) ≡ Is n
-read-number = by-digits (λ n. numeralOf (numberText n) ≡ Is n) read-digit more
+pub read-number : (n : ℕ) → n < mostRead → numeralOf (numberText n) ≡ Is n
+read-number n h = by-digits (λ n. n < mostRead → numeralOf (numberText n) ≡ Is n) (λ n l i. read-digit n l) more n (omega arith) h
   where
-    more : (n : ℕ) → 10 ≤ n → n < 10000 → numeralOf (numberText (n / 10)) ≡ Is (n / 10) → numeralOf (numberText n) ≡ Is n
-    more n h l p =
+    more : (n : ℕ) → 10 ≤ n → n < mostPrinted → (n / 10 < mostRead → numeralOf (numberText (n / 10)) ≡ Is (n / 10)) → n < mostRead
+        → numeralOf (numberText n) ≡ Is n
+    more n h l p i =
         let t : DigitTaken (n / 10) (48 + n % 10) =
         record { digit = record { low = omega arith; high = omega arith }; some = omega arith; small = omega arith } in
         let e : n / 10 * 10 + ((48 + n % 10) - 48) ≡ n = omega arith in
-        rw (text-many n h l) (of-snoc (n / 10) (48 + n % 10) (numberText (n / 10)) p t ∙ ap Is e)
+        rw (text-many n h l) (of-snoc (n / 10) (48 + n % 10) (numberText (n / 10)) (p (omega arith)) t ∙ ap Is e)
 
 -- ---- read, then written
 
@@ -129,10 +123,10 @@ text-snoc v d t =
     text-many (v * 10 + (d - 48)) (omega arith) (omega arith) ∙ ap₂ (λ (x y : ℕ). numberText x ++ y ∷ []) e f
 
 pub record NumberWritten (n : ℕ) (s : List ℕ) : Type 0 where
-  pub small : n < 10000
+  pub small : n < mostRead
   pub text : numberText n ≡ s
 
-from-written : (v n : ℕ) (s : List ℕ) → v < 10000 → numberFrom v s ≡ Is n → NumberWritten n (numberText v ++ s)
+from-written : (v n : ℕ) (s : List ℕ) → v < mostRead → numberFrom v s ≡ Is n → NumberWritten n (numberText v ++ s)
 unfolding numberFrom
 from-written v n [] h e =
     let f : v ≡ n = cc in
@@ -157,16 +151,16 @@ written-number (d ∷ s) n e =
 
 -- ---- a number's text has digits alone
 
-pub number-free : (c n : ℕ) → c < 48 → n < 10000 → FreeOf c (numberText n)
+pub number-free : (c n : ℕ) → c < 48 → n < mostPrinted → FreeOf c (numberText n)
 number-free c n h = by-digits (λ n. FreeOf c (numberText n)) one more n
   where
     one : (n : ℕ) → n < 10 → FreeOf c (numberText n)
     one n l = rw (text-few n l) ((λ e. omega arith), tt)
 
-    more : (n : ℕ) → 10 ≤ n → n < 10000 → FreeOf c (numberText (n / 10)) → FreeOf c (numberText n)
+    more : (n : ℕ) → 10 ≤ n → n < mostPrinted → FreeOf c (numberText (n / 10)) → FreeOf c (numberText n)
     more n l u f = rw (text-many n l u) (free-append c (numberText (n / 10)) ((48 + n % 10) ∷ []) f ((λ e. omega arith), tt))
 
--- ---- and at most four of them
+-- ---- and at most so many of them
 
 digits-length : (k n : ℕ) → length (digits k n) ≤ suc k
 digits-length zero n = unfold digits in omega arith
@@ -176,8 +170,8 @@ digits-length (suc k) n =
     (λ (l : 10 ≤ n). rw (digits-many k n l, length-append) (omega (arith, digits-length k (n / 10))))
     (few-or-many n)
 
-pub text-length : (n : ℕ) → length (numberText n) ≤ 4
-text-length n = digits-length 3 n
+pub text-length : (n : ℕ) → length (numberText n) ≤ mostDigits
+text-length n = digits-length (mostDigits - 1) n
 
 -- two of them below a hundred
 pub text-two : (n : ℕ) → n < 100 → length (numberText n) ≤ 2

@@ -2,13 +2,13 @@
 use mathlib.Core.Path.{_≡_, refl, sym, _∙_}
 use mathlib.Core.Bool.{true, false}
 use mathlib.Core.List.{List, [], _∷_}
-use Prim.Native.Nat.{ℕ, _+_, _-_, _*_, _≤_, _<_}
+use Prim.Native.Nat.{ℕ, _+_, _-_, _*_, _/_, _≤_, _<_}
 use native.Mathlib.Numerals.{add-one}
 use native.Mathlib.Omega.{arith}
 use borrow.Author.Tests.{leb-true, ltb-true}
 use lib.ListN.{length, getD, drop, drop-of-length-le}
 use lib.Seq.{drop-cons}
-use Rattle.text_field.specs.Number.{isDigit, takesDigit, numberFrom, numeralOf}
+use Rattle.text_field.specs.Number.{mostRead, isDigit, takesDigit, numberFrom, numeralOf}
 use Rattle.text_field.proofs.Tested.{both}
 use Rattle.text_field.specs.declared.Numeral.the-variants.{Is, Wrong}
 
@@ -19,7 +19,7 @@ pub record Digit (d : ℕ) : Type 0 where
 pub record DigitTaken (v d : ℕ) : Type 0 where
   pub digit : Digit d
   pub some : 0 < v
-  pub small : v < 1000
+  pub small : v < mostRead / 10
 
 pub digit-of : (d : ℕ) → isDigit d ≡ true → Digit d
 unfolding isDigit
@@ -37,7 +37,7 @@ taken-of v d e =
 -- v is what the digits of s below index i say
 pub record Sofar (s : List ℕ) (v i : ℕ) : Type 0 where
   pub is : numeralOf s ≡ numberFrom v (drop i s)
-  pub small : v < 10000
+  pub small : v < mostRead
 
 pub no-digits : (s : List ℕ) → length s ≡ 0 → Wrong ≡ numeralOf s
 unfolding numeralOf

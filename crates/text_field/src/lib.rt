@@ -5,6 +5,9 @@ ghost use lib.ListN.{length};
 ghost use Rattle.text_field.specs.Split.{PieceEnd, same};
 ghost use Rattle.text_field.specs.Number.{isDigit, takesDigit, numeralOf};
 
+// A number that is read is below this: it has at most 4 digits.
+const MOST_READ: usize = 10000;
+
 // A field read as a number.
 pub enum Numeral {
     Is(usize),
@@ -40,7 +43,7 @@ fn goes_on(v: usize, d: u8) -> bool
     if !is_digit(d) {
         return false;
     }
-    0 < v && v < 1000
+    0 < v && v < MOST_READ / 10
 }
 
 // The byte as a number.

@@ -7,7 +7,7 @@ use native.Mathlib.Numerals.{add-one}
 use native.Mathlib.Omega.{arith}
 use lib.ListN.{length, set, getD, take, length-append}
 use lib.Seq.{sets, set-out, take-suc, take-all, length-sets}
-use Rattle.text_field.specs.Number.{numberText}
+use Rattle.text_field.specs.Number.{mostDigits, mostPrinted, numberText}
 use Rattle.text_field.proofs.Digits.{text-few, text-many, text-length}
 use Rattle.text_put.specs.Put.{Put}
 
@@ -37,7 +37,7 @@ put-same {l} {t} {u} {m} {at} {r} e p = rw (← e) p
 pub put-near : {l t m : List ℕ} {at r b : ℕ} → Put l at t m r → length t ≤ b → r ≤ at + b
 put-near p h = omega (arith, p .next)
 
-pub tagged-near : {l m : List ℕ} {at r : ℕ} (w : List ℕ) (n : ℕ) → Put l at (w ++ numberText n) m r → r ≤ at + length w + 4
+pub tagged-near : {l m : List ℕ} {at r : ℕ} (w : List ℕ) (n : ℕ) → Put l at (w ++ numberText n) m r → r ≤ at + length w + mostDigits
 tagged-near w n p = omega (arith, p .next, length-append w (numberText n), text-length n)
 
 -- the text of r, in the arm k of a match on r
@@ -72,6 +72,6 @@ filled-all {l} {s} {m} {at} {r} {i} f h = put-same (take-all i s h) (f .some)
 pub put-digit : {l m : List ℕ} {at d r : ℕ} (n : ℕ) → n < 10 → d ≡ 48 + n → Put l at (d ∷ []) m r → Put l at (numberText n) m r
 put-digit n h e p = put-same (ap (λ (x : ℕ). x ∷ []) e ∙ sym (text-few n h)) p
 
-pub put-digits : {l m o : List ℕ} {at d r q : ℕ} (n : ℕ) → 10 ≤ n → n < 10000 → d ≡ 48 + n % 10 →
+pub put-digits : {l m o : List ℕ} {at d r q : ℕ} (n : ℕ) → 10 ≤ n → n < mostPrinted → d ≡ 48 + n % 10 →
     Put l at (numberText (n / 10)) m r → Put m r (d ∷ []) o q → Put l at (numberText n) o q
 put-digits n h k e p w = put-same (ap (λ (x : ℕ). numberText (n / 10) ++ x ∷ []) e ∙ sym (text-many n h k)) (put-then p w)

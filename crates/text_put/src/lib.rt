@@ -2,14 +2,14 @@
 // A byte past the end is counted and not written, so that what counts is what writes.
 ghost use mathlib.Core.Path.{_≡_};
 ghost use mathlib.Core.List.{[], _∷_, _++_};
-ghost use Prim.Native.Nat.{_+_, _<_, _^_};
+ghost use Prim.Native.Nat.{_+_, _<_};
 ghost use lib.ListN.{length};
-ghost use Rattle.text_field.specs.Number.{numberText};
-ghost use Rattle.text_put.specs.Put.{Put};
+ghost use Rattle.text_field.specs.Number.{mostPrinted, numberText};
+ghost use Rattle.text_put.specs.Put.{Put, farByte, farField, farTagged, farLine, longWord};
 
 // One byte.
 pub fn put_byte(out: &mut [u8], at: usize, b: u8) -> usize
-    requires { ⌜ at < 2 ^ 32 ⌝ }
+    requires { ⌜ at < farByte ⌝ }
     ensures { λ r. ⌜ Put (now (out .entry)) at (b ∷ []) (now (out .exit)) r ⌝ }
 {
     if at < out.len() {
@@ -21,7 +21,7 @@ pub fn put_byte(out: &mut [u8], at: usize, b: u8) -> usize
 
 // The bytes of s.
 pub fn put_all(out: &mut [u8], at: usize, s: &[u8]) -> usize
-    requires { ⌜ (at < 2 ^ 31) × (length (now s) < 2 ^ 31) ⌝ }
+    requires { ⌜ (at < farField) × (length (now s) < farField) ⌝ }
     ensures { λ r. ⌜ Put (now (out .entry)) at (now (s .entry)) (now (out .exit)) r ⌝ }
 {
     let mut k = at;
@@ -41,7 +41,7 @@ fn digit(n: usize) -> u8
 
 // A number.
 pub fn put_number(out: &mut [u8], at: usize, n: usize) -> usize
-    requires { ⌜ (at < 2 ^ 31) × (n < 10000) ⌝ }
+    requires { ⌜ (at < farField) × (n < mostPrinted) ⌝ }
     ensures { λ r. ⌜ Put (now (out .entry)) at (numberText n) (now (out .exit)) r ⌝ }
 {
     if n < 10 {
@@ -53,7 +53,7 @@ pub fn put_number(out: &mut [u8], at: usize, n: usize) -> usize
 
 // A word with its tab, and a number.
 pub fn put_tagged(out: &mut [u8], at: usize, w: &[u8], n: usize) -> usize
-    requires { ⌜ (at < 2 ^ 30) × (length (now w) < 2 ^ 30) × (n < 10000) ⌝ }
+    requires { ⌜ (at < farTagged) × (length (now w) < longWord) × (n < mostPrinted) ⌝ }
     ensures { λ r. ⌜ Put (now (out .entry)) at (now (w .entry) ++ numberText n) (now (out .exit)) r ⌝ }
 {
     let a = put_all(out, at, w);
@@ -62,7 +62,8 @@ pub fn put_tagged(out: &mut [u8], at: usize, w: &[u8], n: usize) -> usize
 
 // A line of two words, each with its tab and a number.
 pub fn put_pair(out: &mut [u8], at: usize, v: &[u8], m: usize, w: &[u8], n: usize) -> usize
-    requires { ⌜ (at < 2 ^ 29) × (length (now v) < 2 ^ 28) × (m < 10000) × (length (now w) < 2 ^ 28) × (n < 10000) ⌝ }
+    requires { ⌜ (at < farLine) × (length (now v) < longWord) × (m < mostPrinted)
+        × (length (now w) < longWord) × (n < mostPrinted) ⌝ }
     ensures { λ r. ⌜ Put (now (out .entry)) at
         (((now (v .entry) ++ numberText m) ++ (now (w .entry) ++ numberText n)) ++ 10 ∷ [])
         (now (out .exit)) r ⌝ }

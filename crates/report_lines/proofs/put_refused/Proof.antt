@@ -1,4 +1,4 @@
--- `put_pair` requires two numbers of at most 4 digits: a refusal's number is at most 13, and its place is bounded by the requirement.
+-- `put_pair` requires two numbers below mostPrinted: a refusal's number is at most 13, and its place is bounded by the requirement.
 use native.Mathlib.Omega.{arith}
 use Rattle.text_field.specs.Split.{join}
 use Rattle.refusals.proofs.Orders.{number-most}

@@ -1,4 +1,4 @@
--- Three exits: no digit, no number so far, or a number that must be below 1000. `takesDigit` joins the same three.
+-- Three exits: no digit, no number so far, or a number that must have fewer digits than the most. `takesDigit` joins the same three.
 use borrow.Author.Needs.{needs}
 use borrow.Author.Tests.{lt-ltb, le-ltb}
 use Rattle.text_field.proofs.Tested.{held, failed}

@@ -1,4 +1,4 @@
--- Invariant: v is below 10000, and the field's number is v with the digits from i on. length s - i falls.
+-- Invariant: v is below mostRead, and the field's number is v with the digits from i on. length s - i falls.
 use Prim.Native.Nat.{_-_}
 use native.Mathlib.Omega.{arith}
 use borrow.Author.Needs.{needs}

@@ -1,4 +1,4 @@
--- Three texts, put one after another, are the line. A number has at most 4 digits, so each part ends within the bound of the next.
+-- Three texts, put one after another, are the line. A number has at most mostDigits digits, so each part ends within the bound of the next.
 use native.Mathlib.Omega.{arith}
 use Rattle.text_put.proofs.Putting.{put-then, tagged-near}
 use borrow.Author.Needs.{needs}
