@@ -66,7 +66,7 @@ module _ (rows : Rows) (a b : ℕ) (l : length rows ≡ mostBuses) (p : Pair a b
   line-there i j q n = line-other i j n (λ e f. omega arith)
 
   -- there is still a row for each bus
-  pub line-length : length (withLine rows a b) ≡ mostBuses
-  line-length =
+  pub line-rows : length (withLine rows a b) ≡ mostBuses
+  line-rows =
       row-put-length (withEnd rows a b) b (wordOf (add (neighbours (withEnd rows a b) b) a))
       (row-put-length rows a (wordOf (add (neighbours rows a) b)) l)

@@ -73,9 +73,11 @@ quiet : {s : Reader} {p : ℕ} {c : Case} (r : Record) (q : Ask) → Stand s p �
 quiet {s} r q t u m h l k =
     m q h (omega arith) ∙ unchanged s r q (t .at .sized) (t .grid) (u .fact) h (λ e. omega arith) ∙ t .at .fresh q h l
 
-few-turn : {s : Reader} {p : ℕ} {x : List ℕ} {c : Case} → Stand s p → s .place .lines ≤ mostLines → (r : Record) → judged (s .place) r ≡ Next
+few-turn : {s : Reader} {p : ℕ} {x : List ℕ} {c : Case} → Stand s p → s .place .lines ≤ mostLines → (r : Record)
+    → judged (s .place) r ≡ Next
     → ReadsAs (nextReader s r) x c → (a b : ℕ) (L : List Record) → Rising c p (Line a b ∷ L) → Stepped s p r
-    → (nextReader s r .place .lines ≤ mostLines → (M : List Record) → Rising c (recordPlace r) M → nextReader s r .place .lines + length M ≤ mostLines)
+    → (nextReader s r .place .lines ≤ mostLines → (M : List Record) → Rising c (recordPlace r) M
+    → nextReader s r .place .lines + length M ≤ mostLines)
     → s .place .lines + suc (length L) ≤ mostLines
 few-turn {s} t l (Grid n) e d a b L g u on = absurd (omega (arith, u .fact, t .grid))
 few-turn {s} t l (Bus k z o) e d a b L g u on = on l (Line a b ∷ L) (g .0, bus-line k a b (omega (arith, u .fact .bus .most)), g .2, g .3)
@@ -106,9 +108,11 @@ few-ends t l (Pmu k ∷ L) g = absurd g
 few-ends t l (End ∷ L) g = absurd g
 few-ends t l (Wrong ∷ L) g = absurd g
 
-few-goes : {s : Reader} {p : ℕ} {x : List ℕ} {c : Case} → Stand s p → s .place .lines ≤ mostLines → (r : Record) → judged (s .place) r ≡ Next
+few-goes : {s : Reader} {p : ℕ} {x : List ℕ} {c : Case} → Stand s p → s .place .lines ≤ mostLines → (r : Record)
+    → judged (s .place) r ≡ Next
     → ReadsAs (nextReader s r) x c → (L : List Record) → Rising c p L → Stepped s p r
-    → (nextReader s r .place .lines ≤ mostLines → (M : List Record) → Rising c (recordPlace r) M → nextReader s r .place .lines + length M ≤ mostLines)
+    → (nextReader s r .place .lines ≤ mostLines → (M : List Record) → Rising c (recordPlace r) M
+    → nextReader s r .place .lines + length M ≤ mostLines)
     → s .place .lines + length L ≤ mostLines
 few-goes t l r e d [] g u on = omega arith
 few-goes t l r e d (Grid n ∷ L) g u on = absurd g

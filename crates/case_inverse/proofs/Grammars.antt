@@ -4,7 +4,7 @@ use mathlib.Core.Bool.{true}
 use mathlib.Core.List.{List, [], _∷_, _++_}
 use Prim.Native.Nat.{ℕ, _+_, _≤_, _<_}
 use native.Mathlib.Omega.{arith}
-use Rattle.text_field.specs.Split.{split, join}
+use Rattle.text_field.specs.Split.{lineFeed, split, join}
 use Rattle.text_field.specs.Number.{mostRead}
 use Rattle.text_field.proofs.Cutting.{split-cut}
 use Rattle.case_line.specs.Record.{recordOf, recordText, Formed}
@@ -38,13 +38,13 @@ formed s Wrong h p e = not-one (cc)
 
 -- a text of the grammar is read
 pub reads-read : (s : Reader) (x : List ℕ) (c : Case) (k : ℕ) → s .place .n ≤ mostBuses → ReadsAs s x c
-    → readLines s k (split 10 x .first) (split 10 x .rest) ≡ got c
+    → readLines s k (split lineFeed x .first) (split lineFeed x .rest) ≡ got c
 unfolding readLines split
-reads-read s x c k h (ends e) = rw (split-cut 10 (recordText End) [] (text-free End tt), read-record End tt, e)
+reads-read s x c k h (ends e) = rw (split-cut lineFeed (recordText End) [] (text-free End tt), read-record End tt, e)
 reads-read s x c k h (goes r {x = y} e t) =
     let a = accepted-of (s .place) r e in
     let f = formed (s .place) r h (a .place) (a .range) in
-    rw (split-cut 10 (recordText r) y (text-free r f), read-record r f, e)
+    rw (split-cut lineFeed (recordText r) y (text-free r f), read-record r f, e)
     (reads-read (nextReader s r) y c (k + 1) (small-of (s .place) r h e) t)
 
 -- a text that is read is one of the grammar
@@ -64,7 +64,7 @@ last-end (Pmu p) e = not-one (cc)
 last-end End e = refl
 last-end Wrong e = not-one (cc)
 
-closed-got : (d c : Case) (k : ℕ) (m : List ℕ) (ms : List (List ℕ)) → caseEnded d k m ms ≡ got c → (join 10 m ms ≡ []) × (d ≡ c)
+closed-got : (d c : Case) (k : ℕ) (m : List ℕ) (ms : List (List ℕ)) → caseEnded d k m ms ≡ got c → (join lineFeed m ms ≡ []) × (d ≡ c)
 unfolding join
 closed-got d c k [] [] e = (refl, ap (λ (r : CaseRead). r .case) e)
 closed-got d c k [] (m ∷ ms) e = absurd (not-got c e)
@@ -73,10 +73,11 @@ closed-got d c k (b ∷ l) ms e = absurd (not-got c e)
 -- one line that is read
 turn : (s : Reader) (k : ℕ) (l m : List ℕ) (ms : List (List ℕ)) (c : Case) (v : Judgement) (on : CaseRead)
     → judged (s .place) (recordOf l) ≡ v
-    → recordSaid v k on (caseEnded (caseSoFar s) (k + 1) m ms) ≡ got c → (on ≡ got c → ReadsAs (nextReader s (recordOf l)) (join 10 m ms) c)
-    → ReadsAs s (l ++ 10 ∷ join 10 m ms) c
+    → recordSaid v k on (caseEnded (caseSoFar s) (k + 1) m ms) ≡ got c
+    → (on ≡ got c → ReadsAs (nextReader s (recordOf l)) (join lineFeed m ms) c)
+    → ReadsAs s (l ++ lineFeed ∷ join lineFeed m ms) c
 turn s k l m ms c Next on vi e ih =
-    subst (λ (x : List ℕ). ReadsAs s (x ++ 10 ∷ join 10 m ms) c)
+    subst (λ (x : List ℕ). ReadsAs s (x ++ lineFeed ∷ join lineFeed m ms) c)
     (spelt l (λ w. not-one (cc (ap (judged (s .place)) w, refuses (s .place)))) .text)
     (goes (recordOf l) vi (ih e))
 turn s k l m ms c Last on vi e ih =
@@ -88,7 +89,8 @@ turn s k l m ms c Form on vi e ih = absurd (not-got c e)
 turn s k l m ms c Range on vi e ih = absurd (not-got c e)
 turn s k l m ms c Order on vi e ih = absurd (not-got c e)
 
-pub read-reads : (ps : List (List ℕ)) (s : Reader) (k : ℕ) (l : List ℕ) (c : Case) → readLines s k l ps ≡ got c → ReadsAs s (join 10 l ps) c
+pub read-reads : (ps : List (List ℕ)) (s : Reader) (k : ℕ) (l : List ℕ) (c : Case) → readLines s k l ps ≡ got c
+    → ReadsAs s (join lineFeed l ps) c
 unfolding readLines join
 read-reads [] s k l c e = absurd (not-got c e)
 read-reads (m ∷ ms) s k l c e =

@@ -6,7 +6,7 @@ use native.Mathlib.Omega.{arith}
 use lib.ListN.{length, length-append}
 use Rattle.busset.specs.Sets.{Out, Within, setOf}
 use Rattle.busset.proofs.Members.{out-of}
-use Rattle.text_field.specs.Split.{join}
+use Rattle.text_field.specs.Split.{lineFeed, join}
 use Rattle.case_line.specs.declared.Record.the-variants.{Pmu}
 use Rattle.grid.specs.Limits.{mostLines, mostBytes}
 use Rattle.grid.specs.Rows.{neighbours}
@@ -86,7 +86,7 @@ read-valid x c e = reads-valid x c (reads-of x c e)
 
 -- the same of lines whose first is line k
 pub lines-valid : (k : ℕ) (l : List ℕ) (ps : List (List ℕ)) (c : Case) → readLines start k l ps ≡ got c → ReadValid c
-lines-valid k l ps c e = reads-valid (join 10 l ps) c (read-reads ps start k l c e)
+lines-valid k l ps c e = reads-valid (join lineFeed l ps) c (read-reads ps start k l c e)
 
 -- ---- one form for each case
 

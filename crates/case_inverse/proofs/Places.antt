@@ -20,7 +20,7 @@ use Rattle.case_line.specs.declared.Record.the-variants.{Grid, Bus, Line, Pmu, 
 use Rattle.grid.specs.Limits.{mostBuses}
 use Rattle.grid.specs.Cases.{Sized}
 use Rattle.grid.specs.declared.Case.{Case}
-use Rattle.case_build.proofs.Joined.{joined, Pair, line-there, line-length}
+use Rattle.case_build.proofs.Joined.{joined, Pair, line-there, line-rows}
 use Rattle.case_judge.specs.Judging.{isAfter, pastBuses}
 use Rattle.case_read.specs.Reading.{Reader, caseSoFar, nextReader}
 use Rattle.case_judge.specs.declared.Place.{Place}
@@ -212,7 +212,7 @@ unchanged s Wrong q l g f h d = absurd f
 same-size : (s : Reader) (r : Record) → Facts (s .place) r → Sized (caseSoFar s) → Sized (caseSoFar (nextReader s r))
 same-size s (Grid n) f l = record { rows = l .rows }
 same-size s (Bus k z o) f l = record { rows = l .rows }
-same-size s (Line a b) f l = record { rows = line-length (s .rows) a b (l .rows) (f .pair) }
+same-size s (Line a b) f l = record { rows = line-rows (s .rows) a b (l .rows) (f .pair) }
 same-size s (Pmu p) f l = record { rows = l .rows }
 same-size s End f l = l
 same-size s Wrong f l = absurd f

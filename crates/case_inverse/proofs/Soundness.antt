@@ -138,7 +138,8 @@ read-sound x c d = let b = begun d in sound-reads (first-stand (c .n) (b .told))
 out-high : (n s i : ℕ) → n ≤ mostBuses → Within n s → mostBuses < i → Out s i
 out-high n s i l w h = out-of s i (λ p. let b = w i p in omega (arith, b .most))
 
-set-known : (n v w : ℕ) → n ≤ mostBuses → Within n (setOf v) → Within n (setOf w) → ((k : ℕ) → IsBus width k → bit (setOf v) k ≡ bit (setOf w) k)
+set-known : (n v w : ℕ) → n ≤ mostBuses → Within n (setOf v) → Within n (setOf w)
+    → ((k : ℕ) → IsBus width k → bit (setOf v) k ≡ bit (setOf w) k)
     → v ≡ w
 set-known n v w l a b e = set-inj v w (ext (setOf v) (setOf w) at)
   where

@@ -104,6 +104,9 @@ unit-last k h = kind-rises 2 0 k 3 0 0 (omega arith) (omega arith) h
 pub bus-below : (j k : ℕ) → k < base → busPlace j < busPlace k → j < k
 bus-below j k h l = let m = below 0 0 j 0 k h l in m .1 (omega arith)
 
+pub bus-past : (j k : ℕ) → k < base → busPlace (j + 1) ≤ busPlace k → j < k
+bus-past j k h l = let m = at-most 0 0 (j + 1) 0 k h l in omega (arith, m .1 (omega arith))
+
 pub line-most : (a b c d : ℕ) → d < base → linePlace a b ≤ linePlace c d → (a ≤ c) × (a ≡ c → b ≤ d)
 line-most a b c d = at-most 1 a b c d
 
@@ -112,6 +115,9 @@ line-below a b c d = below 1 a b c d
 
 pub unit-below : (j k : ℕ) → k < base → unitPlace j < unitPlace k → j < k
 unit-below j k h l = let m = below 2 0 j 0 k h l in m .1 (omega arith)
+
+pub unit-past : (j k : ℕ) → k < base → unitPlace (j + 1) ≤ unitPlace k → j < k
+unit-past j k h l = let m = at-most 2 0 (j + 1) 0 k h l in omega (arith, m .1 (omega arith))
 
 pub bus-same : (j k : ℕ) → j < base → k < base → busPlace j ≡ busPlace k → j ≡ k
 bus-same j k = same-second 0 0 j 0 k

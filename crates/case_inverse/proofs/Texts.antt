@@ -15,7 +15,7 @@ use Rattle.grid.specs.Limits.{mostBuses, mostBytes}
 use Rattle.grid.specs.Rows.{neighbours, noRows}
 use Rattle.grid.proofs.Rows.{no-rows-length}
 use Rattle.text_field.proofs.Tested.{both}
-use Rattle.text_field.specs.Split.{split}
+use Rattle.text_field.specs.Split.{lineFeed, split}
 use Rattle.text_field.proofs.Cutting.{join-split}
 use Rattle.case_line.specs.Record.{recordText}
 use Rattle.case_line.specs.declared.Record.{Record}
@@ -41,9 +41,12 @@ pub reads-of : (x : List ℕ) (c : Case) → readCase x ≡ got c → ReadsAs st
 unfolding readCase readText
 reads-of x c e = go (ltb mostBytes (length x)) e
   where
-    go : (b : Bool) → cond b (refused TextTooLong) (readLines start 1 (split 10 x .first) (split 10 x .rest)) ≡ got c → ReadsAs start x c
+    go : (b : Bool) → cond b (refused TextTooLong) (readLines start 1 (split lineFeed x .first) (split lineFeed x .rest)) ≡ got c
+        → ReadsAs start x c
     go true e = absurd (not-got c e)
-    go false e = subst (λ (y : List ℕ). ReadsAs start y c) (join-split 10 x) (read-reads (split 10 x .rest) start 1 (split 10 x .first) c e)
+    go false e =
+        subst (λ (y : List ℕ). ReadsAs start y c) (join-split lineFeed x)
+        (read-reads (split lineFeed x .rest) start 1 (split lineFeed x .first) c e)
 
 pub of-reads : (x : List ℕ) (c : Case) → length x ≤ mostBytes → ReadsAs start x c → readCase x ≡ got c
 unfolding readCase readText
@@ -94,7 +97,7 @@ pub record BegunText (x : List ℕ) (c : Case) : Type 0 where
   pub rest : List ℕ
   pub told : judged (start .place) (Grid (c .n)) ≡ Next
   pub on : ReadsAs (nextReader start (Grid (c .n))) rest c
-  pub text : x ≡ recordText (Grid (c .n)) ++ 10 ∷ rest
+  pub text : x ≡ recordText (Grid (c .n)) ++ lineFeed ∷ rest
 
 not-past : pastBuses (start .place) ≡ true → ⊥
 unfolding pastBuses
@@ -102,14 +105,14 @@ not-past e = not-one (cc)
 
 -- at the start only `grid` is accepted
 first-grid : (r : Record) (x : List ℕ) (c : Case) → judged (start .place) r ≡ Next → ReadsAs (nextReader start r) x c
-    → BegunText (recordText r ++ 10 ∷ x) c
+    → BegunText (recordText r ++ lineFeed ∷ x) c
 first-grid (Grid n) x c e d =
     let f : n ≡ c .n = sym (kept (first-stand n e) d) in
     record {
       rest = x;
       told = subst (λ (m : ℕ). judged (start .place) (Grid m) ≡ Next) f e;
       on = subst (λ (m : ℕ). ReadsAs (nextReader start (Grid m)) x c) f d;
-      text = ap (λ (m : ℕ). recordText (Grid m) ++ 10 ∷ x) f;
+      text = ap (λ (m : ℕ). recordText (Grid m) ++ lineFeed ∷ x) f;
     }
 first-grid (Bus k z o) x c e d = let a = accepted-of (start .place) (Bus k z o) e .place in not-one (cc)
 first-grid (Line a b) x c e d =
@@ -128,5 +131,5 @@ pub same-text : (x y : List ℕ) (c : Case) → readCase x ≡ got c → readCas
 same-text x y c e f =
     let a = begun (reads-of x c e) in
     let b = begun (reads-of y c f) in
-    a .text ∙ ap (λ (z : List ℕ). recordText (Grid (c .n)) ++ 10 ∷ z) (unique (first-stand (c .n) (a .told)) (a .on) (b .on))
+    a .text ∙ ap (λ (z : List ℕ). recordText (Grid (c .n)) ++ lineFeed ∷ z) (unique (first-stand (c .n) (a .told)) (a .on) (b .on))
     ∙ sym (b .text)

@@ -8,6 +8,7 @@ use native.Mathlib.Omega.{arith}
 use Rattle.busset.specs.Sets.{bit, setOf}
 use Rattle.basics.proofs.Tests.{below-or}
 use Rattle.busset.proofs.Holding.{hold-here, if-here}
+use Rattle.text_field.specs.Split.{lineFeed}
 use Rattle.case_line.specs.Record.{recordText}
 use Rattle.case_line.specs.declared.Record.{Record}
 use Rattle.case_line.specs.declared.Record.the-variants.{Grid, Bus, Line, Pmu, End, Wrong}
@@ -107,7 +108,8 @@ module _ {s : Reader} {p : ℕ} {c : Case} (t : Stand s p) where
       → Settled c (nextReader s r) (recordPlace r)
       → recordPlace (Line a b) < recordPlace r → ⊥
   line-missed a b r u v m n l =
-      missed {c = c} (Line a b) r (lineAt a b) t u v m n (u .fact .pair) refl (line-here (s .rows) a b (t .at .sized .rows) (u .fact .pair)) l
+      missed {c = c} (Line a b) r (lineAt a b) t u v m n (u .fact .pair) refl
+      (line-here (s .rows) a b (t .at .sized .rows) (u .fact .pair)) l
 
   unit-missed : (k : ℕ) (r : Record) → Stepped s p (Pmu k) → Stepped s p r → Settled c (nextReader s (Pmu k)) (recordPlace (Pmu k))
       → Settled c (nextReader s r) (recordPlace r)
@@ -189,7 +191,7 @@ module _ {s : Reader} {p : ℕ} {c : Case} (t : Stand s p) where
 
 pub record Ended (s : Reader) (y : List ℕ) (c : Case) : Type 0 where
   pub last : judged (s .place) End ≡ Last
-  pub text : y ≡ recordText End ++ 10 ∷ []
+  pub text : y ≡ recordText End ++ lineFeed ∷ []
   pub is : c ≡ caseSoFar s
 
 pub record Went (s : Reader) (y : List ℕ) (c : Case) : Type 0 where
@@ -197,7 +199,7 @@ pub record Went (s : Reader) (y : List ℕ) (c : Case) : Type 0 where
   pub rest : List ℕ
   pub told : judged (s .place) by ≡ Next
   pub on : ReadsAs (nextReader s by) rest c
-  pub text : y ≡ recordText by ++ 10 ∷ rest
+  pub text : y ≡ recordText by ++ lineFeed ∷ rest
 
 pub seen : {s : Reader} {y : List ℕ} {c : Case} → ReadsAs s y c → Ended s y c ⊎ Went s y c
 seen (ends e) = inl (record { last = e; text = refl; is = refl })
@@ -220,5 +222,5 @@ unique {s} {p} {y = y} {c = c} t (goes r {x = x} e g) d =
     let v = stepped (w .by) t (w .told) in
     let f : r ≡ w .by = same-record {c = c} t r (w .by) e (w .told) u v (settled (u .on) g) (settled (v .on) (w .on)) in
     let h : ReadsAs (nextReader s r) (w .rest) c = subst (λ (b : Record). ReadsAs (nextReader s b) (w .rest) c) (sym f) (w .on) in
-    ap₂ (λ (b : Record) (z : List ℕ). recordText b ++ 10 ∷ z) f (unique (u .on) g h) ∙ sym (w .text))
+    ap₂ (λ (b : Record) (z : List ℕ). recordText b ++ lineFeed ∷ z) f (unique (u .on) g h) ∙ sym (w .text))
     (seen d)

@@ -26,9 +26,11 @@ use Rattle.grid.specs.declared.Case.{Case}
 use Rattle.case_build.proofs.Joined.{joined, Pair, line-here}
 use Rattle.case_judge.specs.declared.Judgement.the-variants.{Next}
 use Rattle.case_judge.proofs.Judged.{accept}
-use Rattle.case_inverse.proofs.Spots.{next-spot, busPlace, linePlace, unitPlace, lastPlace, bus-rises, line-rises, row-rises, unit-rises}
-use Rattle.case_inverse.proofs.Spots.{bus-line, bus-unit, line-unit, unit-last, bus-below, line-most, line-below, unit-below}
-use Rattle.case_inverse.proofs.Places.{Ask, AskInRange, place, recordPlace, answer, unchanged, pair-unit, all-below, at-bus, at-line, at-unit}
+use Rattle.case_inverse.proofs.Spots.{next-spot, busPlace, linePlace, unitPlace, lastPlace, bus-rises, line-rises, row-rises}
+use Rattle.case_inverse.proofs.Spots.{unit-rises, bus-line, bus-unit, line-unit, unit-last, line-most, line-below}
+use Rattle.case_inverse.proofs.Spots.{bus-below, bus-past, unit-below, unit-past}
+use Rattle.case_inverse.proofs.Places.{Ask, AskInRange, place, recordPlace, answer, unchanged, pair-unit, all-below}
+use Rattle.case_inverse.proofs.Places.{at-bus, at-line, at-unit}
 use Rattle.case_inverse.proofs.Places.Ask.{zeroAt, siteAt, unitAt, lineAt}
 use Rattle.case_inverse.proofs.Unique.{Stand, stepped}
 use Rattle.case_inverse.proofs.Texts.{first-stand}
@@ -321,7 +323,9 @@ row-gap c a w l (lineAt i j) h x y =
     let from = line-most a (c .n + 1) i j (omega arith) x in
     let to = line-below i j (a + 1) (a + 1 + 1) (omega arith) y in
     w .above (lineAt i j) h
-    (⊎-elim (λ (e : a ≡ i). omega (arith, from .1 e)) (λ (d : a ≡ i → ⊥). absurd (omega (arith, from .0, to .0, to .1 (omega (arith, from .0, to .0)))))
+    (⊎-elim
+    (λ (e : a ≡ i). omega (arith, from .1 e))
+    (λ (d : a ≡ i → ⊥). let e : i ≡ a + 1 = omega (arith, from .0, to .0) in absurd (omega (arith, to .1 e)))
     (same-or a i))
 
 pub read-lines : (c : Case) (rs : List Record) → Writable c → (m a : ℕ) (s : Reader) (p : ℕ) → 1 ≤ a → a + m ≡ c .n + 1
@@ -347,9 +351,10 @@ read-lines c rs w (suc m) a s p h e g on =
     on)
 
 -- the places between the buses and the lines, the lines and the units, and after the units
-bus-gap : (c : Case) → Writable c → (q : Ask) → AskInRange q → busPlace (c .n + 1) ≤ place q → place q < linePlace 1 (1 + 1) → answer c q ≡ 0
-bus-gap c w (zeroAt k) h x y = w .above (zeroAt k) h (bus-below (c .n) k (omega (arith, h .most)) (omega (arith, bus-rises (c .n) (c .n + 1) (omega arith))))
-bus-gap c w (siteAt k) h x y = w .above (siteAt k) h (bus-below (c .n) k (omega (arith, h .most)) (omega (arith, bus-rises (c .n) (c .n + 1) (omega arith))))
+bus-gap : (c : Case) → Writable c → (q : Ask) → AskInRange q → busPlace (c .n + 1) ≤ place q → place q < linePlace 1 (1 + 1)
+    → answer c q ≡ 0
+bus-gap c w (zeroAt k) h x y = w .above (zeroAt k) h (bus-past (c .n) k (omega (arith, h .most)) x)
+bus-gap c w (siteAt k) h x y = w .above (siteAt k) h (bus-past (c .n) k (omega (arith, h .most)) x)
 bus-gap c w (unitAt k) h x y = absurd (omega (arith, line-unit 1 (1 + 1) k (omega arith) (omega arith)))
 bus-gap c w (lineAt i j) h x y =
     let o = h .one in
@@ -369,11 +374,11 @@ line-gap c w (lineAt i j) h x y =
 unit-gap : (c : Case) → Writable c → (q : Ask) → AskInRange q → unitPlace (c .n + 1) ≤ place q → place q < lastPlace → answer c q ≡ 0
 unit-gap c w (zeroAt k) h x y = absurd (omega (arith, bus-unit k (c .n + 1) (omega (arith, h .most))))
 unit-gap c w (siteAt k) h x y = absurd (omega (arith, bus-unit k (c .n + 1) (omega (arith, h .most))))
-unit-gap c w (unitAt k) h x y = 
-    w .above (unitAt k) h (unit-below (c .n) k (omega (arith, h .most)) (omega (arith, unit-rises (c .n) (c .n + 1) (omega arith))))
+unit-gap c w (unitAt k) h x y = w .above (unitAt k) h (unit-past (c .n) k (omega (arith, h .most)) x)
 unit-gap c w (lineAt i j) h x y = absurd (omega (arith, pair-unit i j (c .n + 1) h))
 
-no-place : (c : Case) (n : ℕ) (q : Ask) → AskInRange q → place q < busPlace 1 → answer c q ≡ answer (caseSoFar (nextReader start (Grid n))) q
+no-place : (c : Case) (n : ℕ) (q : Ask) → AskInRange q → place q < busPlace 1
+    → answer c q ≡ answer (caseSoFar (nextReader start (Grid n))) q
 no-place c n (zeroAt k) h l = absurd (omega (arith, h .some, bus-below k 1 (omega arith) l))
 no-place c n (siteAt k) h l = absurd (omega (arith, h .some, bus-below k 1 (omega arith) l))
 no-place c n (unitAt k) h l = absurd (omega (arith, bus-unit 1 k (omega arith)))

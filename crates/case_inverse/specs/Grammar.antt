@@ -2,6 +2,7 @@
 use mathlib.Core.Path.{_≡_}
 use mathlib.Core.List.{List, [], _∷_, _++_}
 use Prim.Native.Nat.{ℕ}
+use Rattle.text_field.specs.Split.{lineFeed}
 use Rattle.case_line.specs.Record.{recordText}
 use Rattle.case_line.specs.declared.Record.{Record}
 use Rattle.case_line.specs.declared.Record.the-variants.{End}
@@ -12,6 +13,6 @@ use Rattle.case_judge.specs.declared.Judgement.the-variants.{Next, Last}
 
 -- from where s stands, the text is read as the case c
 pub data ReadsAs : Reader → List ℕ → Case → Type 0 where
-  ends : {s : Reader} → judged (s .place) End ≡ Last → ReadsAs s (recordText End ++ 10 ∷ []) (caseSoFar s)
+  ends : {s : Reader} → judged (s .place) End ≡ Last → ReadsAs s (recordText End ++ lineFeed ∷ []) (caseSoFar s)
   goes : {s : Reader} (r : Record) {x : List ℕ} {c : Case} → judged (s .place) r ≡ Next → ReadsAs (nextReader s r) x c
-      → ReadsAs s (recordText r ++ 10 ∷ x) c
+      → ReadsAs s (recordText r ++ lineFeed ∷ x) c

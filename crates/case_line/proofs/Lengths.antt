@@ -23,7 +23,8 @@ recordRoom = 6 + 2 * mostDigits
 pub record-length : (r : Record) → length (recordText r) ≤ recordRoom
 unfolding recordText join
 record-length (Grid n) = omega (arith, text-length n)
-record-length (Bus n z o) = simp length-append (omega (arith, text-length n, letter-length z letterZ letterI, letter-length o letterY letterN))
+record-length (Bus n z o) =
+    simp length-append (omega (arith, text-length n, letter-length z letterZ letterI, letter-length o letterY letterN))
 record-length (Line a b) = simp length-append (omega (arith, text-length a, text-length b))
 record-length (Pmu n) = omega (arith, text-length n)
 record-length End = omega arith

@@ -10,12 +10,13 @@ use Rattle.grid.specs.Limits.{mostBuses}
 use Rattle.basics.specs.Deciding.{Decides}
 use Rattle.busset.specs.Sets.{bit, In}
 use Rattle.basics.proofs.Tests.{refutes}
+use Rattle.text_field.specs.Split.{lineFeed}
 use Rattle.case_line.specs.Record.{recordText}
 use Rattle.case_line.specs.declared.Record.{Record}
 use Rattle.case_line.specs.declared.Record.the-variants.{Line}
 use Rattle.case_line.proofs.Lengths.{record-length}
 use Rattle.case_line.specs.CaseText.{has, busRecord, busRecords, members, lineRecords, linesText}
-use Rattle.case_read.proofs.Lengths.{lines-length, members-length, rowRoom}
+use Rattle.case_read.proofs.Lengths.{lineRoom, lines-length, members-length, rowRoom}
 use Rattle.text_put.specs.Put.{Put}
 use Rattle.case_write.specs.Lines.{lineText}
 use Rattle.text_put.proofs.Left.{Left, left-none, left-more, left-all}
@@ -24,19 +25,20 @@ use Rattle.text_put.proofs.Left.{Left, left-none, left-more, left-all}
 
 lines-cons : (r : Record) (rs : List Record) → linesText (r ∷ rs) ≡ lineText r ++ linesText rs
 unfolding linesText lineText
-lines-cons r rs = sym (append-assoc (recordText r) (10 ∷ []) (linesText rs))
+lines-cons r rs = sym (append-assoc (recordText r) (lineFeed ∷ []) (linesText rs))
 
 lines-append : (rs qs : List Record) → linesText (rs ++ qs) ≡ linesText rs ++ linesText qs
 unfolding linesText
 lines-append [] qs = refl
 lines-append (r ∷ rs) qs =
-    ap (λ (t : List ℕ). recordText r ++ 10 ∷ t) (lines-append rs qs) ∙ sym (append-assoc (recordText r) (10 ∷ linesText rs) (linesText qs))
+    ap (λ (t : List ℕ). recordText r ++ lineFeed ∷ t) (lines-append rs qs)
+    ∙ sym (append-assoc (recordText r) (lineFeed ∷ linesText rs) (linesText qs))
 
-pub line-length : (r : Record) → length (lineText r) ≤ 15
+pub line-length : (r : Record) → length (lineText r) ≤ lineRoom
 unfolding lineText
 line-length r = simp length-append (omega (arith, record-length r))
 
-lined-length : (t : Bool) (r : Record) → length (cond t (lineText r) []) ≤ 15
+lined-length : (t : Bool) (r : Record) → length (cond t (lineText r) []) ≤ lineRoom
 lined-length true r = line-length r
 lined-length false r = omega arith
 
@@ -90,13 +92,14 @@ has-is s b false d = sym (ne-eqb (bit s b) 1 (refutes d refl))
 -- ---- one turn more: the record of a bus, its line where it is in a set, its row
 
 module _ {first count n : ℕ} {l m o : List ℕ} {at end k b q : ℕ} where
-  pub turn-bus : (zeros sites : ℕ) → Turn (busRecords zeros sites) 15 first count n l at end m k b → b < end →
-      Put m k (lineText (busRecord zeros sites b)) o q → Turn (busRecords zeros sites) 15 first count n l at end o q (b + 1)
+  pub turn-bus : (zeros sites : ℕ) → Turn (busRecords zeros sites) lineRoom first count n l at end m k b → b < end →
+      Put m k (lineText (busRecord zeros sites b)) o q → Turn (busRecords zeros sites) lineRoom first count n l at end o q (b + 1)
   unfolding busRecords
   turn-bus zeros sites w h p = turn-next w h (lines-cons _ _) (line-length _) p
 
-  pub turn-member : (f : ℕ → Record) (s : ℕ) {t : Bool} → Turn (members f s) 15 first count n l at end m k b → b < end → Decides (In s b) t
-      → Put m k (cond t (lineText (f b)) []) o q → Turn (members f s) 15 first count n l at end o q (b + 1)
+  pub turn-member : (f : ℕ → Record) (s : ℕ) {t : Bool} → Turn (members f s) lineRoom first count n l at end m k b → b < end
+      → Decides (In s b) t
+      → Put m k (cond t (lineText (f b)) []) o q → Turn (members f s) lineRoom first count n l at end o q (b + 1)
   unfolding members
   turn-member f s {t} w h d p = turn-next w h (rw (← has-is s b t d) (taken t _)) (lined-length t (f b)) p
     where

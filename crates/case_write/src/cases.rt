@@ -2,23 +2,22 @@
 ghost use mathlib.Core.Path.{_≡_};
 ghost use mathlib.Core.Bool.{cond};
 ghost use mathlib.Core.List.{[]};
-ghost use Prim.Native.Nat.{_+_, _-_, _<_, _≤_, _^_};
+ghost use Prim.Native.Nat.{_+_, _-_, _<_, _≤_};
 ghost use Rattle.busset.specs.Sets.{Bus, width, setOf};
 ghost use Rattle.case_line.specs.Record.{Formed};
 ghost use Rattle.case_line.specs.declared.Record.the-variants.{Line, Pmu};
 ghost use Rattle.grid.specs.Rows.{neighbours};
 ghost use lib.ListN.{length};
-ghost use Rattle.case_line.specs.CaseText.{busRecord, busRecords, members, lineRecords, linesText, caseText};
-ghost use Rattle.text_put.specs.Put.{Put};
-ghost use Rattle.case_write.specs.Lines.{lineText};
+ghost use Rattle.case_line.specs.CaseText.{busRecord, busRecords, members, lineRecords, linesText, recordsWith};
+ghost use Rattle.text_put.specs.Put.{Put, farLine};
+ghost use Rattle.case_write.specs.Lines.{lineText, farLines, farRows};
 use busset::BusSet;
 use case_line::Record;
-use grid::Case;
 use grid::Rows;
 
 // A record and its line feed where t, and nothing otherwise.
 fn put_if(out: &mut [u8], at: usize, t: bool, r: Record) -> usize
-    requires { ⌜ (at < 2 ^ 29) × Formed r ⌝ }
+    requires { ⌜ (at < farLine) × Formed r ⌝ }
     ensures { λ k. ⌜ Put (now (out .entry)) at (cond t (lineText r) []) (now (out .exit)) k ⌝ }
 {
     if t {
@@ -29,7 +28,7 @@ fn put_if(out: &mut [u8], at: usize, t: bool, r: Record) -> usize
 
 // The record of bus b.
 fn put_bus(out: &mut [u8], at: usize, zero: BusSet, site: BusSet, b: usize) -> usize
-    requires { ⌜ (at < 2 ^ 29) × Bus width b ⌝ }
+    requires { ⌜ (at < farLine) × Bus width b ⌝ }
     ensures { λ k. ⌜ Put (now (out .entry)) at
         (lineText (busRecord (setOf zero) (setOf site) b))
         (now (out .exit)) k ⌝ }
@@ -44,7 +43,7 @@ fn put_bus(out: &mut [u8], at: usize, zero: BusSet, site: BusSet, b: usize) -> u
 
 // The records of the buses 1 to n.
 fn put_buses(out: &mut [u8], at: usize, n: usize, zero: BusSet, site: BusSet) -> usize
-    requires { ⌜ (at < 2 ^ 20) × (n ≤ width) ⌝ }
+    requires { ⌜ (at < farLines) × (n ≤ width) ⌝ }
     ensures { λ k. ⌜ Put (now (out .entry)) at
         (linesText (busRecords (setOf zero) (setOf site) 1 n))
         (now (out .exit)) k ⌝ }
@@ -58,7 +57,7 @@ fn put_buses(out: &mut [u8], at: usize, n: usize, zero: BusSet, site: BusSet) ->
 
 // The lines of bus a to the buses above it.
 fn put_row(out: &mut [u8], at: usize, n: usize, row: BusSet, a: usize) -> usize
-    requires { ⌜ (at < 2 ^ 20) × (n ≤ width) × Bus n a ⌝ }
+    requires { ⌜ (at < farLines) × (n ≤ width) × Bus n a ⌝ }
     ensures { λ k. ⌜ Put (now (out .entry)) at
         (linesText (members (Line a) (setOf row) (a + 1) (n - a)))
         (now (out .exit)) k ⌝ }
@@ -72,7 +71,7 @@ fn put_row(out: &mut [u8], at: usize, n: usize, row: BusSet, a: usize) -> usize
 
 // The lines of the buses 1 to n, each at its lower bus.
 fn put_lines(out: &mut [u8], at: usize, n: usize, nbr: &Rows) -> usize
-    requires { ⌜ (at < 2 ^ 15) × (n ≤ width) ⌝ }
+    requires { ⌜ (at < farRows) × (n ≤ width) ⌝ }
     ensures { λ k. ⌜ Put (now (out .entry)) at
         (linesText (lineRecords (neighbours (now (nbr .entry))) 1 n))
         (now (out .exit)) k ⌝ }
@@ -86,7 +85,7 @@ fn put_lines(out: &mut [u8], at: usize, n: usize, nbr: &Rows) -> usize
 
 // The units.
 pub fn put_units(out: &mut [u8], at: usize, n: usize, units: BusSet) -> usize
-    requires { ⌜ (at < 2 ^ 20) × (n ≤ width) ⌝ }
+    requires { ⌜ (at < farLines) × (n ≤ width) ⌝ }
     ensures { λ k. ⌜ Put (now (out .entry)) at (linesText (members Pmu (setOf units) 1 n)) (now (out .exit)) k ⌝ }
 {
     let mut k = at;
@@ -96,25 +95,32 @@ pub fn put_units(out: &mut [u8], at: usize, n: usize, units: BusSet) -> usize
     k
 }
 
-// The whole text from the first byte on, and its length.
-pub fn put_case(out: &mut [u8], case: Case) -> usize
-    requires { ⌜ case .n ≤ width ⌝ }
-    ensures { λ k. ⌜ Put (now (out .entry)) 0 (caseText case) (now (out .exit)) k ⌝ }
+// The whole text of a case from the first byte on, and its length.
+pub fn put_case(
+    out: &mut [u8],
+    n: usize,
+    nbr: &Rows,
+    zero: BusSet,
+    site: BusSet,
+    units: BusSet,
+) -> usize
+    requires { ⌜ n ≤ width ⌝ }
+    ensures { λ k. ⌜ Put (now (out .entry)) 0
+        (linesText (recordsWith n (now (nbr .entry)) zero site units))
+        (now (out .exit)) k ⌝ }
 {
-    let n = case.n;
-    let nbr = case.nbr;
     let a = crate::put_line(out, 0, Record::Grid(n));
-    let b = put_buses(out, a, n, case.zero, case.site);
-    let c = put_lines(out, b, n, &nbr);
-    let d = put_units(out, c, n, case.units);
+    let b = put_buses(out, a, n, zero, site);
+    let c = put_lines(out, b, n, nbr);
+    let d = put_units(out, c, n, units);
     crate::put_line(out, d, Record::End)
 }
 
 // The length of a case's text.
-pub fn count_bytes(case: Case) -> usize
-    requires { ⌜ case .n ≤ width ⌝ }
-    ensures { λ k. ⌜ k ≡ length (caseText case) ⌝ }
+pub fn count_bytes(n: usize, nbr: &Rows, zero: BusSet, site: BusSet, units: BusSet) -> usize
+    requires { ⌜ n ≤ width ⌝ }
+    ensures { λ k. ⌜ k ≡ length (linesText (recordsWith n (now (nbr .entry)) zero site units)) ⌝ }
 {
     let mut none: [u8; 1] = [0];
-    put_case(&mut none, case)
+    put_case(&mut none, n, nbr, zero, site, units)
 }

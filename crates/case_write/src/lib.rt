@@ -1,8 +1,9 @@
 // Records written into lent bytes.
 ghost use mathlib.Core.List.{_∷_};
-ghost use Prim.Native.Nat.{_<_, _^_};
+ghost use Prim.Native.Nat.{_<_};
+ghost use Rattle.text_field.specs.Split.{tab};
 ghost use Rattle.case_line.specs.Record.{letterIf, Formed};
-ghost use Rattle.text_put.specs.Put.{Put};
+ghost use Rattle.text_put.specs.Put.{Put, farField, farLine};
 ghost use Rattle.case_write.specs.Lines.{lineText};
 
 pub mod cases;
@@ -15,8 +16,8 @@ use text_put::put_tagged;
 
 // A tab, and one of two letters.
 fn put_mark(out: &mut [u8], at: usize, t: bool, p: u8, q: u8) -> usize
-    requires { ⌜ at < 2 ^ 31 ⌝ }
-    ensures { λ r. ⌜ Put (now (out .entry)) at (9 ∷ letterIf t p q) (now (out .exit)) r ⌝ }
+    requires { ⌜ at < farField ⌝ }
+    ensures { λ r. ⌜ Put (now (out .entry)) at (tab ∷ letterIf t p q) (now (out .exit)) r ⌝ }
 {
     let a = put_byte(out, at, 9);
     if t {
@@ -27,7 +28,7 @@ fn put_mark(out: &mut [u8], at: usize, t: bool, p: u8, q: u8) -> usize
 
 // A record and its line feed.
 pub fn put_line(out: &mut [u8], at: usize, r: Record) -> usize
-    requires { ⌜ (at < 2 ^ 29) × Formed r ⌝ }
+    requires { ⌜ (at < farLine) × Formed r ⌝ }
     ensures { λ k. ⌜ Put (now (out .entry)) at (lineText r) (now (out .exit)) k ⌝ }
 {
     match r {

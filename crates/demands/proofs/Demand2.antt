@@ -126,7 +126,7 @@ demand-2 = record {
   fewest = λ c budget sites p. p .1;
   too-small = too-small;
   read-back = λ c lent left count z p.
-      let e = sym (inverse.read-written c (z .rows) (p .0 .0)) in
+      let e = sym (inverse.read-written c z (p .0 .0)) in
       subst⁻¹ (λ (t : List ℕ). CaseReadReply t (got c)) (written-text c lent left count p) e;
   written-back = λ c text lent left count r p. written-text c lent left count p ∙ sym (inverse.written-text text c (sym r));
 }

@@ -14,8 +14,8 @@ use Rattle.rules.specs.Steps.{reached, Accepted, Finished}
 use Rattle.rules.specs.Placing as placing
 use Rattle.grid.specs.declared.Case.{Case}
 use Rattle.refusals.specs.declared.Refusal.{Refusal}
-use Rattle.grid.specs.Limits.{mostBuses, mostBudget}
-use Rattle.grid.specs.Cases.{gridOf, Valid}
+use Rattle.grid.specs.Limits.{mostBudget}
+use Rattle.grid.specs.Cases.{gridOf, Sized, Valid}
 use Rattle.refusals.specs.Refusals.{Is}
 use Rattle.list_follow.specs.Replies.{ReplayReply}
 use Rattle.list_follow.specs.declared.Replayed.{Replayed}
@@ -40,10 +40,6 @@ pub record AcceptedExactly (g : Grid) (xs : List Step) (reply : Replayed) : Type
 pub record TooSmallExactly (g : Grid) (budget : ℕ) (reply : Fewest) : Type 0 where
   pub due : (placing.SomeAddition g budget → ⊥) → Refuses fewest.Refused reply 11 0
   pub given : (q : Refusal) → reply ≡ fewest.Refused q → Is 11 0 q × (placing.SomeAddition g budget → ⊥)
-
--- the case value has a row for each of 64 buses, as the type of every case value says
-pub record Sized (c : Case) : Type 0 where
-  pub rows : length (c .nbr) ≡ mostBuses
 
 pub record Demand2 : Type 0 where
   -- for a valid case the observed set is the least one closed under the two published rules

@@ -12,7 +12,7 @@ use Rattle.rules.specs.Steps.{Names}
 use Rattle.rules.specs.Figures.{Runs}
 use Rattle.grid.specs.declared.Case.{Case}
 use Rattle.grid.specs.Limits.{mostBuses, mostSteps, mostBytes}
-use Rattle.grid.specs.Cases.{gridOf, Valid}
+use Rattle.grid.specs.Cases.{gridOf, Sized, Valid}
 use Rattle.case_read.specs.Reading.{got}
 use Rattle.case_line.specs.CaseText.{caseText}
 use Rattle.step_text.specs.Steps.{stepsOf}
@@ -22,7 +22,6 @@ use Rattle.observe_calls.specs.Replies.{stated, FigureReply}
 use Rattle.text_calls.specs.Replies.{CaseReadReply, StepsCheckedReply}
 use Rattle.estimator.specs.Answers.{ObservedFor, UnconfirmedFor, FewestFor, ReplayFor, OfText}
 use Rattle.estimator_reply.specs.Results.{Answered}
-use Rattle.demands.specs.Demand2.{Sized}
 
 -- the figure of i towards j, where s is observed, is 1 exactly when i and all its other neighbours are observed
 pub record OneExactly (g : Grid) (s i j : ℕ) (figure : ℤ) : Type 0 where

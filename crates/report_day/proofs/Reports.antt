@@ -32,6 +32,7 @@ use Rattle.case_read.specs.Reading.{readCase}
 use Rattle.case_read.specs.declared.CaseRead.{CaseRead}
 use Rattle.case_read.specs.declared.ReadAnswer.{ReadAnswer}
 use Rattle.case_read.specs.declared.ReadAnswer.the-variants.{Read, Refused}
+use Rattle.text_field.specs.Number.{mostPrinted}
 use Rattle.case_read.proofs.Refusing.{read-place}
 use Rattle.case_inverse.proofs.Inverse.{read-valid}
 use Rattle.report_day.specs.Day.{dayText, IsDayText, DayReport, DayFor, DayPrinted}
@@ -108,7 +109,7 @@ module _ (text : List ℕ) (r : CaseRead) where
   pub read-good : r ≡ readCase text → r .answer ≡ Read → Valid (r .case)
   read-good e told = read-valid text (r .case) (sym e ∙ (λ i. record { answer = told i; case = r .case })) .valid
 
-  pub read-bad : (q : Refusal) → r ≡ readCase text → r .answer ≡ Refused q → placeOf q < 10000
+  pub read-bad : (q : Refusal) → r ≡ readCase text → r .answer ≡ Refused q → placeOf q < mostPrinted
   read-bad q e told = omega (arith, read-place text q (ap (λ (x : CaseRead). x .answer) (sym e) ∙ told))
 
   pub day-by : {a : ReadAnswer} → r ≡ readCase text → r .answer ≡ a → (t : List ℕ) → DayFor a (r .case) t → DayPrinted text t

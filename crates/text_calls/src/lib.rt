@@ -17,9 +17,11 @@ pub fn write_case(case: Case, out: &mut [u8]) -> Written
     if !grid::validity::is_valid(case) {
         return Written::Refused(Refusal::InvalidCase);
     }
-    if out.len() < case_write::cases::count_bytes(case) {
+    if out.len()
+        < case_write::cases::count_bytes(case.n, &case.nbr, case.zero, case.site, case.units)
+    {
         return Written::Refused(Refusal::NoRoom);
     }
-    let k = case_write::cases::put_case(out, case);
+    let k = case_write::cases::put_case(out, case.n, &case.nbr, case.zero, case.site, case.units);
     Written::Bytes(k)
 }

@@ -1,13 +1,15 @@
 -- By the record's kind: its parts, put one after another, are its line. `Formed` bounds the numbers, and is false of `Wrong`.
 -- Each part ends at most its length after it starts, so no place passes its bound.
-use Prim.Native.Nat.{_<_, _^_}
+use Prim.Native.Nat.{_<_}
 use mathlib.Core.Path.{subst}
 use native.Mathlib.Omega.{arith}
 use Rattle.text_field.specs.Split.{join}
+use Rattle.case_line.specs.Fields.{letterZ, letterI, letterY, letterN}
 use Rattle.case_line.specs.Record.{recordText, Formed}
 use Rattle.case_write.specs.Lines.{lineText}
 use Rattle.case_line.proofs.Lengths.{letter-length}
 use Rattle.text_field.proofs.Digits.{text-length}
+use Rattle.text_put.specs.Put.{farTagged}
 use Rattle.text_put.proofs.Putting.{put-then, put-arm}
 use borrow.Author.Needs.{needs}
 use Rattle.case_write.proofs.put_line.Statement.{statement}
@@ -47,14 +49,14 @@ put-mark-requires c κs =
     let at-put-tagged = c .before .before .before in
     omega (arith, at-put-tagged .put-tagged2 .ensures .next, text-length (at-put-tagged .before .before .before .before .r2 .given .0 .0))
 
-after-mark : (c : tie.After-put-mark) → c .put-mark .result < 2 ^ 30
+after-mark : (c : tie.After-put-mark) → c .put-mark .result < farTagged
 after-mark c =
     let at-put-tagged2 = c .before .before .before .before in
     let at-r2 = at-put-tagged2 .before .before .before .before in
     omega (
       arith,
       c .put-mark .ensures .next,
-      letter-length (at-r2 .r2 .given .0 .1 .0) 90 73,
+      letter-length (at-r2 .r2 .given .0 .1 .0) letterZ letterI,
       at-put-tagged2 .put-tagged2 .ensures .next,
       text-length (at-r2 .r2 .given .0 .0),
     )
@@ -67,7 +69,12 @@ put-byte-requires-2 c κs =
     let at-put-mark2 = c .before .before .before in
     let at-put-mark = at-put-mark2 .before .before .before .before in
     let at-r2 = at-put-mark .before .before .before .before .before .before .before .before in
-    omega (arith, after-mark at-put-mark, at-put-mark2 .put-mark2 .ensures .next, letter-length (at-r2 .r2 .given .0 .1 .1 .0) 89 78)
+    omega (
+      arith,
+      after-mark at-put-mark,
+      at-put-mark2 .put-mark2 .ensures .next,
+      letter-length (at-r2 .r2 .given .0 .1 .1 .0) letterY letterN,
+    )
 
 enum-known-r-3 : tie.Need-enum-known-r-3
 enum-known-r-3 c = search needs

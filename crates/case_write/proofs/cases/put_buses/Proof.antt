@@ -1,8 +1,9 @@
--- Invariant: the records of the buses from b on are left to put, and each bus passed took at most 15 bytes. b-end - b falls.
+-- Invariant: the records of the buses from b on are left to put, and each bus passed took at most lineRoom bytes. b-end - b falls.
 use mathlib.Core.Path.{refl}
 use Prim.Native.Nat.{_-_}
 use native.Mathlib.Omega.{arith}
 use Rattle.busset.specs.Sets.{setOf}
+use Rattle.case_read.proofs.Lengths.{lineRoom}
 use Rattle.case_line.specs.CaseText.{busRecords}
 use Rattle.case_write.proofs.Turns.{Turn, turn-first, turn-bus, turn-all}
 use borrow.Author.Needs.{needs}
@@ -10,7 +11,7 @@ use Rattle.case_write.proofs.cases.put_buses.Statement.{statement}
 use Rattle.case_write.proofs.cases.put_buses.Tie as tie
 
 abbrev Inv-loop : tie.InvT-loop
-Inv-loop out₀ at n zero site k₀ b₀ b-end out k b = Turn (busRecords (setOf zero) (setOf site)) 15 1 n n out₀ at b-end out k b
+Inv-loop out₀ at n zero site k₀ b₀ b-end out k b = Turn (busRecords (setOf zero) (setOf site)) lineRoom 1 n n out₀ at b-end out k b
 
 abbrev μ-loop : tie.MeasureT-loop
 μ-loop out₀ at n zero site k₀ b₀ b-end out k b = b-end - b

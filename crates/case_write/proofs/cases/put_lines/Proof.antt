@@ -1,4 +1,4 @@
--- Invariant: the rows from bus a on are left to put, and each row passed took at most rowRoom bytes, 64 lines of 15. a-end - a falls.
+-- Invariant: the rows from bus a on are left to put, and each row passed took at most rowRoom bytes. a-end - a falls.
 use mathlib.Core.Path.{refl}
 use Prim.Native.Nat.{_-_}
 use native.Mathlib.Omega.{arith}

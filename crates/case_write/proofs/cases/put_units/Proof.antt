@@ -1,9 +1,10 @@
--- Invariant: the records of the units from bus b on are left to put, and each bus passed took at most 15 bytes. b-end - b falls.
+-- Invariant: the records of the units from bus b on are left to put, and each bus passed took at most lineRoom bytes. b-end - b falls.
 use mathlib.Core.Path.{refl}
 use Prim.Native.Nat.{_-_}
 use native.Mathlib.Omega.{arith}
 use Rattle.busset.specs.Sets.{setOf}
 use Rattle.case_line.specs.declared.Record.the-variants.{Pmu}
+use Rattle.case_read.proofs.Lengths.{lineRoom}
 use Rattle.case_line.specs.CaseText.{members}
 use Rattle.case_write.proofs.Turns.{Turn, turn-first, turn-member, turn-all}
 use borrow.Author.Needs.{needs}
@@ -11,7 +12,7 @@ use Rattle.case_write.proofs.cases.put_units.Statement.{statement}
 use Rattle.case_write.proofs.cases.put_units.Tie as tie
 
 abbrev Inv-loop : tie.InvT-loop
-Inv-loop out₀ at n units k₀ b₀ b-end out k b = Turn (members Pmu (setOf units)) 15 1 n n out₀ at b-end out k b
+Inv-loop out₀ at n units k₀ b₀ b-end out k b = Turn (members Pmu (setOf units)) lineRoom 1 n n out₀ at b-end out k b
 
 abbrev μ-loop : tie.MeasureT-loop
 μ-loop out₀ at n units k₀ b₀ b-end out k b = b-end - b
