@@ -129,36 +129,49 @@ def compared(asker, program, seed):
     return different + (at != len(said))
 
 
-def counts(asker, seed, count):
-    """One line: how many questions, of each call how many and how many accepted, and how often each refusal; and what
-    is missing: a call with fewer than a 20th of the drawn ones, or a 100th accepted, or a refusal."""
-    calls = collections.Counter(q.call for q in asker.questions)
-    accepted = collections.Counter(q.call for q in asker.questions if q.reply[1] == 0)
-    refused = collections.Counter(q.reply[1] for q in asker.questions if q.reply[1])
-    said = ["%s %d (%d accepted)" % (call, calls[call], accepted[call]) for call in LETTERS]
-    missing = [call for call in LETTERS if accepted[call] < count // 100 or calls[call] < count // 20]
-    missing += [k for k in range(1, 14) if not refused[k]]
-    said = "%d questions from seed %s: %s; refused %s" % (
-        len(asker.questions), seed, ", ".join(said), ", ".join("%d: %d" % item for item in sorted(refused.items())))
-    return said, missing
+class Counts:
+    """How many questions there were of each call, how many were accepted, and how often each refusal was given."""
+
+    def __init__(self):
+        self.calls, self.accepted, self.refused = (collections.Counter() for _ in range(3))
+
+    def add(self, questions):
+        self.calls.update(q.call for q in questions)
+        self.accepted.update(q.call for q in questions if q.reply[1] == 0)
+        self.refused.update(q.reply[1] for q in questions if q.reply[1])
+
+    def missing(self, count):
+        """The calls with fewer than a 20th of so many, or a 100th accepted, and the refusals that were not given."""
+        calls = [call for call in LETTERS if self.calls[call] < count // 20 or self.accepted[call] < count // 100]
+        return calls + [k for k in range(1, 14) if not self.refused[k]]
+
+    def line(self):
+        calls = ", ".join("%s %d (%d accepted)" % (call, self.calls[call], self.accepted[call]) for call in LETTERS)
+        refused = ", ".join("%d: %d" % item for item in sorted(self.refused.items()))
+        return "%d questions: %s; refused %s" % (sum(self.calls.values()), calls, refused)
+
+
+def ask_drawn(seed, count, program):
+    """Asks part after part, so that few questions are held at once; whether all replies are right."""
+    counts, different = Counts(), 0
+    for ask in questions_drawn.parts(seed, count):
+        asker = Asker()
+        ask(asker)
+        different += compared(asker, program, seed)
+        counts.add(asker.questions)
+    missing = counts.missing(count)
+    if missing:
+        print("too few: %s" % missing)
+    print("seed %s, %s" % (seed, counts.line()))
+    return not different and not missing
 
 
 def main():
-    what = sys.argv[1]
+    if sys.argv[1] == "drawn":
+        sys.exit(0 if ask_drawn(sys.argv[2], int(sys.argv[3]), sys.argv[4]) else 1)
     asker = Asker()
-    if what in ("stdin", "stdout"):
-        questions_named.ask_all(asker)
-        sys.stdout.buffer.write(asker.stdin() if what == "stdin" else asker.stdout())
-        return
-    seed, count, program = sys.argv[2], int(sys.argv[3]), sys.argv[4]
-    questions_drawn.ask_damaged(asker, seed)
-    questions_drawn.ask_drawn(asker, seed, count)
-    different = compared(asker, program, seed)
-    said, missing = counts(asker, seed, count)
-    if missing:
-        print("too few: %s" % missing)
-    print(said)
-    sys.exit(1 if different or missing else 0)
+    questions_named.ask_all(asker)
+    sys.stdout.buffer.write(asker.stdin() if sys.argv[1] == "stdin" else asker.stdout())
 
 
 if __name__ == "__main__":

@@ -1,4 +1,5 @@
 """Questions drawn from a seed: grids, sets, lists, texts, budgets and rooms, valid and damaged."""
+import functools
 import random
 
 from reference import Case, holds, is_grid, observed, reasons
@@ -6,8 +7,8 @@ from reference_texts import CASE_LIMIT, STEP_LIMIT, write_case, write_steps
 from reports import day
 from texts import damaged, over, places_of, texts
 
-HUGE = 18446744073709551609
-# how many questions a turn asks: one of each call
+# the highest number but one that a line can say
+HUGE = 18446744073709551608
 CALLS = 16
 
 
@@ -28,6 +29,8 @@ def ask_damaged(asker, seed):
 
 
 class Dice(random.Random):
+    """What questions are drawn from."""
+
     def chance(self, percent):
         return self.random() * 100 < percent
 
@@ -85,7 +88,7 @@ class Dice(random.Random):
 
     def value(self):
         case = self.grid()
-        return self.wrong(case) if self.chance(35) else case
+        return self.wrong(case) if self.chance(45) else case
 
     def step(self, n):
         by = self.bus(n)
@@ -107,11 +110,16 @@ class Dice(random.Random):
             seen.add(step[0])
         return steps
 
+    def long(self, steps):
+        """The list again and again, up to 1,024 or 1,025 steps. A block has no room for so many large numbers."""
+        short = [(bus, reason) for bus, reason in steps if max((bus,) + reason[1:]) < 100]
+        return ((short or [(1, ("O",))]) * 1025)[: self.choice((1024, 1025))]
+
     def mistaken(self, case, steps):
-        """The list with a step more, less, elsewhere or again; or far too long."""
+        """The list with a step more, less or again; or far too long."""
         at = self.randint(0, len(steps))
         if self.chance(10):
-            return (steps or [self.step(case.n)]) * 1025
+            return self.long(steps)
         if self.chance(40):
             return steps[:at] + [self.step(case.n)] + steps[at:]
         if self.chance(50):
@@ -120,7 +128,7 @@ class Dice(random.Random):
 
     def plan(self, case):
         steps = self.desk(case)
-        return self.mistaken(case, steps)[:1025] if self.chance(40) else steps
+        return self.mistaken(case, steps) if self.chance(40) else steps
 
     def merged(self, lists):
         """The lists as one, each in its own order."""
@@ -140,15 +148,15 @@ class Dice(random.Random):
             text = self.choice(list(kind(text, self.choice(places))))
         return text
 
-    def to_cover(self):
-        """A grid for which all placements within the budget are quickly tried, and the budget."""
+    def to_cover(self, most):
+        """A grid with at most so many sites, for which all placements within the budget are quickly tried; the budget."""
         budget = self.randint(0, 9)
         case = self.grid(64 if self.chance(60) else 8)
-        order = self.sample(range(1, case.n + 1), case.n)
-        units, most = [], {0: 64, 1: 64, 2: 18, 3: 9}.get(budget, 7)
+        order, units = self.sample(range(1, case.n + 1), case.n), []
         while len(observed(case, units)) < case.n:
             units.append(order.pop())
         taken = self.randint(0, min(len(units), 3))
+        most = min(most, {0: 64, 1: 64, 2: 18, 3: 9}.get(budget, 7))
         case.site = set((units[:taken] + order + units[taken:])[:most])
         case.units = set(units[taken:])
         return case, budget
@@ -196,19 +204,30 @@ def of_texts(dice, asker, name):
 
 def of_plans(dice, asker, name):
     """The fewest, and the planning program's reply."""
-    case, budget = dice.to_cover()
+    # damage to the text may change the budget
+    case, budget = dice.to_cover(12)
     line = b"plan\n" if budget == 8 and dice.chance(50) else b"plan\t%d\n" % budget
     text = dice.text(line + write_case(case, 8192), CASE_LIMIT)
     asker.of_text(name + "L", "plan_report", text, dice.room(dice.choice((12, 20, 30)), 16400))
+    case, budget = dice.to_cover(64)
     case = dice.wrong(case) if dice.chance(25) else case
     asker.of_case(name + "p", "place_fewest", case, budget if dice.chance(95) else HUGE)
 
 
-def ask_drawn(asker, seed, count):
-    for turn in range(-(-count // CALLS)):
+def ask_turns(asker, seed, turns):
+    """In each turn one question of each call."""
+    for turn in turns:
         dice, name = Dice("%s %d" % (seed, turn)), "%d" % turn
         case = dice.value()
         of_cases(dice, asker, name, case)
         of_lists(dice, asker, name, case)
         of_texts(dice, asker, name)
         of_plans(dice, asker, name)
+
+
+def parts(seed, count):
+    """Functions that ask: the damaged texts, and then so many drawn questions."""
+    yield functools.partial(ask_damaged, seed=seed)
+    turns = -(-count // CALLS)
+    for first in range(0, turns, 500):
+        yield functools.partial(ask_turns, seed=seed, turns=range(first, min(first + 500, turns)))

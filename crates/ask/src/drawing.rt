@@ -1,6 +1,6 @@
 // Case values and stated sets, drawn bus by bus and line by line. What names no bus of a word is left out.
-use busset::BusSet;
-use grid::Case;
+use wozgrzyt::BusSet;
+use wozgrzyt::Case;
 
 // n buses, all I and Y, with no line and no unit.
 pub fn blank(n: usize) -> Case {

@@ -4,11 +4,11 @@ ghost use lib.ListN.{take, drop};
 ghost use mathlib.Core.Path.{_≡_};
 ghost use Rattle.list_follow.specs.Replies.{ReplayReply, WeaveReply};
 ghost use Rattle.step_text.specs.Taking.{StepsReadReply};
-use grid::Case;
-use list_follow::Replayed;
-use list_follow::Wove;
-use step::Step;
-use step_text::StepsRead;
+use wozgrzyt::Case;
+use wozgrzyt::Replayed;
+use wozgrzyt::Step;
+use wozgrzyt::StepsRead;
+use wozgrzyt::Wove;
 
 // What weaving answers, and the records after it.
 pub struct Woven {
@@ -27,7 +27,7 @@ pub fn replay_first(case: Case, plan: [Step; 1032], count: usize) -> Replayed
     requires { ⌜ count ≤ 1032 ⌝ }
     ensures { λ r. ⌜ ReplayReply case (take count plan) r ⌝ }
 {
-    list_calls::replay(case, &plan[..count])
+    wozgrzyt::replay(case, &plan[..count])
 }
 
 // Weaves the first `count` steps into the first `room` records.
@@ -43,7 +43,7 @@ pub fn weave_first(
         × (drop room (r .out) ≡ drop room out) ⌝ }
 {
     let mut records = out;
-    let answer = list_calls::weave(case, &plan[..count], &mut records[..room]);
+    let answer = wozgrzyt::weave(case, &plan[..count], &mut records[..room]);
     Woven {
         answer,
         out: records,
@@ -57,7 +57,7 @@ pub fn read_first(text: &[u8], out: [Step; 1032], room: usize) -> Filled
         × (drop room (r .out) ≡ drop room out) ⌝ }
 {
     let mut records = out;
-    let answer = step_records::read_steps(text, &mut records[..room]);
+    let answer = wozgrzyt::read_steps(text, &mut records[..room]);
     Filled {
         answer,
         out: records,

@@ -3,10 +3,10 @@ ghost use mathlib.Core.Path.{_≡_};
 ghost use Prim.Native.Nat.{_+_, _≤_, _<_};
 ghost use lib.ListN.{length};
 use crate::printing;
-use list_value::StepList;
-use refusals::Refusal;
-use step::Reason;
-use step::Step;
+use wozgrzyt::Reason;
+use wozgrzyt::Refusal;
+use wozgrzyt::Step;
+use wozgrzyt::StepList;
 
 pub struct Plan {
     pub n: usize,

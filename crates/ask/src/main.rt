@@ -15,8 +15,8 @@ mod rooms;
 mod sites;
 
 use asked::Line;
-use busset::BusSet;
-use grid::Case;
+use wozgrzyt::BusSet;
+use wozgrzyt::Case;
 
 // Where the steps of the list start, and where the text starts and ends.
 struct Marks {

@@ -6,12 +6,12 @@ use crate::lists;
 use crate::lists::Plan;
 use crate::printing;
 use crate::rooms::least;
-use busset::BusSet;
-use grid::Case;
-use list_follow::Replayed;
-use list_follow::Wove;
-use step::Step;
+use wozgrzyt::BusSet;
+use wozgrzyt::Case;
+use wozgrzyt::Replayed;
+use wozgrzyt::Step;
 use wozgrzyt::Tested;
+use wozgrzyt::Wove;
 
 fn tested(case: Case, s: BusSet, step: Step) {
     match wozgrzyt::test_step(case, s, step) {

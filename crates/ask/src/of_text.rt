@@ -6,7 +6,7 @@ use crate::lists::Plan;
 use crate::printing;
 use crate::rooms;
 use crate::rooms::least;
-use grid::Case;
+use wozgrzyt::Case;
 use wozgrzyt::ReadAnswer;
 use wozgrzyt::StepsRead;
 use wozgrzyt::TextReplayed;

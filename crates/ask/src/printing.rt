@@ -1,9 +1,9 @@
 // Texts, numbers, sets, steps, cases and refusals, printed.
-use busset::BusSet;
-use grid::Case;
-use refusals::Refusal;
-use step::Reason;
-use step::Step;
+use wozgrzyt::BusSet;
+use wozgrzyt::Case;
+use wozgrzyt::Reason;
+use wozgrzyt::Refusal;
+use wozgrzyt::Step;
 
 pub fn text(bytes: &[u8]) {
     io::write_all(1, bytes);

@@ -3,7 +3,7 @@ ghost use mathlib.Core.Path.{_≡_};
 ghost use Prim.Native.Nat.{_≤_};
 ghost use lib.ListN.{length};
 use crate::printing;
-use grid::Case;
+use wozgrzyt::Case;
 use wozgrzyt::Written;
 
 fn filling(i: usize) -> u8 {

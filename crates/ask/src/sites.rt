@@ -4,7 +4,7 @@ ghost use Prim.Native.Nat.{_<_};
 ghost use lib.ListN.{length};
 use crate::printing;
 use crate::rooms;
-use grid::Case;
+use wozgrzyt::Case;
 use wozgrzyt::Greedy;
 
 // What number i is filled with.

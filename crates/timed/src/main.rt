@@ -1,11 +1,11 @@
 // Asks one call again and again, and prints the last answer as one number. The first line of standard input says the
 // call and how often it is asked; the rest is a case text. In a set, bus b is the bit b - 1.
 ghost use mathlib.Core.Path.{_≡_};
-use grid::Case;
-use refusals::Refusal;
+use wozgrzyt::Case;
 use wozgrzyt::Fewest;
 use wozgrzyt::Observed;
 use wozgrzyt::ReadAnswer;
+use wozgrzyt::Refusal;
 
 fn wide(n: usize) -> u64
     ensures { λ r. ⌜ r ≡ n ⌝ }
