@@ -6,9 +6,9 @@
 -- From this the two directions follow. What is written is read: the writer goes through the places in order, and the reader
 -- accepts each record because its place rises. What is read is written: the case that is read fixes the answer at each
 -- place, so the next record of any text that gives this case is fixed too, and with it the text.
-use mathlib.Core.Path.{_≡_, refl, sym, ap, ap₂, _∙_, subst⁻¹}
+use mathlib.Core.Path.{_≡_, refl, ap, ap₂, _∙_, subst⁻¹}
 use mathlib.Core.Bool.{Bool, true, false, _&&_, _||_}
-use Prim.Native.Nat.{ℕ, suc, zero, _+_, _-_, _*_, _≤_, _<_}
+use Prim.Native.Nat.{ℕ, _+_, _≤_, _<_}
 use native.Mathlib.Omega.{arith}
 use borrow.Author.Tests.{leb-true, ltb-true, eqb-true}
 use lib.Dec.{eqb, ltb, leb}

@@ -3,7 +3,7 @@ use mathlib.Core.Path.{_≡_, refl, sym, _∙_, subst, subst⁻¹}
 use mathlib.Core.Bool.{Bool, true, false, cond}
 use mathlib.Core.List.{List, [], _∷_, _++_}
 use mathlib.Core.Logic.{_⊎_, ⊎-elim}
-use Prim.Native.Nat.{ℕ, suc, zero, _+_, _-_, _*_, _≤_, _<_}
+use Prim.Native.Nat.{ℕ, suc, zero, _+_, _≤_, _<_}
 use native.Mathlib.Omega.{arith}
 use borrow.Author.Tests.{lt-ltb, le-ltb, le-leb, eq-eqb, eqb-true, eqb-false}
 use lib.ListN.{length}
@@ -171,8 +171,8 @@ unit-none : (c : Case) (k : ℕ) → has (setOf (c .units)) k ≡ false → IsBu
     → place q < unitPlace (k + 1)
     → answer c q ≡ 0
 unit-none c k t b q h x y =
-    at-unit (λ (q : Ask). answer c q ≡ 0) k b (omega (arith, eqb-false (bit (setOf (c .units)) k) 1 t)) q h
-    (omega (arith, next-spot 2 0 k))
+    let e : unitPlace k + 1 ≡ unitPlace (k + 1) = next-spot _ _ _ in
+    at-unit (λ (q : Ask). answer c q ≡ 0) k b (omega (arith, eqb-false (bit (setOf (c .units)) k) 1 t)) q h (omega arith)
 
 unit-turn : (c : Case) (rs : List Record) (m k : ℕ) (s : Reader) (p : ℕ) (t : Bool) → has (setOf (c .units)) k ≡ t
     → Upto c s p (unitPlace k)
@@ -225,7 +225,8 @@ line-none : (c : Case) (a b : ℕ) → Pair a b → has (neighbours (c .nbr) a) 
     → linePlace a b ≤ place q
     → place q < linePlace a (b + 1) → answer c q ≡ 0
 line-none c a b y t q h k l =
-    at-line (λ (q : Ask). answer c q ≡ 0) a b y (omega (arith, eqb-false (joined (c .nbr) a b) 1 t)) q h (omega (arith, next-spot 1 a b))
+    let e : linePlace a b + 1 ≡ linePlace a (b + 1) = next-spot _ _ _ in
+    at-line (λ (q : Ask). answer c q ≡ 0) a b y (omega (arith, eqb-false (joined (c .nbr) a b) 1 t)) q h (omega arith)
 
 -- past the buses and before the units, below the line a b, with room for so many lines
 pub record Lining (c : Case) (s : Reader) (p a b left : ℕ) : Type 0 where

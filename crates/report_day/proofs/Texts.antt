@@ -11,7 +11,7 @@ use Rattle.step.specs.declared.Step.{Step}
 use Rattle.rules.specs.Steps.{Names}
 use Rattle.basics.specs.Lists.{Each}
 use Rattle.text_field.specs.Split.{join, bytes, lineFeed}
-use Rattle.text_field.specs.Number.{numberText}
+use Rattle.text_field.specs.Number.{mostDigits, numberText}
 use Rattle.text_field.proofs.Digits.{text-length, text-two}
 use Rattle.step_line.specs.StepLine.{stepText}
 use Rattle.step.specs.Records.{noStep}
@@ -96,6 +96,6 @@ observed-length k n h l = simp length-append (omega (arith, text-two k (omega ar
 
 -- put, whatever its numbers are
 pub observed-put : {l m : List ℕ} {r : ℕ} (k n : ℕ) → Put l 0 (printedLine (bytes "observed") (numberText k ∷ numberText n ∷ [])) m r
-    → r ≤ 19
+    → r ≤ 11 + 2 * mostDigits
 unfolding join
 observed-put k n p = omega (arith, simp length-append at (p .next), text-length k, text-length n)

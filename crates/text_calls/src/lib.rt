@@ -1,5 +1,7 @@
 // The calls on texts: a case text read and written; a step text checked, read and replayed.
 ghost use Rattle.text_calls.specs.Replies.{CaseWrittenReply};
+use case_write::cases::count_bytes;
+use case_write::cases::put_case;
 use grid::Case;
 use refusals::Refusal;
 use refusals::Written;
@@ -17,11 +19,9 @@ pub fn write_case(case: Case, out: &mut [u8]) -> Written
     if !grid::validity::is_valid(case) {
         return Written::Refused(Refusal::InvalidCase);
     }
-    if out.len()
-        < case_write::cases::count_bytes(case.n, &case.nbr, case.zero, case.site, case.units)
-    {
+    if out.len() < count_bytes(case.n, &case.nbr, case.zero, case.site, case.units) {
         return Written::Refused(Refusal::NoRoom);
     }
-    let k = case_write::cases::put_case(out, case.n, &case.nbr, case.zero, case.site, case.units);
+    let k = put_case(out, case.n, &case.nbr, case.zero, case.site, case.units);
     Written::Bytes(k)
 }

@@ -34,20 +34,24 @@ returns : tie.Need-returns
 returns c = (inl (refutes (c .before .is-valid .ensures) (not-true _ (c .if1 .taken)), itself _), refl)
 
 count-bytes-requires : tie.Need-count-bytes-requires
-count-bytes-requires c κs = (c .before .is-valid .ensures .yes (not-false _ (c .if1 .left))) .buses .most
+count-bytes-requires c κs =
+    let at-if1 = c .before .before in
+    at-if1 .before .is-valid .ensures .yes (not-false _ (at-if1 .if1 .left)) .buses .most
 
 returns-2 : tie.Need-returns-2
-returns-2 c = (
-  inr (
-    (c .before .before .before .is-valid .ensures .yes (not-false _ (c .before .before .if1 .left))),
-    inl ((λ h. omega (arith, c .before .count-bytes .ensures, c .if2 .taken)), itself _),
-  ),
-  refl,
-)
+returns-2 c =
+    let at-if1 = c .before .before .before .before in (
+      inr (
+        at-if1 .before .is-valid .ensures .yes (not-false _ (at-if1 .if1 .left)),
+        inl ((λ h. omega (arith, c .before .count-bytes .ensures, c .if2 .taken)), itself _),
+      ),
+      refl,
+    )
 
 put-case-requires : tie.Need-put-case-requires
 put-case-requires c κs =
-    (c .before .before .before .before .is-valid .ensures .yes (not-false _ (c .before .before .before .if1 .left))) .buses .most
+    let at-if1 = c .before .before .before .before .before .before .before in
+    at-if1 .before .is-valid .ensures .yes (not-false _ (at-if1 .if1 .left)) .buses .most
 
 same-length : tie.Need-same-length
 same-length c = search needs
@@ -55,9 +59,9 @@ same-length c = search needs
 returns-3 : tie.Need-returns-3
 returns-3 c =
     let at-put-case = c .before .before in
-    let at-if2 = at-put-case .before .before in
+    let at-if2 = at-put-case .before .before .before .before in
     let at-count-bytes = at-if2 .before in
-    let at-if1 = at-count-bytes .before in
+    let at-if1 = at-count-bytes .before .before .before in
     let valid = at-if1 .before .is-valid .ensures .yes (not-false _ (at-if1 .if1 .left)) in
     has-written (valid, (roomy _ (at-count-bytes .count-bytes .ensures) (at-if2 .if2 .left), tt)) (at-put-case .put-case .ensures)
 

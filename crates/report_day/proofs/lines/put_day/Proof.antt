@@ -1,6 +1,8 @@
--- Four texts, put one after another, are the report. The steps end by byte 851, so every place is within its bound.
-use Prim.Native.Nat.{_≤_}
+-- Four texts, put one after another, are the report. Each ends at most its room after it starts, so every place is within its bound.
+use Prim.Native.Nat.{_+_, _*_, _≤_}
+use Rattle.busset.specs.Sets.{width}
 use Rattle.text_field.specs.Split.{join}
+use Rattle.text_field.specs.Number.{mostDigits}
 use native.Mathlib.Omega.{arith}
 use Rattle.text_put.proofs.Putting.{put-then, put-near}
 use Rattle.report_day.proofs.Texts.{observed-put, list-length, verdict-length}
@@ -11,7 +13,7 @@ use Rattle.report_day.proofs.lines.put_day.Tie as tie
 put-observed-requires : tie.Need-put-observed-requires
 put-observed-requires c κs = search needs
 
-after-steps : (c : tie.After-put-steps) → c .put-steps .result ≤ 851
+after-steps : (c : tie.After-put-steps) → c .put-steps .result ≤ 11 + 2 * mostDigits + 13 * width
 after-steps c =
     let at-put-observed = c .before .before .before .before in
     let at-args = at-put-observed .before .before .before in
