@@ -4,14 +4,15 @@ use mathlib.Core.List.{[], _∷_}
 use Prim.Native.Nat.{ℕ}
 use lib.Count.{ones, onesIn}
 use Rattle.busset.specs.Sets.{add, lack, less, upTo, setOf}
+use Rattle.busset.specs.Held.{wordOf, hold}
 use Rattle.rules.specs.Grids.{total}
 use Rattle.rules.specs.Observation.{ObservedSet}
-use Rattle.tables.proofs.Tests.{gap, isOne, given, subTest, holdsTest, acceptedTest, closedTest, leastTest, least-passes}
+use Rattle.tables.proofs.Tests.{gap, isOne, above, withinTest, given, subTest, holdsTest, acceptedTest, closedTest, leastTest, least-passes}
 use Rattle.tables.proofs.Sought.{derived, pick, reasonFor, reasonAt, stepFor, passFrom, extended, derive}
 use Rattle.grid.specs.Rows.{neighbours}
 use Rattle.grid.specs.Cases.{Valid}
-use Rattle.tables.proofs.Drawn.{withinTest, rowTest, validTest, valid-passes}
-use Rattle.tables.specs.Starred.{Drawing, drawnCase, seven, path}
+use Rattle.tables.proofs.Drawn.{rowTest, validTest, filled-passes}
+use Rattle.tables.specs.Starred.{Drawing, shortCase, drawnCase, seven, path}
 use Rattle.tables.specs.Drawings.{set, drawnGrid, pathWith, sweep, leaf, lone, ring}
 
 -- a valid case, and the set that is observed in it
@@ -20,9 +21,9 @@ pub record ObservedIn (d : Drawing) (s : ℕ) : Type 0 where
   pub least : ObservedSet (drawnGrid d) s
 
 -- from two tests, where the list that derives the set is found
-observed : (d : Drawing) (s : ℕ) → validTest (drawnCase d) ≡ 0 → leastTest (drawnGrid d) (derived (drawnGrid d)) s ≡ 0 → ObservedIn d s
+observed : (d : Drawing) (s : ℕ) → validTest (shortCase d) ≡ 0 → leastTest (drawnGrid d) (derived (drawnGrid d)) s ≡ 0 → ObservedIn d s
 observed d s v e =
-    let ok : Valid (drawnCase d) = valid-passes (drawnCase d) v in
+    let ok : Valid (drawnCase d) = filled-passes (shortCase d) v in
     record { valid = ok; least = least-passes (drawnGrid d) (derived (drawnGrid d)) s (ok .proper) e }
 
 -- those that the tables speak of
@@ -44,8 +45,8 @@ pub record Known : Type 0 where
   pub lone1 : ObservedIn lone (set (1 ∷ []))
 
 pub known : Known
-unfolding validTest withinTest rowTest leastTest acceptedTest holdsTest closedTest subTest isOne gap given total neighbours setOf upTo less
-    lack add ones onesIn pick reasonFor reasonAt stepFor passFrom extended derive
+unfolding validTest withinTest rowTest above leastTest acceptedTest holdsTest closedTest subTest isOne gap given total neighbours hold
+    wordOf setOf upTo less lack add ones onesIn pick reasonFor reasonAt stepFor passFrom extended derive
 known = record {
   none = observed (seven []) (set []) refl refl;
   at2 = observed (seven (2 ∷ [])) (set (1 ∷ 2 ∷ 3 ∷ [])) refl refl;

@@ -1,21 +1,22 @@
 -- The tables of cross-validation: sets of unconfirmed units are computed.
 use mathlib.Core.Path.{_≡_, refl}
-use mathlib.Core.List.{[], _∷_}
+use mathlib.Core.List.{List, [], _∷_}
 use Prim.Native.Nat.{ℕ, _+_}
 use native.Mathlib.Omega.{arith}
 use lib.Count.{ones, onesIn}
-use Rattle.busset.specs.Sets.{bit, meet, upTo, size, setOf}
+use Rattle.busset.specs.Sets.{bit, meet, upTo, size, add, setOf, lack}
+use Rattle.busset.specs.Held.{wordOf, hold}
 use Rattle.busset.proofs.Members.{meet-at}
 use Rattle.busset.proofs.Sizes.{size-some}
-use Rattle.busset.proofs.Words.{set-bus}
+use Rattle.busset.proofs.Words.{set-zero}
 use Rattle.rules.specs.Grids.{total}
 use Rattle.rules.specs.Confirming.{Confirm, joined, share, UnconfirmedSet}
 use Rattle.rules.proofs.Choices.{unconfirmed-unique}
-use Rattle.tables.proofs.Tests.{gap, given}
+use Rattle.tables.proofs.Tests.{gap, above, withinTest, within-passes, given}
 use Rattle.tables.proofs.Sought.{confirmTest, aloneTest, unconfirmedTest, unconfirmed-passes}
 use Rattle.grid.specs.Rows.{neighbours}
-use Rattle.tables.proofs.Drawn.{withinTest, rowTest, validTest, valid-passes}
-use Rattle.tables.specs.Starred.{Drawing, setWord, drawnCase, seven}
+use Rattle.tables.proofs.Drawn.{rowTest, validTest, filled-passes}
+use Rattle.tables.specs.Starred.{Drawing, setWord, shortCase, seven}
 use Rattle.tables.proofs.Rows.{_&_}
 use Rattle.tables.specs.Tables.{AllRight}
 use Rattle.tables.specs.Drawings.{set, drawnGrid, sevenGrid, apart}
@@ -27,7 +28,7 @@ strangers nbr a b e (joined j) = omega arith
 strangers nbr a b e (share c j k) = omega (arith, size-some (meet (nbr a) (nbr b)) c (let m = meet-at (nbr a) (nbr b) c in omega arith))
 
 pub confirm-right : AllRight tables.confirmTable
-unfolding meet neighbours setOf ones onesIn
+unfolding meet neighbours hold wordOf add setOf ones onesIn
 confirm-right =
     joined refl
     & joined refl
@@ -39,23 +40,26 @@ confirm-right =
     & tt
 
 -- the units of a drawing that no other unit confirms
-alone : (d : Drawing) (s : ℕ) → validTest (drawnCase d) ≡ 0 → withinTest (d .n) s ≡ 0 → unconfirmedTest (drawnGrid d) (setOf s) ≡ 0
-    → UnconfirmedSet (drawnGrid d .neighbours) (drawnGrid d .units) (setOf s)
-unfolding withinTest
-alone d s v w e =
-    unconfirmed-passes (drawnGrid d) (valid-passes (drawnCase d) v .proper) (setOf s) (λ b h. set-bus (d .n) b (omega arith) h) e
+alone : (d : Drawing) (bs : List ℕ) → validTest (shortCase d) ≡ 0 → withinTest (d .n) (set bs) ≡ 0
+    → unconfirmedTest (drawnGrid d) (set bs) ≡ 0
+    → UnconfirmedSet (drawnGrid d .neighbours) (drawnGrid d .units) (set bs)
+alone d bs v w e =
+    unconfirmed-passes (drawnGrid d) (filled-passes (shortCase d) v .proper) (set bs)
+    (within-passes (d .n) (set bs) (set-zero (setWord bs)) w) e
 
 -- no units, and a unit alone
 pub nobody : UnconfirmedSet (sevenGrid [] .neighbours) (set []) (set [])
-unfolding validTest withinTest rowTest unconfirmedTest aloneTest confirmTest gap given total meet upTo neighbours setOf ones onesIn
-nobody = alone (seven []) (setWord []) refl refl refl
+unfolding validTest withinTest above rowTest unconfirmedTest aloneTest confirmTest gap given total meet upTo neighbours hold wordOf add
+    setOf ones onesIn lack
+nobody = alone (seven []) [] refl refl refl
 
 pub itself : UnconfirmedSet (sevenGrid [] .neighbours) (set (3 ∷ [])) (set (3 ∷ []))
-unfolding validTest withinTest rowTest unconfirmedTest aloneTest confirmTest gap given total meet upTo neighbours setOf ones onesIn
-itself = alone (seven (3 ∷ [])) (setWord (3 ∷ [])) refl refl refl
+unfolding validTest withinTest above rowTest unconfirmedTest aloneTest confirmTest gap given total meet upTo neighbours hold wordOf add
+    setOf ones onesIn lack
+itself = alone (seven (3 ∷ [])) (3 ∷ []) refl refl refl
 
 pub unconfirmed-right : AllRight tables.unconfirmedTable
-unfolding neighbours setOf
+unfolding neighbours hold wordOf add setOf
 unconfirmed-right =
     itself .only 3 refl
     & (λ h. h .none 4 refl (λ e. omega arith) (joined refl))
@@ -63,21 +67,22 @@ unconfirmed-right =
     & tt
 
 pub sets-right : AllRight tables.unconfirmedSetTable
-unfolding validTest withinTest rowTest unconfirmedTest aloneTest confirmTest gap given total meet upTo neighbours setOf ones onesIn
+unfolding validTest withinTest above rowTest unconfirmedTest aloneTest confirmTest gap given total meet upTo neighbours hold wordOf add
+    setOf ones onesIn lack
 sets-right =
     nobody
     & itself
     & joined34
-    & alone (seven (2 ∷ 4 ∷ [])) (setWord []) refl refl refl
+    & alone (seven (2 ∷ 4 ∷ [])) [] refl refl refl
     & apart14
-    & alone (apart (1 ∷ 2 ∷ 3 ∷ [])) (setWord (3 ∷ [])) refl refl refl
+    & alone (apart (1 ∷ 2 ∷ 3 ∷ [])) (3 ∷ []) refl refl refl
     & (λ h. omega (arith, unconfirmed-unique _ _ itself h))
     & (λ h. omega (arith, unconfirmed-unique _ _ apart14 h))
     & (λ h. omega (arith, unconfirmed-unique _ _ joined34 h))
     & tt
   where
     joined34 : UnconfirmedSet (sevenGrid [] .neighbours) (set (3 ∷ 4 ∷ [])) (set [])
-    joined34 = alone (seven (3 ∷ 4 ∷ [])) (setWord []) refl refl refl
+    joined34 = alone (seven (3 ∷ 4 ∷ [])) [] refl refl refl
 
     apart14 : UnconfirmedSet (sevenGrid [] .neighbours) (set (1 ∷ 4 ∷ [])) (set (1 ∷ 4 ∷ []))
-    apart14 = alone (seven (1 ∷ 4 ∷ [])) (setWord (1 ∷ 4 ∷ [])) refl refl refl
+    apart14 = alone (seven (1 ∷ 4 ∷ [])) (1 ∷ 4 ∷ []) refl refl refl

@@ -5,21 +5,23 @@ use mathlib.Core.Logic.{inl, inr}
 use Prim.Native.Nat.{_≤_}
 use native.Mathlib.Omega.{arith}
 use lib.Count.{ones, onesIn}
-use Rattle.busset.specs.Sets.{setOf, upTo}
+use Rattle.busset.specs.Sets.{add, lack, upTo, setOf}
+use Rattle.busset.specs.Held.{wordOf, hold}
 use Rattle.rules.specs.Grids.{total}
-use Rattle.tables.proofs.Tests.{gap}
+use Rattle.tables.proofs.Tests.{above, withinTest}
 use Rattle.refusals.specs.declared.Refusal.{Refusal}
 use Rattle.refusals.specs.declared.Refusal.the-variants.{InvalidCase, OverBudget}
+use Rattle.grid.specs.Limits.{mostBuses}
 use Rattle.grid.specs.Rows.{neighbours}
 use Rattle.grid.specs.Cases.{Lines}
 use Rattle.refusals.specs.Refusals.{Check, checkThat, Failed}
 use Rattle.refusals.proofs.Orders.{itself, failed-unique, failed-or-passed}
-use Rattle.tables.proofs.Drawn.{withinTest, rowTest, validTest, valid-passes}
+use Rattle.tables.proofs.Drawn.{rowTest, validTest, filled-passes}
 use Rattle.estimator_reply.specs.Results.{codeOf}
-use Rattle.tables.specs.Starred.{drawnCase, seven, path}
+use Rattle.tables.specs.Starred.{shortCase, seven, path}
 use Rattle.tables.proofs.Rows.{_&_}
 use Rattle.tables.specs.Tables.{AllRight}
-use Rattle.tables.specs.Drawings.{value}
+use Rattle.tables.specs.Drawings.{shortValue}
 use Rattle.tables.specs.Grids as grids
 use Rattle.tables.specs.Refusals as refusals
 
@@ -29,15 +31,15 @@ pub limits-right : grids.LimitsRight
 limits-right = refl
 
 pub neighbours-right : grids.NeighboursRight
-unfolding neighbours setOf
+unfolding neighbours hold wordOf add setOf
 neighbours-right = refl
 
 pub parts-right : grids.GridPartsRight
-unfolding neighbours setOf
+unfolding neighbours hold wordOf add setOf
 parts-right = refl
 
 pub sums-right : grids.SumsRight
-unfolding total upTo neighbours setOf ones onesIn
+unfolding total upTo neighbours hold wordOf add setOf ones onesIn
 sums-right = refl
 
 pub table-right : refusals.RefusalTableRight
@@ -46,14 +48,14 @@ table-right = refl
 -- ---- which case values are valid
 
 pub valid-right : AllRight grids.validTable
-unfolding validTest withinTest rowTest gap total upTo neighbours setOf ones onesIn
+unfolding validTest withinTest above rowTest total lack upTo neighbours hold wordOf add setOf ones onesIn
 valid-right =
-    valid-passes (drawnCase (seven (3 ∷ []))) refl
-    & valid-passes (drawnCase path) refl
-    & valid-passes (value 1 [] [] [] []) refl
-    & valid-passes (value 64 [] [] [] (64 ∷ [])) refl
-    & valid-passes (value 2 grids.pair (1 ∷ []) (1 ∷ 2 ∷ []) (2 ∷ [])) refl
-    & valid-passes (value 2 grids.pair [] [] (1 ∷ [])) refl
+    filled-passes (shortCase (seven (3 ∷ []))) refl
+    & filled-passes (shortCase path) refl
+    & filled-passes (shortValue 1 [] [] [] []) refl
+    & filled-passes (shortValue mostBuses [] [] [] (mostBuses ∷ [])) refl
+    & filled-passes (shortValue 2 grids.pair (1 ∷ []) (1 ∷ 2 ∷ []) (2 ∷ [])) refl
+    & filled-passes (shortValue 2 grids.pair [] [] (1 ∷ [])) refl
     & (λ v. omega (arith, v .buses .some))
     & (λ v. omega (arith, v .buses .most))
     & (λ v. omega (arith, v .proper .lines 1 2 refl .back))
@@ -66,7 +68,7 @@ valid-right =
     & tt
 
 pub proper-right : AllRight grids.properTable
-unfolding neighbours setOf
+unfolding neighbours hold wordOf add setOf
 proper-right =
     valid-right .0 .proper
     & (λ v. omega (arith, v .lines 1 2 refl .back))
@@ -74,13 +76,13 @@ proper-right =
     & tt
 
 pub lines-right : AllRight grids.lineTable
-unfolding neighbours setOf validTest withinTest rowTest gap total upTo ones onesIn
+unfolding neighbours hold wordOf add setOf validTest withinTest above rowTest total lack upTo ones onesIn
 lines-right =
     pair-lines 1 2 refl
     & (λ l. omega (arith, l .back))
     & (λ l. l .differ refl)
     & (λ l. omega (arith, l .to .most))
-    & valid-passes (value 3 grids.far [] [] []) refl .proper .lines 1 3 refl
+    & filled-passes (shortValue 3 grids.far [] [] []) refl .proper .lines 1 3 refl
     & pair-lines 1
     & pair-lines 3
     & (λ l. omega (arith, l 2 refl .back))
@@ -89,7 +91,7 @@ lines-right =
     & tt
   where
     pair-lines : Lines 2 (grids.neighboursIn grids.pair)
-    pair-lines = valid-passes (value 2 grids.pair [] [] []) refl .proper .lines
+    pair-lines = filled-passes (shortValue 2 grids.pair [] [] []) refl .proper .lines
 
 -- ---- checks
 

@@ -1,4 +1,5 @@
 pub mod Tests
+pub mod Listed
 pub mod Sought
 pub mod Drawn
 pub mod Rows

@@ -4,8 +4,8 @@ use mathlib.Core.List.{[], _∷_}
 use Prim.Native.Nat.{ℕ}
 use native.Mathlib.Omega.{arith}
 use lib.Count.{ones, onesIn}
-use Rattle.busset.specs.Sets.{In, Out, lack, size, setOf}
-use Rattle.busset.proofs.Words.{all-law}
+use Rattle.busset.specs.Sets.{In, Out, lack, size, add, setOf}
+use Rattle.busset.specs.Held.{wordOf, hold}
 use Rattle.rules.specs.Grids.{Grid}
 use Rattle.rules.specs.Observation.{AllBut, O2, Closed, ObservedSet}
 use Rattle.rules.proofs.Firing.{fired-by, others-in}
@@ -14,6 +14,7 @@ use Rattle.grid.specs.Rows.{neighbours}
 use Rattle.tables.specs.Starred.{path}
 use Rattle.tables.proofs.Rows.{_&_}
 use Rattle.tables.proofs.Computed.{known}
+use Rattle.tables.proofs.Listed.{all-buses}
 use Rattle.tables.specs.Tables.{AllRight}
 use Rattle.tables.specs.Drawings.{set, drawnGrid, sevenGrid, sweep, lone}
 use Rattle.tables.specs.Observation as tables
@@ -21,7 +22,7 @@ use Rattle.tables.specs.Observation as tables
 -- ---- the rules
 
 pub o1-right : AllRight tables.o1Table
-unfolding neighbours setOf
+unfolding neighbours hold wordOf add setOf
 o1-right =
     known .at3 .least .closed .direct
     & (λ h. omega (arith, h .near 3 refl 2))
@@ -35,7 +36,7 @@ but-one : (m b s : ℕ) → (size (lack m s) ≡ 1) → In m b → Out s b → A
 but-one m b s e i o = others-in m s s b e (λ a. omega arith) i o
 
 pub all-but-right : AllRight tables.allButTable
-unfolding lack setOf ones onesIn
+unfolding lack hold wordOf add setOf ones onesIn
 all-but-right =
     but-one (set (2 ∷ 4 ∷ 7 ∷ [])) 7 (set (2 ∷ 4 ∷ [])) refl refl refl
     & (λ h. omega (arith, h 4 refl (λ e. omega arith)))
@@ -43,7 +44,7 @@ all-but-right =
     & tt
 
 pub fired-right : AllRight tables.firedTable
-unfolding lack setOf ones onesIn
+unfolding lack hold wordOf add setOf ones onesIn
 fired-right =
     (λ h. omega (arith, h 1 refl (but-one (set (1 ∷ 3 ∷ [])) 1 (set (3 ∷ [])) refl refl refl)))
     & fired-by (set (1 ∷ 3 ∷ [])) (set (1 ∷ 3 ∷ [])) (λ e. omega arith)
@@ -53,11 +54,11 @@ fired-right =
 
 -- bus 2 of the seven asks for 1
 asks-1 : O2 (sevenGrid [] .neighbours) (sevenGrid [] .zeros) (set (2 ∷ 3 ∷ 4 ∷ 7 ∷ [])) → ⊥
-unfolding neighbours lack setOf ones onesIn
+unfolding neighbours lack hold wordOf add setOf ones onesIn
 asks-1 h = omega (arith, h 2 refl refl 1 refl (but-one (set (1 ∷ 3 ∷ [])) 1 (set (2 ∷ 3 ∷ 4 ∷ 7 ∷ [])) refl refl refl))
 
 pub o2-right : AllRight tables.o2Table
-unfolding neighbours lack setOf ones onesIn
+unfolding neighbours lack hold wordOf add setOf ones onesIn
 o2-right =
     asks-1
     & known .at3 .least .closed .zeros .o2
@@ -72,10 +73,11 @@ o2-right =
 
 -- all seven buses satisfy the rules
 all-seven : Closed (sevenGrid (3 ∷ [])) (set (1 ∷ 2 ∷ 3 ∷ 4 ∷ 5 ∷ 6 ∷ 7 ∷ []))
-all-seven = all-closed (known .at3 .valid .proper) (all-law 7)
+unfolding hold wordOf add setOf
+all-seven = all-closed (known .at3 .valid .proper) (all-buses 7)
 
 pub closed-right : AllRight tables.closedTable
-unfolding neighbours setOf
+unfolding neighbours hold wordOf add setOf
 closed-right =
     known .at3 .least .closed
     & all-seven
@@ -88,7 +90,7 @@ other : (g : Grid) (s t : ℕ) → ObservedSet g s → (s ≡ t → ⊥) → Obs
 other g s t l ne h = ne (least-unique g s t l h)
 
 pub least-right : AllRight tables.observedSetTable
-unfolding setOf
+unfolding hold wordOf add setOf
 least-right =
     known .none .least
     & known .at2 .least

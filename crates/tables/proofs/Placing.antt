@@ -7,8 +7,9 @@ use native.Mathlib.Omega.{arith}
 use lib.Count.{ones, onesIn}
 use lib.ListN.{getD}
 use Rattle.busset.specs.Sets.{add, lack, less, upTo, setOf}
+use Rattle.busset.specs.Held.{wordOf, hold}
 use Rattle.busset.proofs.Members.{lack-at}
-use Rattle.busset.proofs.Words.{all-law}
+use Rattle.tables.proofs.Listed.{all-buses}
 use Rattle.rules.specs.Grids.{Grid, total}
 use Rattle.rules.specs.Placing.{Full, Covers, Free, placed, Addition, Before, Earlier, FewestSites, SomeAddition}
 use Rattle.rules.specs.Choosing.{WithSite, NoneAdds, GreedyList}
@@ -16,29 +17,30 @@ use Rattle.rules.proofs.Choices.{best-unique, greedy-unique}
 use Rattle.rules.proofs.Covering.{covers-full, full-covers}
 use Rattle.rules.proofs.Leasts.{least-unique}
 use Rattle.rules.proofs.Ordering.{before-antisym, earlier-antisym, fewest-set-unique, fewest-some}
-use Rattle.tables.proofs.Tests.{gap, isOne, given, subTest, holdsTest, acceptedTest, closedTest, leastTest}
+use Rattle.tables.proofs.Tests.{gap, isOne, above, withinTest, given, subTest, holdsTest, acceptedTest, closedTest, leastTest}
 use Rattle.tables.proofs.Sought.{Sought, PlanIs, pick, reasonFor, reasonAt, stepFor, passFrom, extended, derive}
-use Rattle.tables.proofs.Sought.{noBetter, bestTest, noneTest, greedyTest, greedy-passes, above, none, some}
+use Rattle.tables.proofs.Sought.{noBetter, bestTest, noneTest, greedyTest, greedy-passes, none, some}
 use Rattle.tables.proofs.Sought.{soughtFrom, judge, orElse, choose, seek, firstOf, smallest, fewest-passes}
 use Rattle.grid.specs.declared.Case.{Case}
+use Rattle.grid.specs.Limits.{mostBudget}
 use Rattle.grid.specs.Rows.{neighbours}
 use Rattle.grid.specs.Cases.{gridOf}
-use Rattle.tables.proofs.Drawn.{withinTest, rowTest, validTest, valid-passes}
-use Rattle.tables.specs.Starred.{drawnCase, seven}
+use Rattle.tables.proofs.Drawn.{rowTest, validTest, filled-passes}
+use Rattle.tables.specs.Starred.{filled, shortCase, seven}
 use Rattle.tables.proofs.Rows.{_&_}
 use Rattle.tables.proofs.Computed.{known}
 use Rattle.tables.specs.Tables.{AllRight}
-use Rattle.tables.specs.Drawings.{set, drawnGrid, sevenGrid, value, apart, barred, trio, hub}
+use Rattle.tables.specs.Drawings.{set, drawnGrid, sevenGrid, shortValue, apart, barred, trio, hub}
 use Rattle.tables.specs.Placing as tables
 
 -- ---- additions
 
 pub placings-right : tables.PlacedRight
-unfolding add setOf
+unfolding add hold wordOf setOf
 placings-right = refl
 
 pub free-right : AllRight tables.freeTable
-unfolding setOf
+unfolding hold wordOf add setOf
 free-right =
     record { site = refl; bare = refl }
     & (λ h. omega (arith, h .bare))
@@ -59,15 +61,16 @@ rising-right =
 
 -- all seven buses
 full : Full 7 (set (1 ∷ 2 ∷ 3 ∷ 4 ∷ 5 ∷ 6 ∷ 7 ∷ []))
-full = all-law 7 .has
+unfolding hold wordOf add setOf
+full = all-buses 7 .has
 
 -- bus 5 is missing where only 3 has a unit
 uncovered : Covers (sevenGrid []) (set (3 ∷ [])) → ⊥
-unfolding setOf
+unfolding hold wordOf add setOf
 uncovered h = omega (arith, covers-full (sevenGrid []) (known .at3 .least) h 5 (record { some = omega arith; most = omega arith }))
 
 pub covers-right : AllRight tables.coversTable
-unfolding setOf
+unfolding hold wordOf add setOf
 covers-right =
     full
     & (λ h. omega (arith, h 6 (record { some = omega arith; most = omega arith })))
@@ -83,10 +86,10 @@ two : (g : Grid) (x y budget : ℕ) → 0 < x → x < y → Free g x → Free g 
 two g x y budget l m p q c k = record { within = k; rising = (l, p, (m, q, tt)); covers = c }
 
 pub plan-right : AllRight tables.additionTable
-unfolding add setOf
+unfolding add hold wordOf setOf
 plan-right =
     at14 2 (omega arith)
-    & at14 8 (omega arith)
+    & at14 (mostBudget 7) (omega arith)
     & two (sevenGrid []) 3 4 2 (omega arith) (omega arith) (record { site = refl; bare = refl }) (record { site = refl; bare = refl })
     (full-covers (sevenGrid []) (known .at34 .least) full) (omega arith)
     & (λ h. omega (arith, h .within))
@@ -139,14 +142,15 @@ earlier-right =
 
 -- what the search finds on a valid case
 found : (c : Case) (budget : ℕ) (a : Sought) → validTest c ≡ 0
-    → smallest (gridOf c) (lack (gridOf c .sites) (gridOf c .units)) (budget + 1) 0 ≡ a → PlanIs (gridOf c) budget a
+    → smallest (gridOf (filled c)) (lack (gridOf c .sites) (gridOf c .units)) (budget + 1) 0 ≡ a → PlanIs (gridOf (filled c)) budget a
 found c budget a v e =
-    fewest-passes (gridOf c) (valid-passes c v .proper) (lack (gridOf c .sites) (gridOf c .units))
+    fewest-passes (gridOf (filled c)) (filled-passes c v .proper) (lack (gridOf c .sites) (gridOf c .units))
     (record { at = lack-at (gridOf c .sites) (gridOf c .units) }) budget a e
 
 -- what greedy adds on a valid case
-adds : (c : Case) (budget : ℕ) (xs : List ℕ) → validTest c ≡ 0 → greedyTest (gridOf c) budget xs ≡ 0 → GreedyList (gridOf c) budget xs
-adds c budget xs v e = greedy-passes (gridOf c) budget xs (valid-passes c v .proper) e
+adds : (c : Case) (budget : ℕ) (xs : List ℕ) → validTest c ≡ 0 → greedyTest (gridOf (filled c)) budget xs ≡ 0
+    → GreedyList (gridOf (filled c)) budget xs
+adds c budget xs v e = greedy-passes (gridOf (filled c)) budget xs (filled-passes c v .proper) e
 
 -- those that the tables speak of
 pub record Placed : Type 0 where
@@ -165,29 +169,29 @@ pub record Placed : Type 0 where
   pub greedyBarred : GreedyList (barred []) 1 (2 ∷ [])
 
 pub known-places : Placed
-unfolding validTest withinTest rowTest leastTest acceptedTest holdsTest closedTest subTest isOne gap given total neighbours setOf upTo less
-    lack add ones onesIn pick reasonFor reasonAt stepFor passFrom extended derive above soughtFrom judge orElse choose seek firstOf smallest
-    noBetter bestTest noneTest greedyTest
+unfolding validTest withinTest rowTest above leastTest acceptedTest holdsTest closedTest subTest isOne gap given total neighbours hold
+    wordOf setOf upTo less lack add ones onesIn pick reasonFor reasonAt stepFor passFrom extended derive soughtFrom judge orElse choose seek
+    firstOf smallest noBetter bestTest noneTest greedyTest
 known-places = record {
-  fewest1 = found (drawnCase (seven [])) 1 none refl refl;
-  fewest2 = found (drawnCase (seven [])) 2 (some (set (1 ∷ 4 ∷ []))) refl refl;
-  fewest3 = found (drawnCase (seven [])) 3 (some (set (1 ∷ 4 ∷ []))) refl refl;
-  hub4 = found (drawnCase hub) 3 (some (set (4 ∷ []))) refl refl;
-  beside14 = found (drawnCase (seven (1 ∷ 4 ∷ []))) 0 (some (set [])) refl refl;
-  beside4 = found (drawnCase (seven (4 ∷ []))) 1 (some (set (1 ∷ []))) refl refl;
-  barred2 = found (value 2 ((2 ∷ []) ∷ (1 ∷ []) ∷ []) [] (2 ∷ []) []) 1 (some (set (2 ∷ []))) refl refl;
-  greedy2 = adds (drawnCase (seven [])) 2 (3 ∷ 4 ∷ []) refl refl;
-  greedy3 = adds (drawnCase (seven [])) 3 (3 ∷ 4 ∷ []) refl refl;
-  covered = adds (drawnCase (seven (1 ∷ 4 ∷ []))) 1 [] refl refl;
-  tie = adds (drawnCase (apart [])) 1 (1 ∷ []) refl refl;
-  observed2 = adds (drawnCase (trio (1 ∷ []))) 1 (2 ∷ []) refl refl;
-  greedyBarred = adds (value 2 ((2 ∷ []) ∷ (1 ∷ []) ∷ []) [] (2 ∷ []) []) 1 (2 ∷ []) refl refl;
+  fewest1 = found (shortCase (seven [])) 1 none refl refl;
+  fewest2 = found (shortCase (seven [])) 2 (some (set (1 ∷ 4 ∷ []))) refl refl;
+  fewest3 = found (shortCase (seven [])) 3 (some (set (1 ∷ 4 ∷ []))) refl refl;
+  hub4 = found (shortCase hub) 3 (some (set (4 ∷ []))) refl refl;
+  beside14 = found (shortCase (seven (1 ∷ 4 ∷ []))) 0 (some (set [])) refl refl;
+  beside4 = found (shortCase (seven (4 ∷ []))) 1 (some (set (1 ∷ []))) refl refl;
+  barred2 = found (shortValue 2 ((2 ∷ []) ∷ (1 ∷ []) ∷ []) [] (2 ∷ []) []) 1 (some (set (2 ∷ []))) refl refl;
+  greedy2 = adds (shortCase (seven [])) 2 (3 ∷ 4 ∷ []) refl refl;
+  greedy3 = adds (shortCase (seven [])) 3 (3 ∷ 4 ∷ []) refl refl;
+  covered = adds (shortCase (seven (1 ∷ 4 ∷ []))) 1 [] refl refl;
+  tie = adds (shortCase (apart [])) 1 (1 ∷ []) refl refl;
+  observed2 = adds (shortCase (trio (1 ∷ []))) 1 (2 ∷ []) refl refl;
+  greedyBarred = adds (shortValue 2 ((2 ∷ []) ∷ (1 ∷ []) ∷ []) [] (2 ∷ []) []) 1 (2 ∷ []) refl refl;
 }
 
 -- ---- the fewest
 
 pub fewest-right : AllRight tables.fewestSitesTable
-unfolding setOf
+unfolding hold wordOf add setOf
 fewest-right =
     known-places .fewest2
     & known-places .fewest3
@@ -208,11 +212,11 @@ fewest-right =
 
 -- a unit at 3
 with3 : WithSite (sevenGrid []) 3 (set (1 ∷ 2 ∷ 3 ∷ 4 ∷ 7 ∷ []))
-unfolding add setOf
+unfolding add hold wordOf setOf
 with3 = record { free = record { site = refl; bare = refl }; observed = known .at3 .least }
 
 pub with-right : AllRight tables.withSiteTable
-unfolding add setOf
+unfolding add hold wordOf setOf
 with-right =
     with3
     & (λ h. omega (arith, least-unique (sevenGrid (3 ∷ [])) _ _ (known .at3 .least) (h .observed)))
@@ -221,7 +225,7 @@ with-right =
     & tt
 
 pub best-right : AllRight tables.bestTable
-unfolding setOf ones onesIn
+unfolding hold wordOf add setOf ones onesIn
 best-right =
     known-places .greedy2 .0
     & (λ h. omega (arith, best-unique (known-places .greedy2 .0) h))

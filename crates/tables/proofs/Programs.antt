@@ -8,6 +8,7 @@ use lib.Count.{ones, onesIn}
 use lib.ListN.{length, getD}
 use Rattle.busset.specs.Sets.{add, setOf}
 use Rattle.busset.specs.Bytes.{byteOf, bytesFrom}
+use Rattle.busset.specs.Held.{SetWord}
 use Rattle.busset.specs.Held as held
 use Rattle.step.specs.Records.{noStep}
 use Rattle.step.specs.declared.Step.{Step}
@@ -50,6 +51,7 @@ use Rattle.tables.proofs.Replies.{invalid, named12}
 use Rattle.tables.proofs.Replies as replies
 use Rattle.tables.proofs.Placing.{known-places}
 use Rattle.tables.specs.Tables.{AllRight, block}
+use Rattle.tables.specs.Starred.{setWord}
 use Rattle.tables.specs.Drawings.{set}
 use Rattle.tables.specs.CaseTexts.{input, bareInput}
 use Rattle.tables.specs.Reports.{output}
@@ -64,8 +66,8 @@ other i s t e ne = ne (ap (λ (x : List ℕ). getD x i 0) e)
 
 pub days-right : AllRight tables.dayPrintedTable
 unfolding readCase readText readLines judged isBus isAfter pastBuses recordOf recordWordOf lineFields busFields markOf ifOneField ifNoField
-    split same
-    isDigit takesDigit numberFrom numeralOf held.hold held.wordOf add setOf neighbours stepsText stepText refusedText join digits ones onesIn
+    split same isDigit takesDigit numberFrom numeralOf add held.hold held.wordOf setOf neighbours stepsText stepText refusedText join digits
+    ones onesIn
 days-right =
     day
     & day-none
@@ -99,19 +101,18 @@ days-right =
 
 pub plans-right : AllRight tables.planPrintedTable
 unfolding readPlan planLines budgetOf planFields readCase readText readLines judged isBus isAfter pastBuses recordOf recordWordOf lineFields
-    busFields markOf ifOneField ifNoField split same isDigit takesDigit numberFrom numeralOf held.hold held.wordOf add setOf neighbours refusedText
-    members linesText
-    recordText join digits ones onesIn
+    busFields markOf ifOneField ifNoField split same isDigit takesDigit numberFrom numeralOf add held.hold held.wordOf setOf neighbours
+    refusedText members linesText recordText join digits ones onesIn
 plans-right =
     found (set (1 ∷ 4 ∷ [])) (omega arith, (fewest-some (known-places .fewest2), tt)) (known-places .fewest2) refl
     & no-plan NoCover (omega arith then stop (known-places .fewest1) (itself _)) refl
     & over
-    & (λ h. other 11 _ _ (plan-unique (block ("plan 9" ∷ bareInput)) _ _ over h) (λ e. omega arith))
+    & (λ h. other 11 _ _ (plan-unique (block ("plan 9999" ∷ bareInput)) _ _ over h) (λ e. omega arith))
     & refl
     & refl
     & tt
   where
-    over : PlanPrinted (block ("plan 9" ∷ bareInput)) (bytes "refused\t10\t1\n")
+    over : PlanPrinted (block ("plan 9999" ∷ bareInput)) (bytes "refused\t10\t1\n")
     over = no-plan (OverBudget 1) (stop (λ h. omega arith) (itself _)) refl
 
 -- ---- step texts
@@ -123,8 +124,7 @@ not-unread (listed.Refused r) q e = let z : _≡_ {A = ℕ} 0 1 = cc in omega ar
 
 pub replays-right : AllRight tables.textReplayTable
 unfolding readSteps stepLines stepInRange stepsFrom stepsIn stepLineOf stepWordOf letterOf reasonFields stepFields ifOneField ifNoField
-    split same isBus
-    isDigit takesDigit numberFrom numeralOf
+    split same isBus isDigit takesDigit numberFrom numeralOf
 replays-right =
     (listed.Reached _ true, replies.replays-right .0, refl)
     & refl
@@ -137,8 +137,7 @@ replays-right =
 
 pub readings-right : AllRight tables.stepsReadTable
 unfolding readSteps stepLines stepInRange stepsFrom stepsIn stepLineOf stepWordOf letterOf reasonFields stepFields ifOneField ifNoField
-    split same isBus
-    isDigit takesDigit numberFrom numeralOf
+    split same isBus isDigit takesDigit numberFrom numeralOf
 readings-right =
     (refl, refl)
     & (refl, refl)
@@ -170,16 +169,19 @@ gives lent a p = record { answer = a; is = p; replied = record { result = refl; 
 says : {R : Type 0} {promise : R → Type 0} {of : R → Answer} (reply : R) → promise reply → Said promise of (of reply)
 says reply p = record { reply = reply; meets = p; is = refl }
 
+-- the buses that a unit at 3 makes observed
+abbrev five : SetWord
+five = setWord (1 ∷ 2 ∷ 3 ∷ 4 ∷ 7 ∷ [])
+
 pub calls-right : AllRight tables.estimatorTable
 unfolding readCase readText readLines judged isBus isAfter pastBuses recordOf recordWordOf lineFields busFields markOf ifOneField ifNoField
-    split same
-    isDigit takesDigit numberFrom numeralOf held.hold held.wordOf add setOf neighbours readSteps stepLines stepInRange stepsFrom stepsIn stepLineOf
-    stepWordOf letterOf reasonFields stepFields byteOf bytesFrom
+    split same isDigit takesDigit numberFrom numeralOf add held.hold held.wordOf setOf neighbours readSteps stepLines stepInRange stepsFrom
+    stepsIn stepLineOf stepWordOf letterOf reasonFields stepFields byteOf bytesFrom
 calls-right =
-    gives tables.lent (Set 79) (says (observed.Set 79) (replies.sets-right .0))
-    & gives tables.lent (Set 4) (says (unconfirmed.Unconfirmed 4) ((known .at3 .valid, tt), confirming.itself))
-    & gives tables.lent (Set 9) (says (fewest.Sites 9) (replies.fewests-right .0))
-    & gives tables.lent (Set 79) (says (replayed.Reached 79 true) (replays-right .0))
+    gives tables.lent (Set five) (says (observed.Set five) (replies.sets-right .0))
+    & gives tables.lent (Set (setWord (3 ∷ []))) (says (unconfirmed.Unconfirmed (setWord (3 ∷ []))) ((known .at3 .valid, tt), confirming.itself))
+    & gives tables.lent (Set (setWord (1 ∷ 4 ∷ []))) (says (fewest.Sites (setWord (1 ∷ 4 ∷ []))) (replies.fewests-right .0))
+    & gives tables.lent (Set five) (says (replayed.Reached five true) (replays-right .0))
     & gives tables.lent (Refused (WrongForm 1)) refl
     & gives tables.lent (Refused NoCover)
     (says (fewest.Refused NoCover) (known .none .valid then omega arith then stop (known-places .fewest1) (itself _)))
@@ -193,6 +195,6 @@ calls-right =
       known .at3 .valid then omega arith then named12 then refl then stop (λ h. omega (arith, h .observed)) (itself _),
       refl,
     ))
-    & gives (5 ∷ []) (Set 79) (says (observed.Set 79) (replies.sets-right .0))
+    & gives (5 ∷ []) (Set five) (says (observed.Set five) (replies.sets-right .0))
     & (λ h. omega (arith, h .replied .result, ap (λ (a : Answer). resultOf a 1) (h .is)))
     & tt

@@ -33,18 +33,16 @@ use Rattle.tables.specs.Reports as reports
 
 pub cases-right : case.CasesRight
 unfolding readCase readText readLines judged isBus isAfter pastBuses recordOf recordWordOf lineFields busFields markOf ifOneField ifNoField
-    split same
-    isDigit takesDigit numberFrom numeralOf held.hold held.wordOf add setOf neighbours
+    split same isDigit takesDigit numberFrom numeralOf add held.hold held.wordOf setOf neighbours
 cases-right = refl
 
 pub texts-right : case.CaseTextsRight
-unfolding busRecords members lineRecords linesText recordText join digits neighbours setOf
+unfolding busRecords members lineRecords linesText recordText join digits neighbours held.hold held.wordOf add setOf
 texts-right = refl
 
 pub allowed-right : AllRight case.grammarTable
 unfolding readLines judged isBus isAfter pastBuses recordOf recordWordOf lineFields busFields markOf ifOneField ifNoField split join same
-    isDigit takesDigit
-    numberFrom numeralOf held.hold held.wordOf add setOf neighbours
+    isDigit takesDigit numberFrom numeralOf add held.hold held.wordOf setOf neighbours
 allowed-right =
     read-reads (split lineFeed (block case.oneInput) .rest) start 1 (split lineFeed (block case.oneInput) .first) case.oneCase refl
     & (λ h. not-got _ (reads-read start _ _ 1 (omega arith) h))
@@ -52,19 +50,22 @@ allowed-right =
     & tt
 
 pub wired-right : case.WiredRight
-unfolding held.hold held.wordOf add setOf neighbours
+unfolding add held.hold held.wordOf setOf neighbours
 wired-right = refl
 
 pub whole-right : case.WholeTextsRight
 unfolding readCase readText readLines judged isBus isAfter pastBuses recordOf recordWordOf lineFields busFields markOf ifOneField ifNoField
-    split same
-    isDigit takesDigit numberFrom numeralOf
+    split same isDigit takesDigit numberFrom numeralOf
 whole-right = refl
+
+pub bus-limits-right : case.BusLimitsRight
+unfolding readCase readText readLines judged isBus isAfter pastBuses recordOf recordWordOf recordText join digits ifOneField split same
+    isDigit takesDigit numberFrom numeralOf
+bus-limits-right = refl
 
 pub later-right : case.LaterLinesRight
 unfolding readCase readText readLines judged isBus isAfter pastBuses recordOf recordWordOf lineFields busFields markOf ifOneField ifNoField
-    split same
-    isDigit takesDigit numberFrom numeralOf
+    split same isDigit takesDigit numberFrom numeralOf
 later-right = refl
 
 pub case-limits-right : case.CaseLimitsRight
@@ -83,14 +84,12 @@ ranges-right = refl
 
 pub readings-right : steps.ReadStepsRight
 unfolding readSteps stepLines stepInRange isBus stepLineOf stepWordOf letterOf reasonFields stepFields ifOneField ifNoField split same
-    isDigit takesDigit
-    numberFrom numeralOf
+    isDigit takesDigit numberFrom numeralOf
 readings-right = refl
 
 pub beyond-right : steps.BeyondRight
 unfolding stepLines stepInRange isBus stepLineOf stepWordOf letterOf reasonFields stepFields ifOneField ifNoField split same isDigit
-    takesDigit numberFrom
-    numeralOf
+    takesDigit numberFrom numeralOf
 beyond-right = refl
 
 pub step-limits-right : steps.StepLimitsRight
@@ -153,14 +152,12 @@ budgets-right = refl
 
 pub inputs-right : reports.InputsRight
 unfolding readPlan planLines budgetOf planFields readLines judged isBus isAfter pastBuses recordOf recordWordOf lineFields busFields markOf
-    ifOneField
-    ifNoField split same isDigit takesDigit numberFrom numeralOf
+    ifOneField ifNoField split same isDigit takesDigit numberFrom numeralOf
 inputs-right = refl
 
 pub asked-right : reports.AskedRight
 unfolding readPlan planLines budgetOf planFields readLines judged isBus isAfter pastBuses recordOf recordWordOf lineFields busFields markOf
-    ifOneField
-    ifNoField split same isDigit takesDigit numberFrom numeralOf held.hold held.wordOf add setOf neighbours
+    ifOneField ifNoField split same isDigit takesDigit numberFrom numeralOf add held.hold held.wordOf setOf neighbours
 asked-right = refl
 
 pub plan-limits-right : reports.PlanLimitsRight
@@ -168,5 +165,5 @@ unfolding readPlan planLines budgetOf planFields readLines judged recordOf recor
 plan-limits-right = refl
 
 pub plans-right : reports.PlanTextsRight
-unfolding members linesText recordText join digits setOf ones onesIn
+unfolding members linesText recordText join digits held.hold held.wordOf add setOf ones onesIn
 plans-right = refl

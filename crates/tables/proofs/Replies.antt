@@ -1,12 +1,13 @@
 -- The tables of what each call answers.
 use mathlib.Core.Path.{_≡_, refl, ap}
 use mathlib.Core.List.{List, [], _∷_}
-use Prim.Native.Nat.{ℕ, _+_, _-_, _≤_}
+use Prim.Native.Nat.{ℕ, suc, _+_, _-_, _≤_}
 use native.Mathlib.Omega.{arith}
 use lib.Count.{ones, onesIn}
 use lib.Signed.{mag}
 use lib.ListN.{length, getD}
 use Rattle.busset.specs.Sets.{Bus, add, meet, lack, less, upTo, setOf, empty}
+use Rattle.busset.specs.Held.{wordOf, hold}
 use Rattle.basics.proofs.Tests.{decides-yes, decides-no, refutes}
 use Rattle.text_field.specs.Split.{split, join, same}
 use Rattle.text_field.specs.Number.{digits}
@@ -22,13 +23,14 @@ use Rattle.rules.proofs.Derivations.{derived-accepted}
 use Rattle.rules.proofs.Leasts.{least-unique}
 use Rattle.rules.proofs.Lists.{closed-finished}
 use Rattle.rules.proofs.Ordering.{fewest-some}
-use Rattle.tables.proofs.Tests.{gap}
+use Rattle.tables.proofs.Tests.{gap, above, withinTest}
 use Rattle.refusals.specs.declared.Refusal.the-variants.{InvalidCase, NoSuchBus, ReasonFails, OverBudget, NoCover}
+use Rattle.grid.specs.Limits.{mostBudget}
 use Rattle.grid.specs.Rows.{neighbours}
 use Rattle.grid.specs.Cases.{Valid}
 use Rattle.refusals.specs.Refusals.{Failed, numberOf}
 use Rattle.refusals.proofs.Orders.{itself, failed-or-passed, failed-unique}
-use Rattle.tables.proofs.Drawn.{withinTest, rowTest, validTest, valid-passes}
+use Rattle.tables.proofs.Drawn.{rowTest, validTest, filled-passes}
 use Rattle.case_line.specs.Fields.{ifNoField}
 use Rattle.step_line.specs.StepLine.{stepWordOf, stepLineOf}
 use Rattle.step_text.specs.Taking.{countRead}
@@ -46,7 +48,7 @@ use Rattle.tables.proofs.Steps.{is-derivation}
 use Rattle.tables.proofs.Confirming as confirming
 use Rattle.tables.proofs.Placing.{known-places}
 use Rattle.tables.specs.Tables.{AllRight}
-use Rattle.tables.specs.Drawings.{set, own, near, zeroAt, sevenGrid, value}
+use Rattle.tables.specs.Drawings.{set, own, near, zeroAt, sevenGrid, shortValue, value}
 use Rattle.tables.specs.Steps.{derivationSteps}
 use Rattle.tables.specs.Replies as tables
 
@@ -71,7 +73,7 @@ named23 = record { bus = bus 7 2 refl; reason = bus 7 3 refl }
 -- ---- one question
 
 pub figures-right : AllRight tables.figureReplyTable
-unfolding figure meet less lack upTo neighbours setOf ones onesIn
+unfolding figure meet less lack upTo neighbours hold wordOf add setOf ones onesIn
 figures-right =
     ((known .at2 .valid, ((bus 7 2 refl, bus 7 1 refl), (refl, tt))), refl)
     & (λ h. omega (arith, ap mag (h .1)))
@@ -85,7 +87,7 @@ figures-right =
     & tt
 
 pub tests-right : AllRight tables.stepReplyTable
-unfolding reasonTest allowedTest gap upTo neighbours lack setOf ones onesIn
+unfolding reasonTest allowedTest gap upTo neighbours lack hold wordOf add setOf ones onesIn
 tests-right =
     (v, (named23, (refl, (record { unit = refl; joined = refl }, tt))))
     & stop invalid (itself _)
@@ -103,11 +105,11 @@ tests-right =
 
 -- the list 1 by Z 2 is refused at step 1
 refused-9 : Failed (replayChecks (tables.sevenCase (3 ∷ [])) (zeroAt 1 2 ∷ own 8 ∷ [])) (ReasonFails 1)
-unfolding setOf
+unfolding hold wordOf add setOf
 refused-9 = known .at3 .valid then omega arith then named12 then refl then stop (λ h. omega (arith, h .observed)) (itself _)
 
 pub replays-right : AllRight tables.replayReplyTable
-unfolding reasonTest allowedTest gap neighbours lack add setOf ones onesIn
+unfolding reasonTest allowedTest gap neighbours lack add hold wordOf setOf ones onesIn
 replays-right = (
   (v, (omega arith, accepted-checks (tables.sevenCase (3 ∷ [])) (v .proper) 1 empty derivationSteps (derived-accepted is-derivation .0))),
   refl,
@@ -141,7 +143,7 @@ replays-right = (
     none-allowed = closed-finished (sevenGrid []) (set []) (known .none .least .closed)
 
 pub weaves-right : AllRight tables.weaveReplyTable
-unfolding neighbours add setOf
+unfolding neighbours add hold wordOf setOf
 weaves-right = (
   (
     v,
@@ -184,7 +186,7 @@ weaves-right = (
 -- ---- whole cases
 
 pub sets-right : AllRight tables.caseReplyTable
-unfolding setOf
+unfolding hold wordOf add setOf
 sets-right =
     ((known .at3 .valid, tt), known .at3 .least)
     & (λ h. omega (arith, least-unique (sevenGrid (3 ∷ [])) _ _ (known .at3 .least) (h .1)))
@@ -223,19 +225,18 @@ fewests-right =
     & stop invalid (itself _)
     & over
     & v then omega arith then stop (known-places .fewest1) (itself _)
-    & (λ h. omega (arith, ap numberOf (failed-unique (fewestChecks (tables.sevenCase []) 9) (OverBudget 0) NoCover over h)))
+    & (λ h. omega (arith, ap numberOf (failed-unique (fewestChecks (tables.sevenCase []) (suc (mostBudget 7))) (OverBudget 0) NoCover over h)))
     & tt
   where
     v : Valid (tables.sevenCase [])
     v = known .none .valid
 
-    over : Failed (fewestChecks (tables.sevenCase []) 9) (OverBudget 0)
+    over : Failed (fewestChecks (tables.sevenCase []) (suc (mostBudget 7))) (OverBudget 0)
     over = v then stop (λ h. omega arith) (itself _)
 
 pub texts-right : AllRight tables.textReplyTable
-unfolding readCase readText readLines readSteps stepLines stepLineOf stepWordOf ifNoField split same validTest withinTest rowTest gap total
-    upTo
-    busRecords members lineRecords linesText recordText join digits neighbours setOf ones onesIn
+unfolding readCase readText readLines readSteps stepLines stepLineOf stepWordOf ifNoField split same validTest withinTest above rowTest
+    total upTo busRecords members lineRecords linesText recordText join digits neighbours hold wordOf add setOf ones onesIn lack
 texts-right =
     refl
     & refl
@@ -247,4 +248,4 @@ texts-right =
     & tt
   where
     v : Valid (value 1 [] [] [] [])
-    v = valid-passes (value 1 [] [] [] []) refl
+    v = filled-passes (shortValue 1 [] [] [] []) refl

@@ -4,10 +4,10 @@ use mathlib.Core.List.{List, [], _∷_}
 use mathlib.Core.Logic.{⊎-elim}
 use Prim.Native.Nat.{ℕ, zero, suc, _+_, _-_, _≤_, _<_}
 use native.Mathlib.Omega.{arith}
-use Rattle.busset.specs.Sets.{Bus, bit, In, Out, Sub, Within, empty, add, lack, meet, upTo, size, Lowest, Without, Minus}
+use Rattle.busset.specs.Sets.{Bus, bit, In, Out, Sub, Within, empty, add, meet, size, Lowest, Without, Minus}
 use Rattle.basics.proofs.Tests.{below-or}
 use Rattle.busset.proofs.Digits.{ext}
-use Rattle.busset.proofs.Members.{out-of, empty-of, add-of, lack-at, meet-at, upTo-in, upTo-out}
+use Rattle.busset.proofs.Members.{out-of, empty-of, add-of, meet-at}
 use Rattle.busset.proofs.Sizes.{size-empty, size-some, one-more}
 use Rattle.step.specs.declared.Reason.{Reason}
 use Rattle.step.specs.declared.Reason.the-variants.{OwnUnit, NeighbourOf, ZeroInjection}
@@ -19,7 +19,8 @@ use Rattle.rules.specs.Confirming.{Confirm, joined, share, Unconfirmed, Unconfi
 use Rattle.rules.specs.Placing.{withUnits, Full, Free, SomeAddition, FewestSites}
 use Rattle.rules.specs.Choosing as choosing
 use Rattle.rules.specs.Choosing.{GreedyList}
-use Rattle.tables.proofs.Tests.{total-none, total-pass, gap, gap-none, given, given-passes, holdsTest, leastTest, least-passes}
+use Rattle.tables.proofs.Tests.{total-none, total-pass, gap, gap-none, above, after-in, after-out, given, given-passes}
+use Rattle.tables.proofs.Tests.{holdsTest, leastTest, least-passes}
 use Rattle.rules.proofs.Leasts.{least-unique}
 use Rattle.rules.proofs.Covering.{covers-full, full-covers}
 use Rattle.place_light.specs.Ways.{NoWay, FirstWay}
@@ -243,18 +244,6 @@ greedy-passes g (suc k) (x ∷ xs) v e =
     )
 
 -- ---- the fewest
-
--- the buses of s above x
-unfoldable pub above : ℕ → ℕ → ℕ
-above x s = lack s (upTo x s)
-
-after-in : (x s b : ℕ) → x < b → bit (above x s) b ≡ bit s b
-unfolding above
-after-in x s b l = omega (arith, lack-at s (upTo x s) b, upTo-out x s b l)
-
-after-out : (x s b : ℕ) → b ≤ x → Out (above x s) b
-unfolding above
-after-out x s b l = omega (arith, lack-at s (upTo x s) b, upTo-in x s b l)
 
 after-skip : (x s : ℕ) → Out s (suc x) → above x s ≡ above (suc x) s
 after-skip x s o = ext (above x s) (above (suc x) s) (λ b. ⊎-elim

@@ -8,6 +8,7 @@ use lib.Dec.{lit≤}
 use lib.IntN.{ℤ, pos, negsuc}
 use lib.Count.{ones, onesIn}
 use Rattle.busset.specs.Sets.{Bus, bit, empty, add, meet, lack, less, upTo, setOf}
+use Rattle.busset.specs.Held.{wordOf, hold}
 use Rattle.busset.proofs.Digits.{bit-zero}
 use Rattle.step.specs.declared.Reason.{Reason}
 use Rattle.step.specs.declared.Reason.the-variants.{OwnUnit, NeighbourOf, ZeroInjection}
@@ -15,19 +16,20 @@ use Rattle.step.specs.declared.Step.{Step}
 use Rattle.rules.specs.Grids.{total}
 use Rattle.rules.specs.Steps.{Names, ReasonNames}
 use Rattle.rules.specs.Figures.{figure}
-use Rattle.tables.proofs.Tests.{gap, gap-none, isOne, given, subTest, holdsTest, acceptedTest}
+use Rattle.tables.proofs.Tests.{gap, gap-none, isOne, above, withinTest, given, subTest, holdsTest, acceptedTest}
 use Rattle.tables.proofs.Tests.{closedTest, leastTest, least-passes, holds-tests}
 use Rattle.tables.proofs.Sought.{Sought, pick, reasonFor, reasonAt, stepFor, passFrom, extended, derive, confirmTest}
-use Rattle.tables.proofs.Sought.{aloneTest, unconfirmedTest, noBetter, bestTest, noneTest, greedyTest, above, none}
+use Rattle.tables.proofs.Sought.{aloneTest, unconfirmedTest, noBetter, bestTest, noneTest, greedyTest, none}
 use Rattle.tables.proofs.Sought.{some, unsure, soughtFrom, judge, orElse, choose, seek, firstOf, smallest}
 use Rattle.refusals.proofs.Orders.{itself}
+use Rattle.grid.specs.Limits.{mostBudget, mostGreedyBudget}
 use Rattle.grid.specs.Rows.{neighbours}
 use Rattle.grid.specs.Cases.{gridOf, Valid}
-use Rattle.tables.proofs.Drawn.{withinTest, rowTest, validTest, valid-passes}
+use Rattle.tables.proofs.Drawn.{rowTest, validTest, filled-passes}
 use Rattle.observe_calls.specs.Replies.{stated}
-use Rattle.tables.specs.Drawings.{drawnGrid}
+use Rattle.tables.specs.Drawings.{set, own, near, zeroAt, drawnGrid}
 use Rattle.tables.proofs.StarredSites.{free, verdict-right, greedy-right, fewest-right, uncovered-right}
-use Rattle.tables.specs.Starred.{setWord, drawnCase, StarredRow, observes, figures, fails, unconfirmed}
+use Rattle.tables.specs.Starred.{setWord, shortCase, drawnCase, StarredRow, observes, figures, fails, unconfirmed}
 use Rattle.tables.specs.Starred.{adds, fewestIs, uncovered, StarredRight, AllStarredRight, starredTable}
 
 -- how far two integers are apart
@@ -98,29 +100,29 @@ names-pass n x e = record { bus = bus-passes n (x .bus) (omega arith); reason = 
 
 -- the test of a row; xs is the list that derives the set
 unfoldable wrong : StarredRow → List Step → ℕ
-wrong (observes d bs) xs = validTest (drawnCase d) + leastTest (gridOf (drawnCase d)) xs (setOf (setWord bs))
+wrong (observes d bs) xs = validTest (shortCase d) + leastTest (gridOf (drawnCase d)) xs (set bs)
 wrong (figures d bs i j z) xs =
-    validTest (drawnCase d) + busTest (d .n) i + busTest (d .n) j + (1 - bit (neighbours (drawnCase d .nbr) i) j)
+    validTest (shortCase d) + busTest (d .n) i + busTest (d .n) j + (1 - bit (neighbours (drawnCase d .nbr) i) j)
     + gapZ (figure (neighbours (drawnCase d .nbr)) (stated (drawnCase d) (setWord bs)) i j) z
-wrong (fails d x) xs = validTest (drawnCase d) + namesTest (d .n) x + (1 - holdsTest (gridOf (drawnCase d)) empty (x .bus) (x .reason))
-wrong (unconfirmed d bs) xs = validTest (drawnCase d) + withinTest (d .n) (setWord bs) + unconfirmedTest (drawnGrid d) (setOf (setWord bs))
-wrong (adds d budget ss) xs = validTest (drawnCase d) + (budget - 64) + greedyTest (drawnGrid d) budget ss
+wrong (fails d x) xs = validTest (shortCase d) + namesTest (d .n) x + (1 - holdsTest (gridOf (drawnCase d)) empty (x .bus) (x .reason))
+wrong (unconfirmed d bs) xs = validTest (shortCase d) + withinTest (d .n) (set bs) + unconfirmedTest (drawnGrid d) (set bs)
+wrong (adds d budget ss) xs = validTest (shortCase d) + (budget - mostGreedyBudget) + greedyTest (drawnGrid d) budget ss
 wrong (fewestIs d budget bs) xs =
-    validTest (drawnCase d) + (budget - 8) + gapSought (smallest (drawnGrid d) (free d) (budget + 1) 0) (some (setOf (setWord bs)))
-wrong (uncovered d budget) xs = validTest (drawnCase d) + (budget - 8) + gapSought (smallest (drawnGrid d) (free d) (budget + 1) 0) none
+    validTest (shortCase d) + (budget - mostBudget (d .n)) + gapSought (smallest (drawnGrid d) (free d) (budget + 1) 0) (some (set bs))
+wrong (uncovered d budget) xs = validTest (shortCase d) + (budget - mostBudget (d .n)) + gapSought (smallest (drawnGrid d) (free d) (budget + 1) 0) none
 
 row-right : (r : StarredRow) (xs : List Step) → wrong r xs ≡ 0 → StarredRight r
 unfolding wrong
 row-right (observes d bs) xs e =
-    let v : Valid (drawnCase d) = valid-passes (drawnCase d) (omega arith) in
-    ((v, tt), least-passes (gridOf (drawnCase d)) xs (setOf (setWord bs)) (v .proper) (omega arith))
+    let v : Valid (drawnCase d) = filled-passes (shortCase d) (omega arith) in
+    ((v, tt), least-passes (gridOf (drawnCase d)) xs (set bs) (v .proper) (omega arith))
 row-right (figures d bs i j z) xs e =
     let n = d .n in (
-      (valid-passes (drawnCase d) (omega arith), ((bus-passes n i (omega arith), bus-passes n j (omega arith)), (omega arith, tt))),
+      (filled-passes (shortCase d) (omega arith), ((bus-passes n i (omega arith), bus-passes n j (omega arith)), (omega arith, tt))),
       sym (gapZ-none (figure (neighbours (drawnCase d .nbr)) (stated (drawnCase d) (setWord bs)) i j) z (omega arith)),
     )
 row-right (fails d x) xs e =
-    let v : Valid (drawnCase d) = valid-passes (drawnCase d) (omega arith) in
+    let v : Valid (drawnCase d) = filled-passes (shortCase d) (omega arith) in
     inr (
       v,
       inr (
@@ -141,7 +143,7 @@ row-right (unconfirmed d bs) xs e = verdict-right d bs e
 row-right (adds d budget ss) xs e = greedy-right d budget ss e
 row-right (fewestIs d budget bs) xs e =
     fewest-right d budget bs (omega arith)
-    (gapSought-none (smallest (drawnGrid d) (free d) (budget + 1) 0) (some (setOf (setWord bs))) (omega arith))
+    (gapSought-none (smallest (drawnGrid d) (free d) (budget + 1) 0) (some (set bs)) (omega arith))
 row-right (uncovered d budget) xs e =
     uncovered-right d budget (omega arith) (gapSought-none (smallest (drawnGrid d) (free d) (budget + 1) 0) none (omega arith))
 
@@ -157,15 +159,6 @@ unfolding allWrong
 all-right [] xss e = tt
 all-right (r ∷ rs) [] e = absurd (omega arith)
 all-right (r ∷ rs) (xs ∷ xss) e = (row-right r xs (omega arith), all-right rs xss (omega arith))
-
-abbrev own : ℕ → Step
-own b = record { bus = b; reason = OwnUnit }
-
-abbrev near : ℕ → ℕ → Step
-near b p = record { bus = b; reason = NeighbourOf p }
-
-abbrev zeroAt : ℕ → ℕ → Step
-zeroAt b w = record { bus = b; reason = ZeroInjection w }
 
 -- for each row the list that derives its set
 abbrev derivations : List (List Step)
@@ -192,7 +185,7 @@ derivations =
 -- every row of the table is right
 pub table-right : AllStarredRight starredTable
 unfolding allWrong wrong gapSought busTest reasonTest namesTest validTest withinTest rowTest leastTest acceptedTest holdsTest closedTest
-    subTest isOne gap given total neighbours setOf figure upTo less lack meet add ones onesIn pick reasonFor reasonAt stepFor passFrom
-    extended derive confirmTest aloneTest unconfirmedTest noBetter bestTest noneTest greedyTest above soughtFrom judge orElse
+    subTest isOne gap given total neighbours hold wordOf setOf figure upTo less lack meet add ones onesIn pick reasonFor reasonAt stepFor
+    passFrom extended derive confirmTest aloneTest unconfirmedTest noBetter bestTest noneTest greedyTest above soughtFrom judge orElse
     choose seek firstOf smallest
 table-right = all-right starredTable derivations refl

@@ -2,26 +2,28 @@
 use mathlib.Core.Path.{_≡_, refl, subst}
 use mathlib.Core.List.{List, _++_}
 use mathlib.Core.Logic.{inl, inr}
-use Prim.Native.Nat.{ℕ, _+_, _-_, _^_, _≤_, _<_}
+use Prim.Native.Nat.{ℕ, _+_, _-_, _≤_}
 use native.Mathlib.Omega.{arith}
 use lib.ListN.{length, drop}
-use Rattle.busset.specs.Sets.{lack, setOf}
+use Rattle.busset.specs.Sets.{lack}
 use Rattle.busset.proofs.Members.{lack-at}
-use Rattle.busset.proofs.Words.{set-bus}
+use Rattle.busset.proofs.Words.{set-zero}
 use Rattle.rules.specs.Grids.{Grid}
 use Rattle.rules.proofs.Choices.{greedy-unique}
 use Rattle.rules.proofs.Ordering.{fewest-some}
+use Rattle.tables.proofs.Tests.{withinTest, within-passes}
 use Rattle.tables.proofs.Sought.{unconfirmedTest, unconfirmed-passes, greedyTest, greedy-passes, none, some, smallest, fewest-passes}
 use Rattle.refusals.specs.declared.Refusal.the-variants.{NoCover}
+use Rattle.grid.specs.Limits.{mostBudget, mostGreedyBudget}
 use Rattle.grid.specs.Cases.{gridOf, Valid}
 use Rattle.refusals.proofs.Orders.{itself}
-use Rattle.tables.proofs.Drawn.{withinTest, validTest, valid-passes}
+use Rattle.tables.proofs.Drawn.{validTest, filled-passes}
 use Rattle.place_calls.specs.declared.Verdict.the-variants as verdict
 use Rattle.place_calls.specs.declared.Greedy.the-variants as greedy
 use Rattle.place_calls.specs.declared.Fewest.the-variants as fewest
 use Rattle.place_calls.specs.Replies.{VerdictReply, GreedyReply, FewestReply}
-use Rattle.tables.specs.Starred.{Drawing, setWord, drawnCase}
-use Rattle.tables.specs.Drawings.{drawnGrid}
+use Rattle.tables.specs.Starred.{Drawing, setWord, shortCase, drawnCase}
+use Rattle.tables.specs.Drawings.{set, drawnGrid}
 
 -- ---- a row, from its test
 
@@ -29,26 +31,22 @@ use Rattle.tables.specs.Drawings.{drawnGrid}
 abbrev pub free : Drawing → ℕ
 free d = lack (drawnGrid d .sites) (drawnGrid d .units)
 
-fits : (n w : ℕ) → withinTest n w ≡ 0 → w < 2 ^ n
-unfolding withinTest
-fits n w e = omega arith
-
 pub verdict-right : (d : Drawing) (bs : List ℕ)
-    → validTest (drawnCase d) + withinTest (d .n) (setWord bs) + unconfirmedTest (drawnGrid d) (setOf (setWord bs)) ≡ 0
+    → validTest (shortCase d) + withinTest (d .n) (set bs) + unconfirmedTest (drawnGrid d) (set bs) ≡ 0
     → VerdictReply (drawnCase d) (verdict.Unconfirmed (setWord bs))
 verdict-right d bs e =
-    let v : Valid (drawnCase d) = valid-passes (drawnCase d) (omega arith) in (
+    let v : Valid (drawnCase d) = filled-passes (shortCase d) (omega arith) in (
       (v, tt),
-      unconfirmed-passes (drawnGrid d) (v .proper) (setOf (setWord bs))
-          (λ b h. set-bus (d .n) b (fits (d .n) (setWord bs) (omega arith)) h) (omega arith),
+      unconfirmed-passes (drawnGrid d) (v .proper) (set bs)
+          (within-passes (d .n) (set bs) (set-zero (setWord bs)) (omega arith)) (omega arith),
     )
 
 pub greedy-right : (d : Drawing) (budget : ℕ) (xs : List ℕ)
-    → validTest (drawnCase d) + (budget - 64) + greedyTest (drawnGrid d) budget xs ≡ 0
+    → validTest (shortCase d) + (budget - mostGreedyBudget) + greedyTest (drawnGrid d) budget xs ≡ 0
     → (entry : List ℕ) → length xs ≤ length entry
     → GreedyReply (drawnCase d) budget entry (xs ++ drop (length xs) entry) (greedy.Added (length xs))
 greedy-right d budget xs e entry room =
-    let v : Valid (drawnCase d) = valid-passes (drawnCase d) (omega arith) in
+    let v : Valid (drawnCase d) = filled-passes (shortCase d) (omega arith) in
     let added = greedy-passes (drawnGrid d) budget xs (v .proper) (omega arith) in (
       (
         v,
@@ -63,19 +61,19 @@ greedy-right d budget xs e entry room =
       record { list = xs; greedy = added; count = refl; written = refl },
     )
 
-pub fewest-right : (d : Drawing) (budget : ℕ) (bs : List ℕ) → validTest (drawnCase d) + (budget - 8) ≡ 0
-    → smallest (drawnGrid d) (free d) (budget + 1) 0 ≡ some (setOf (setWord bs))
+pub fewest-right : (d : Drawing) (budget : ℕ) (bs : List ℕ) → validTest (shortCase d) + (budget - mostBudget (d .n)) ≡ 0
+    → smallest (drawnGrid d) (free d) (budget + 1) 0 ≡ some (set bs)
     → FewestReply (drawnCase d) budget (fewest.Sites (setWord bs))
 fewest-right d budget bs e found =
-    let v : Valid (drawnCase d) = valid-passes (drawnCase d) (omega arith) in
+    let v : Valid (drawnCase d) = filled-passes (shortCase d) (omega arith) in
     let f = fewest-passes (drawnGrid d) (v .proper) (free d) (record { at = lack-at (drawnGrid d .sites) (drawnGrid d .units) }) budget
-    (some (setOf (setWord bs))) found in
+    (some (set bs)) found in
     ((v, (omega arith, (fewest-some f, tt))), f)
 
-pub uncovered-right : (d : Drawing) (budget : ℕ) → validTest (drawnCase d) + (budget - 8) ≡ 0
+pub uncovered-right : (d : Drawing) (budget : ℕ) → validTest (shortCase d) + (budget - mostBudget (d .n)) ≡ 0
     → smallest (drawnGrid d) (free d) (budget + 1) 0 ≡ none → FewestReply (drawnCase d) budget (fewest.Refused NoCover)
 uncovered-right d budget e found =
-    let v : Valid (drawnCase d) = valid-passes (drawnCase d) (omega arith) in
+    let v : Valid (drawnCase d) = filled-passes (shortCase d) (omega arith) in
     inr (
       v,
       inr (

@@ -7,6 +7,7 @@ use lib.Count.{ones, onesIn}
 use lib.ListN.{length, getD}
 use Rattle.step.specs.Records.{noStep}
 use Rattle.busset.specs.Sets.{add, lack, less, setOf}
+use Rattle.busset.specs.Held.{wordOf, hold}
 use Rattle.step.specs.declared.Reason.the-variants.{NeighbourOf}
 use Rattle.step.specs.declared.Step.{Step}
 use Rattle.rules.specs.Grids.{Grid, total}
@@ -29,7 +30,7 @@ use Rattle.tables.specs.Derivation as derivation
 -- ---- computed
 
 pub reaches-right : steps.ReachedRight
-unfolding add setOf
+unfolding add hold wordOf setOf
 reaches-right = refl
 
 pub values-right : steps.ListOfRight
@@ -50,7 +51,7 @@ places-right = refl
 -- ---- one step
 
 pub reasons-right : AllRight steps.reasonTable
-unfolding reasonTest allowedTest gap neighbours lack setOf ones onesIn
+unfolding reasonTest allowedTest gap neighbours lack hold wordOf add setOf ones onesIn
 reasons-right =
     refl
     & (λ h. omega arith)
@@ -68,7 +69,7 @@ reasons-right =
     & tt
 
 pub allowed-right : AllRight steps.allowedTable
-unfolding reasonTest allowedTest gap neighbours lack setOf ones onesIn
+unfolding reasonTest allowedTest gap neighbours lack hold wordOf add setOf ones onesIn
 allowed-right =
     allowed-passes (sevenGrid (3 ∷ [])) (set []) (near 2 3) refl
     & allowed-passes (sevenGrid (3 ∷ [])) (set (2 ∷ [])) (own 3) refl
@@ -98,16 +99,16 @@ names-right =
 -- document 01's derivation
 pub is-derivation : Derivation (sevenGrid (3 ∷ [])) steps.derivationSteps
 unfolding derivedTest nextTest noSooner noReason noUnit noZero allowedTest reasonTest holdsTest subTest given gap total neighbours add lack
-    less setOf ones onesIn
+    less hold wordOf setOf ones onesIn
 is-derivation = derived-passes (sevenGrid (3 ∷ [])) (known .at3 .valid .proper) (set []) steps.derivationSteps refl
 
 -- and that of no units
 pub no-steps : Derivation (sevenGrid []) []
-unfolding derivedTest noReason noUnit noZero holdsTest subTest given total neighbours less lack setOf
+unfolding derivedTest noReason noUnit noZero holdsTest subTest given total neighbours less lack hold wordOf add setOf
 no-steps = derived-passes (sevenGrid []) (known .none .valid .proper) (set []) [] refl
 
 pub accepted-right : AllRight steps.acceptedTable
-unfolding reasonTest allowedTest gap neighbours lack add setOf ones onesIn
+unfolding reasonTest allowedTest gap neighbours lack add hold wordOf setOf ones onesIn
 accepted-right =
     derived-accepted is-derivation .0
     & tt
@@ -118,7 +119,7 @@ accepted-right =
     & tt
 
 pub finished-right : AllRight steps.finishedTable
-unfolding reasonTest allowedTest gap neighbours lack setOf ones onesIn
+unfolding reasonTest allowedTest gap neighbours lack hold wordOf add setOf ones onesIn
 finished-right =
     closed-finished (sevenGrid (3 ∷ [])) (set (1 ∷ 2 ∷ 3 ∷ 4 ∷ 7 ∷ [])) (known .at3 .least .closed)
     & (λ h. h (zeroAt 1 2) (allowed-passes (sevenGrid (3 ∷ [])) (set (2 ∷ 3 ∷ 4 ∷ 7 ∷ [])) (zeroAt 1 2) refl))
@@ -145,8 +146,8 @@ before-right =
     & tt
 
 pub next-right : AllRight derivation.nextStepTable
-unfolding nextTest noSooner noReason noUnit noZero allowedTest reasonTest holdsTest subTest given gap total neighbours lack less setOf ones
-    onesIn
+unfolding nextTest noSooner noReason noUnit noZero allowedTest reasonTest holdsTest subTest given gap total neighbours lack less hold wordOf
+    add setOf ones onesIn
 next-right =
     next-passes (sevenGrid (3 ∷ [])) (known .at3 .valid .proper) (set []) (near 2 3) refl
     & (λ h. omega (arith, h .lowest (near 2 3) (allowed-passes (sevenGrid (3 ∷ [])) (set []) (near 2 3) refl)))
@@ -170,7 +171,7 @@ other g i xs ys d ne h = let e = derived-unique d ys h in ne (ap length e) (ap (
 
 pub derivations-right : AllRight derivation.derivationTable
 unfolding derivedTest nextTest noSooner noReason noUnit noZero allowedTest reasonTest holdsTest subTest given gap total neighbours add lack
-    less setOf ones onesIn
+    less hold wordOf setOf ones onesIn
 derivations-right =
     is-derivation
     & (λ xs d. sym (derived-unique is-derivation xs d))

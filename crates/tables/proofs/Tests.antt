@@ -4,9 +4,10 @@ use mathlib.Core.List.{List, [], _∷_}
 use mathlib.Core.Logic.{⊎-elim}
 use Prim.Native.Nat.{ℕ, zero, suc, _+_, _-_, _≤_, _<_}
 use native.Mathlib.Omega.{arith}
-use Rattle.busset.specs.Sets.{Bus, bit, In, Out, Sub, Within, empty, add, lack, less, size}
+use Rattle.busset.specs.Sets.{Bus, bit, In, Out, Sub, Within, empty, add, lack, less, upTo, size}
 use Rattle.basics.proofs.Tests.{same-or, below-or}
-use Rattle.busset.proofs.Members.{in-or, sub-of, less-here, less-there, less-sub}
+use Rattle.busset.proofs.Members.{in-or, sub-of, lack-at, upTo-in, upTo-out, less-here, less-there, less-sub}
+use Rattle.busset.proofs.Sizes.{size-some}
 use Rattle.step.specs.declared.Reason.{Reason}
 use Rattle.step.specs.declared.Reason.the-variants.{OwnUnit, NeighbourOf, ZeroInjection}
 use Rattle.step.specs.declared.Step.{Step}
@@ -45,11 +46,36 @@ isOne-not n e q = omega arith
 
 -- ---- sets
 
+-- the buses of s above x
+unfoldable pub above : ℕ → ℕ → ℕ
+above x s = lack s (upTo x s)
+
+pub after-in : (x s b : ℕ) → x < b → bit (above x s) b ≡ bit s b
+unfolding above
+after-in x s b l = omega (arith, lack-at s (upTo x s) b, upTo-out x s b l)
+
+pub after-out : (x s b : ℕ) → b ≤ x → Out (above x s) b
+unfolding above
+after-out x s b l = omega (arith, lack-at s (upTo x s) b, upTo-in x s b l)
+
+-- the buses of s are 1 to n: there is none above n
+unfoldable pub withinTest : ℕ → ℕ → ℕ
+withinTest n s = size (above n s)
+
+pub within-passes : (n s : ℕ) → Out s 0 → withinTest n s ≡ 0 → Within n s
+unfolding withinTest
+within-passes n s o e zero h = absurd (omega arith)
+within-passes n s o e (suc b) h =
+    ⊎-elim
+    (λ (l : n < suc b). absurd (omega (arith, size-some (above n s) (suc b) (omega (arith, after-in n s (suc b) l)))))
+    (λ (l : suc b ≤ n). record { some = omega arith; most = l })
+    (below-or n (suc b))
+
 -- s has all of the buses m
 unfoldable pub subTest : ℕ → ℕ → ℕ → ℕ
 subTest n m s = total n (λ b. bit m b - bit s b)
 
-sub-passes : (n m s : ℕ) → Within n m → subTest n m s ≡ 0 → Sub m s
+pub sub-passes : (n m s : ℕ) → Within n m → subTest n m s ≡ 0 → Sub m s
 unfolding subTest
 sub-passes n m s w e = sub-of m s (λ b h. omega (arith, total-none n (λ b. bit m b - bit s b) e b (w b h)))
 

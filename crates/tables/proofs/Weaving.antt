@@ -2,7 +2,7 @@
 use mathlib.Core.Path.{_≡_, refl, ap, ap₂}
 use mathlib.Core.List.{List, [], _∷_}
 use mathlib.Core.Logic.{_⊎_, inl, inr, ⊎-elim}
-use Prim.Native.Nat.{ℕ, _-_, _^_, _≤_, _<_}
+use Prim.Native.Nat.{ℕ, suc, _-_, _^_, _≤_, _<_}
 use native.Mathlib.Omega.{arith}
 use lib.Dec.{lit≤}
 use lib.IntN.{pos, negsuc, _+ℤ_, _-ℤ_}
@@ -10,6 +10,7 @@ use lib.Count.{ones, onesIn}
 use lib.ListN.{length, getD}
 use lib.Signed.{leZ-yes}
 use Rattle.busset.specs.Sets.{bit, In, size, add, meet, lack, less, upTo, setOf}
+use Rattle.busset.specs.Held.{SetWord, wordOf, hold}
 use Rattle.step.specs.Records.{noStep}
 use Rattle.step.specs.declared.Step.{Step}
 use Rattle.rules.specs.Grids.{total}
@@ -17,14 +18,15 @@ use Rattle.rules.specs.Steps.{Names, reached, Accepted}
 use Rattle.basics.specs.Lists.{Each}
 use Rattle.rules.specs.Weaving.{TakenFromOne, here, there, Shuffle, none, next}
 use Rattle.rules.specs.Figures.{figure}
-use Rattle.tables.proofs.Tests.{gap}
+use Rattle.tables.proofs.Tests.{gap, above, withinTest}
 use Rattle.rules.proofs.Shuffles.{weaving-shuffles}
+use Rattle.grid.specs.Limits.{mostBuses}
 use Rattle.grid.specs.Rows.{neighbours}
 use Rattle.grid.specs.Cases.{gridOf}
-use Rattle.tables.proofs.Drawn.{withinTest, rowTest, validTest, valid-passes}
+use Rattle.tables.proofs.Drawn.{rowTest, validTest, valid-passes}
 use Rattle.list_follow.specs.declared.Wove.the-variants as wove
 use Rattle.demands.proofs.Demand3.{demand-3}
-use Rattle.tables.specs.Starred.{setWord, drawnCase, seven}
+use Rattle.tables.specs.Starred.{setWord, busesTo, drawnCase, seven}
 use Rattle.tables.proofs.Crowded.{ones-in}
 use Rattle.tables.proofs.Computed.{known}
 use Rattle.tables.proofs.Rows.{_&_}
@@ -41,15 +43,15 @@ unfolding add
 wovens-right = refl
 
 pub wovens-from-right : weaving.WovensFromRight
-unfolding add setOf
+unfolding add hold wordOf setOf
 wovens-from-right = refl
 
 pub figures-right : figures.FiguresRight
-unfolding figure meet less lack neighbours setOf ones onesIn
+unfolding figure meet less lack neighbours hold wordOf add setOf ones onesIn
 figures-right = refl
 
 pub stated-right : figures.StatedRight
-unfolding upTo setOf
+unfolding upTo hold wordOf add setOf
 stated-right = refl
 
 pub runs-right : AllRight figures.figureRunTable
@@ -67,27 +69,27 @@ unfolding figure
 figure-from nbr s i j a b p q = ap₂ (λ (x y : ℕ). pos 1 -ℤ pos x +ℤ pos (bit s i) +ℤ pos y) p q
 
 -- the star's figure of 1 towards 2, with the digits counted
-star-figure : (s : ℕ) → less (meet (gridOf figures.star .neighbours 1) s) 2 < 2 ^ 65
-    → figure (gridOf figures.star .neighbours) s 1 2 ≡ pos 1 -ℤ pos 63 +ℤ pos (bit s 1) +ℤ pos
-    (onesIn 65 (less (meet (gridOf figures.star .neighbours 1) s) 2))
-unfolding neighbours setOf onesIn
+star-figure : (s : ℕ) → less (meet (gridOf figures.star .neighbours 1) s) 2 < 2 ^ suc mostBuses
+    → figure (gridOf figures.star .neighbours) s 1 2 ≡ pos 1 -ℤ pos (mostBuses - 1) +ℤ pos (bit s 1) +ℤ pos
+    (onesIn (suc mostBuses) (less (meet (gridOf figures.star .neighbours 1) s) 2))
+unfolding neighbours hold wordOf add setOf onesIn less lack
 star-figure s l =
-    figure-from (gridOf figures.star .neighbours) s 1 2 63 (onesIn 65 (less (meet (gridOf figures.star .neighbours 1) s) 2))
-    (ones-in 65 (gridOf figures.star .neighbours 1) (lit≤ tt)) (ones-in 65 (less (meet (gridOf figures.star .neighbours 1) s) 2) l)
+    figure-from (gridOf figures.star .neighbours) s 1 2 (mostBuses - 1) (onesIn (suc mostBuses) (less (meet (gridOf figures.star .neighbours 1) s) 2))
+    (ones-in (suc mostBuses) (gridOf figures.star .neighbours 1) (lit≤ tt)) (ones-in (suc mostBuses) (less (meet (gridOf figures.star .neighbours 1) s) 2) l)
 
-star-ends : (figure (gridOf figures.star .neighbours) (set []) 1 2 ≡ negsuc 61)
-    × (figure (gridOf figures.star .neighbours) (setOf (2 ^ 64 - 1)) 1 2 ≡ pos 1)
-unfolding meet less lack neighbours setOf onesIn
-star-ends = (star-figure (set []) (lit≤ tt), star-figure (setOf (2 ^ 64 - 1)) (lit≤ tt))
+star-ends : (figure (gridOf figures.star .neighbours) (set []) 1 2 ≡ negsuc (mostBuses - 3))
+    × (figure (gridOf figures.star .neighbours) (set (busesTo mostBuses)) 1 2 ≡ pos 1)
+unfolding meet less lack neighbours hold wordOf add setOf onesIn
+star-ends = (star-figure (set []) (lit≤ tt), star-figure (set (busesTo mostBuses)) (lit≤ tt))
 
 pub ends-right : AllRight figures.figureEndTable
-unfolding validTest withinTest rowTest gap total upTo neighbours setOf ones onesIn
+unfolding validTest withinTest above rowTest total upTo neighbours hold wordOf add setOf ones onesIn lack less
 ends-right = valid-passes figures.star refl & star-ends .0 & star-ends .1 & tt
 
 -- ---- weaving
 
 pub weavable-right : AllRight weaving.weavableTable
-unfolding add neighbours setOf
+unfolding add neighbours hold wordOf setOf
 weavable-right =
     ((λ o. record { unit = refl; joined = refl }), ((λ o. refl), tt))
     & ((λ o. refl), ((λ o. absurd (omega arith)), tt))
@@ -151,7 +153,7 @@ shuffles-right =
 
 -- each desk's list is accepted
 accepted : Each (Accepted (sevenGrid (3 ∷ []))) weaving.desks
-unfolding reasonTest allowedTest gap neighbours add lack setOf ones onesIn
+unfolding reasonTest allowedTest gap neighbours add lack hold wordOf setOf ones onesIn
 accepted = (
   (allowed-passes (sevenGrid (3 ∷ [])) (set []) (near 2 3) refl, (allowed-passes (sevenGrid (3 ∷ [])) (set (2 ∷ [])) (own 3) refl, tt)),
   ((allowed-passes (sevenGrid (3 ∷ [])) (set []) (own 3) refl, tt), tt),
@@ -168,7 +170,7 @@ demand-right =
     & tt
 
 pub calls-right : AllRight weaving.demand3Table
-unfolding neighbours add setOf
+unfolding neighbours add hold wordOf setOf
 calls-right =
     demand-3 .weaves (drawnCase (seven (3 ∷ []))) weaving.desks weaving.sent
     (own 7 ∷ own 8 ∷ own 9 ∷ []) (own 3 ∷ near 2 3 ∷ own 9 ∷ []) (wove.Written 2 (setWord (2 ∷ 3 ∷ [])))
@@ -188,8 +190,8 @@ calls-right =
     & (λ h. omega (arith, ap (λ (xs : List Step). getD xs 0 noStep .bus) (h .records)))
     & (λ h. let e = h .answers in let c : _≡_ {A = ℕ} 3 (h .count) = cc in omega (arith, c, h .counted))
     & (λ h. let e = h .answers in
-    let s : _≡_ {A = ℕ} (setWord (3 ∷ [])) (h .set) = cc in
-    omega (arith, ap (λ (w : ℕ). bit (setOf w) 2) s, ap (λ (t : ℕ). bit t 2) (h .reaches)))
+    let s : _≡_ {A = SetWord} (setWord (3 ∷ [])) (h .set) = cc in
+    omega (arith, ap (λ (w : SetWord). bit (setOf w) 2) s, ap (λ (t : ℕ). bit t 2) (h .reaches)))
     & tt
   where
     named3 : Names 7 (own 3)

@@ -1,12 +1,16 @@
 -- Case texts: what reading one says, the case that it gives, and the text that a case has.
 use mathlib.Core.List.{List, [], _∷_, _++_}
-use Prim.Native.Nat.{ℕ}
+use Prim.Native.Nat.{ℕ, suc, _-_}
 use Prim.Native.String.{String}
 use lib.ListN.{replicate}
 use Rattle.text_field.specs.Split.{bytes, lineFeed}
+use Rattle.busset.specs.Held.{emptyWord}
+use Rattle.case_line.specs.Record.{recordText}
 use Rattle.case_line.specs.declared.Record.{Record}
 use Rattle.case_line.specs.declared.Record.the-variants.{Grid, Line, Pmu, End, Wrong}
 use Rattle.grid.specs.declared.Case.{Case}
+use Rattle.grid.specs.Limits.{mostBuses, mostLines, mostBytes}
+use Rattle.grid.specs.Rows.{Rows}
 use Rattle.refusals.specs.declared.Refusal.the-variants.{TextTooLong, WrongForm, OutOfRange, OutOfOrder}
 use Rattle.case_build.specs.Building.{withLine}
 use Rattle.case_judge.specs.Judging.{judged}
@@ -19,7 +23,7 @@ use Rattle.case_read.specs.declared.ReadAnswer.{ReadAnswer}
 use Rattle.case_read.specs.declared.ReadAnswer.the-variants.{Read, Refused}
 use Rattle.case_judge.specs.declared.Judgement.{Judgement}
 use Rattle.case_judge.specs.declared.Judgement.the-variants.{Next, Last, Form, Range, Order}
-use Rattle.tables.specs.Starred.{drawnCase, seven, path}
+use Rattle.tables.specs.Starred.{setWord, drawnCase, seven, path}
 use Rattle.tables.specs.Tables.{Right, Reads, Row, holds, fails, block}
 use Rattle.tables.specs.Drawings.{value}
 
@@ -96,12 +100,15 @@ grammarTable =
     ∷ []
 
 -- a line of three buses, and the rows with it: each end has the other
-abbrev pub wiredTable : List ((ℕ × ℕ) × List ℕ)
-wiredTable = ((1, 3), 4 ∷ 0 ∷ 1 ∷ []) ∷ ((1, 2), 2 ∷ 1 ∷ 0 ∷ []) ∷ []
+abbrev pub wiredTable : List ((ℕ × ℕ) × Rows)
+wiredTable =
+    ((1, 3), setWord (3 ∷ []) ∷ emptyWord ∷ setWord (1 ∷ []) ∷ [])
+    ∷ ((1, 2), setWord (2 ∷ []) ∷ setWord (1 ∷ []) ∷ emptyWord ∷ [])
+    ∷ []
 
 -- every row is right
 abbrev pub WiredRight : Type 0
-WiredRight = Right (λ q. withLine (0 ∷ 0 ∷ 0 ∷ []) (q .0) (q .1)) wiredTable
+WiredRight = Right (λ q. withLine (replicate 3 emptyWord) (q .0) (q .1)) wiredTable
 
 -- ---- refusals
 
@@ -113,15 +120,13 @@ wholeTextTable =
     ∷ ("", Refused (WrongForm 1))
     ∷ ("\n", Refused (WrongForm 1))
     ∷ ("bus\t1\tI\tY\n", Refused (WrongForm 1))
-    ∷ ("grid\t64\n", Refused (WrongForm 2))
     ∷ ("grid\t2\nend\n", Refused (WrongForm 2))
     ∷ ("grid\t2\nline\t1\t2\n", Refused (WrongForm 2))
     ∷ ("grid\t2\nbus\t1\tI\tY\npmu\t1\n", Refused (WrongForm 3))
     -- a missing line feed comes before 3 and 4
-    ∷ ("grid\t65", Refused (WrongForm 1))
+    ∷ ("grid\t9999", Refused (WrongForm 1))
     ∷ ("grid\t2\nbus\t2\tI\tY", Refused (WrongForm 2))
     -- 3
-    ∷ ("grid\t65\n", Refused (OutOfRange 1))
     ∷ ("grid\t0\n", Refused (OutOfRange 1))
     ∷ ("grid\t9999\n", Refused (OutOfRange 1))
     ∷ ("grid\t2\nbus\t3\tI\tY\n", Refused (OutOfRange 2))
@@ -137,6 +142,14 @@ wholeTextTable =
 -- every row is right
 abbrev pub WholeTextsRight : Type 0
 WholeTextsRight = Reads (λ s. readCase s .answer) wholeTextTable
+
+-- `grid` alone: up to the most buses the next record is missing, one more is out of range
+abbrev pub busLimitTable : List (ℕ × ReadAnswer)
+busLimitTable = (mostBuses, Refused (WrongForm 2)) ∷ (suc mostBuses, Refused (OutOfRange 1)) ∷ []
+
+-- every row is right
+abbrev pub BusLimitsRight : Type 0
+BusLimitsRight = Right (λ n. readCase (recordText (Grid n) ++ lineFeed ∷ []) .answer) busLimitTable
 
 -- how a text goes on after the seven-bus grid's `grid` and every `bus`, from line 9 on
 abbrev pub laterLineTable : List (String × ReadAnswer)
@@ -178,31 +191,31 @@ laterLineTable =
 abbrev pub LaterLinesRight : Type 0
 LaterLinesRight = Right (λ s. readCase (block sevenBuses ++ bytes s) .answer) laterLineTable
 
--- line feeds alone: 8,192 of them are 2 at line 1, one more is 1
+-- line feeds alone: the most bytes of them are 2 at line 1, one more is 1
 abbrev pub caseLimitTable : List (ℕ × ReadAnswer)
-caseLimitTable = (8192, Refused (WrongForm 1)) ∷ (8193, Refused TextTooLong) ∷ []
+caseLimitTable = (mostBytes, Refused (WrongForm 1)) ∷ (suc mostBytes, Refused TextTooLong) ∷ []
 
 -- every row is right
 abbrev pub CaseLimitsRight : Type 0
 CaseLimitsRight = Right (λ k. readCase (replicate k lineFeed) .answer) caseLimitTable
 
--- ---- the 257th line
+-- ---- one line more than the most
 
--- where 64 buses and so many lines are read, the last of which is line 5 9
+-- where the most buses and k lines are read, the last of which is line 5 9
 abbrev pub lined : ℕ → Place
-lined k = record { n = 64; bus = 64; a = 5; b = 9; lines = k; unit = 0 }
+lined k = record { n = mostBuses; bus = mostBuses; a = 5; b = 9; lines = k; unit = 0 }
 
--- records that stand there, and what is said of each: a 257th line is 3, also with a above b; a bad form is 2
+-- records that stand there, and what is said of each: a line above the most is 3, also with a above b; a bad form is 2
 abbrev pub judgementTable : List ((ℕ × Record) × Judgement)
 judgementTable =
-    ((255, Line 6 7), Next)
-    ∷ ((256, Line 6 7), Range)
-    ∷ ((256, Line 7 6), Range)
-    ∷ ((255, Line 7 6), Order)
-    ∷ ((256, Wrong), Form)
-    ∷ ((256, Grid 64), Form)
-    ∷ ((256, Pmu 64), Next)
-    ∷ ((256, End), Last)
+    ((mostLines - 1, Line 6 7), Next)
+    ∷ ((mostLines, Line 6 7), Range)
+    ∷ ((mostLines, Line 7 6), Range)
+    ∷ ((mostLines - 1, Line 7 6), Order)
+    ∷ ((mostLines, Wrong), Form)
+    ∷ ((mostLines, Grid mostBuses), Form)
+    ∷ ((mostLines, Pmu mostBuses), Next)
+    ∷ ((mostLines, End), Last)
     ∷ []
 
 -- every row is right

@@ -1,16 +1,15 @@
 -- What the tables speak of: sets, steps, case values and grids, written short.
-use mathlib.Core.List.{List, [], _∷_, _++_, map}
-use Prim.Native.Nat.{ℕ, _-_}
-use lib.ListN.{length, replicate}
+use mathlib.Core.List.{List, [], _∷_, map}
+use Prim.Native.Nat.{ℕ}
 use Rattle.busset.specs.Sets.{setOf}
 use Rattle.step.specs.declared.Reason.the-variants.{OwnUnit, NeighbourOf, ZeroInjection}
 use Rattle.step.specs.declared.Step.{Step}
 use Rattle.rules.specs.Grids.{Grid}
 use Rattle.grid.specs.declared.Case.{Case}
 use Rattle.grid.specs.Cases.{gridOf}
-use Rattle.tables.specs.Starred.{Drawing, setWord, drawnCase, seven, path}
+use Rattle.tables.specs.Starred.{Drawing, setWord, filled, drawnCase, seven, path}
 
--- the set of the buses of a list without repeats
+-- the set of the buses of a list
 abbrev pub set : List ℕ → ℕ
 set bs = setOf (setWord bs)
 
@@ -26,15 +25,19 @@ near b p = record { bus = b; reason = NeighbourOf p }
 abbrev pub zeroAt : ℕ → ℕ → Step
 zeroAt b w = record { bus = b; reason = ZeroInjection w }
 
--- a case value: n, the neighbours of each bus in bus order, the Z buses, the Y sites and the units
-abbrev pub value : ℕ → List (List ℕ) → List ℕ → List ℕ → List ℕ → Case
-value n rows zeros sites units = record {
+-- a case value: n, the neighbours of each bus in bus order, the Z buses, the Y sites and the units; with no row but these
+abbrev pub shortValue : ℕ → List (List ℕ) → List ℕ → List ℕ → List ℕ → Case
+shortValue n rows zeros sites units = record {
   n = n;
-  nbr = map setWord rows ++ replicate (64 - length rows) 0;
+  nbr = map setWord rows;
   zero = setWord zeros;
   site = setWord sites;
   units = setWord units;
 }
+
+-- the same, with a row for each bus
+abbrev pub value : ℕ → List (List ℕ) → List ℕ → List ℕ → List ℕ → Case
+value n rows zeros sites units = filled (shortValue n rows zeros sites units)
 
 -- the grid that a drawing says
 abbrev pub drawnGrid : Drawing → Grid

@@ -67,7 +67,7 @@ abbrev pub numberTable : List (String × Numeral)
 numberTable =
     ("0", Is 0)
     ∷ ("7", Is 7)
-    ∷ ("64", Is 64)
+    ∷ ("42", Is 42)
     ∷ ("9999", Is 9999)
     ∷ ("00", Wrong)
     ∷ ("07", Wrong)
@@ -89,7 +89,7 @@ NumbersRight = Reads numeralOf numberTable
 
 -- numbers, and their texts
 abbrev pub numeralTable : List (ℕ × String)
-numeralTable = (0, "0") ∷ (7, "7") ∷ (10, "10") ∷ (64, "64") ∷ (100, "100") ∷ (1025, "1025") ∷ (9999, "9999") ∷ []
+numeralTable = (0, "0") ∷ (7, "7") ∷ (10, "10") ∷ (42, "42") ∷ (100, "100") ∷ (1203, "1203") ∷ (9999, "9999") ∷ []
 
 -- every row is right
 abbrev pub NumeralsRight : Type 0

@@ -1,14 +1,16 @@
 -- The firing figure.
 use mathlib.Core.List.{List, [], _∷_}
 use mathlib.Core.Path.{_≡_}
-use Prim.Native.Nat.{ℕ, _-_, _^_}
+use Prim.Native.Nat.{ℕ, _-_}
 use lib.IntN.{ℤ, pos, negsuc}
 use lib.ListN.{replicate}
-use Rattle.busset.specs.Sets.{setOf}
+use Rattle.busset.specs.Sets.{less}
+use Rattle.busset.specs.Held.{emptyWord, wordOf}
 use Rattle.rules.specs.Figures.{figure, Runs}
 use Rattle.grid.specs.declared.Case.{Case}
+use Rattle.grid.specs.Limits.{mostBuses}
 use Rattle.grid.specs.Cases.{gridOf, Valid}
-use Rattle.tables.specs.Starred.{setWord, drawnCase, seven}
+use Rattle.tables.specs.Starred.{setWord, busesTo, drawnCase, seven}
 use Rattle.observe_calls.specs.Replies.{stated}
 use Rattle.tables.specs.Tables.{Right, Row, holds, fails}
 use Rattle.tables.specs.Drawings.{set, sevenGrid}
@@ -37,30 +39,36 @@ figureTable =
 abbrev pub FiguresRight : Type 0
 FiguresRight = Right (λ q. figure (sevenGrid [] .neighbours) (set (q .0)) (q .1) (q .2)) figureTable
 
--- 64 buses, of which 1 is joined to every other
+-- the most buses, of which 1 is joined to every other
 abbrev pub star : Case
-star = record { n = 64; nbr = (2 ^ 64 - 2) ∷ replicate 63 1; zero = 0; site = 0; units = 0 }
+star = record {
+  n = mostBuses;
+  nbr = wordOf (less (set (busesTo mostBuses)) 1) ∷ replicate (mostBuses - 1) (setWord (1 ∷ []));
+  zero = emptyWord;
+  site = emptyWord;
+  units = emptyWord;
+}
 
 -- its figures of 1 towards 2 where no bus is observed, and where all are: the lowest and the highest that there are
 abbrev pub figureEndTable : List Row
 figureEndTable =
     holds (Valid star)
-    ∷ holds (figure (gridOf star .neighbours) (set []) 1 2 ≡ negsuc 61)
-    ∷ holds (figure (gridOf star .neighbours) (setOf (2 ^ 64 - 1)) 1 2 ≡ pos 1)
+    ∷ holds (figure (gridOf star .neighbours) (set []) 1 2 ≡ negsuc (mostBuses - 3))
+    ∷ holds (figure (gridOf star .neighbours) (set (busesTo mostBuses)) 1 2 ≡ pos 1)
     ∷ []
 
--- where the figure runs: from -62 to 1
+-- where the figure runs: from 2 - the most buses to 1
 abbrev pub figureRunTable : List Row
 figureRunTable =
-    holds (Runs 62 (negsuc 61))
-    ∷ fails (Runs 62 (negsuc 62))
-    ∷ holds (Runs 62 (pos 1))
-    ∷ fails (Runs 62 (pos 2))
+    holds (Runs (mostBuses - 2) (negsuc (mostBuses - 3)))
+    ∷ fails (Runs (mostBuses - 2) (negsuc (mostBuses - 2)))
+    ∷ holds (Runs (mostBuses - 2) (pos 1))
+    ∷ fails (Runs (mostBuses - 2) (pos 2))
     ∷ []
 
 -- stated sets on the seven buses, and what counts: buses above n are ignored
 abbrev pub statedSetTable : List (List ℕ × ℕ)
-statedSetTable = (1 ∷ 7 ∷ [], set (1 ∷ 7 ∷ [])) ∷ (1 ∷ 8 ∷ 64 ∷ [], set (1 ∷ [])) ∷ (8 ∷ [], set []) ∷ []
+statedSetTable = (1 ∷ 7 ∷ [], set (1 ∷ 7 ∷ [])) ∷ (1 ∷ 8 ∷ mostBuses ∷ [], set (1 ∷ [])) ∷ (8 ∷ [], set []) ∷ []
 
 -- every row is right
 abbrev pub StatedRight : Type 0

@@ -1,23 +1,22 @@
 -- The grid that a case value says, and which case values are valid: one row for each clause of refusal 5.
-use mathlib.Core.Bool.{cond}
 use mathlib.Core.List.{List, [], _∷_, _++_}
-use Prim.Native.Nat.{ℕ, zero, suc, _+_, _-_, _^_}
+use Prim.Native.Nat.{ℕ, zero, suc}
 use lib.Dec.{leb}
-use lib.ListN.{replicate}
-use Rattle.busset.specs.Sets.{width}
+use Rattle.busset.specs.Sets.{width, less}
+use Rattle.busset.specs.Held.{emptyWord, wordOf, holdIf}
 use Rattle.rules.specs.Grids.{Line, Proper, total, lineCount}
 use Rattle.grid.specs.declared.Case.{Case}
-use Rattle.grid.specs.Limits.{mostBuses, mostLines, mostSteps, mostBudget, mostGreedyBudget}
+use Rattle.grid.specs.Limits.{mostBuses, mostLines, mostSteps, largestBudget, mostBudget, mostGreedyBudget}
 use Rattle.grid.specs.Limits.{mostBytes, mostStepBytes}
-use Rattle.grid.specs.Rows.{neighbours}
+use Rattle.grid.specs.Rows.{Rows, neighbours}
 use Rattle.grid.specs.Cases.{gridOf, LinesAt, Lines, Valid}
-use Rattle.tables.specs.Starred.{drawnCase, seven, path}
+use Rattle.tables.specs.Starred.{setWord, busesTo, filled, drawnCase, seven, path}
 use Rattle.tables.specs.Tables.{Right, Row, holds, fails}
 use Rattle.tables.specs.Drawings.{set, value, sevenGrid, drawnGrid}
 
 -- ---- document 01's numbers
 
--- each limit, and its number
+-- each limit, and its number: no other line of these tables says one
 abbrev pub limitTable : List (ℕ × ℕ)
 limitTable =
     (mostBuses, 64)
@@ -26,7 +25,8 @@ limitTable =
     ∷ (mostSteps, 1024)
     ∷ (mostBytes, 8192)
     ∷ (mostStepBytes, 16384)
-    ∷ (mostBudget 1, 8)
+    ∷ (largestBudget, 8)
+    ∷ (mostBudget 7, 8)
     ∷ (mostGreedyBudget, 64)
     ∷ []
 
@@ -48,7 +48,7 @@ neighbourTable =
     ∷ (7, set (3 ∷ []))
     ∷ (0, set [])
     ∷ (8, set [])
-    ∷ (65, set [])
+    ∷ (suc mostBuses, set [])
     ∷ []
 
 -- every row is right
@@ -132,13 +132,13 @@ validTable =
     holds (Valid (drawnCase (seven (3 ∷ []))))
     ∷ holds (Valid (drawnCase path))
     ∷ holds (Valid (value 1 [] [] [] []))
-    ∷ holds (Valid (value 64 [] [] [] (64 ∷ [])))
+    ∷ holds (Valid (value mostBuses [] [] [] (mostBuses ∷ [])))
     ∷ holds (Valid (value 2 pair (1 ∷ []) (1 ∷ 2 ∷ []) (2 ∷ [])))
     -- an installed unit may stand at a site N
     ∷ holds (Valid (value 2 pair [] [] (1 ∷ [])))
-    -- n outside 1 to 64
+    -- n outside 1 to the most buses
     ∷ fails (Valid (value 0 [] [] [] []))
-    ∷ fails (Valid (value 65 [] [] [] []))
+    ∷ fails (Valid (value (suc mostBuses) [] [] [] []))
     -- lines not the same seen from both ends
     ∷ fails (Valid (value 2 oneSided [] [] []))
     -- a bus joined to itself
@@ -152,15 +152,25 @@ validTable =
     ∷ []
 
 -- the rows of m buses from b on: each is joined to all of 1 to 23 but itself, and to bus 24 where it is one of the first k
-abbrev pub crowdRows : ℕ → ℕ → ℕ → List ℕ
+abbrev pub crowdRows : ℕ → ℕ → ℕ → Rows
 crowdRows k b zero = []
-crowdRows k b (suc m) = ((2 ^ 23 - 1 - 2 ^ (b - 1)) + cond (leb b k) (2 ^ 23) 0) ∷ crowdRows k (b + 1) m
+crowdRows k b (suc m) = holdIf (leb b k) (wordOf (less (set (busesTo 23)) b)) 24 ∷ crowdRows k (suc b) m
 
--- 24 buses, 1 to 23 all joined to one another by 253 lines, and bus 24 to the first k
+-- 24 buses, 1 to 23 all joined to one another by 253 lines, and bus 24 to the first k; with no row but theirs
+abbrev pub shortCrowd : ℕ → Case
+shortCrowd k = record {
+  n = 24;
+  nbr = crowdRows k 1 23 ++ setWord (busesTo k) ∷ [];
+  zero = emptyWord;
+  site = emptyWord;
+  units = emptyWord;
+}
+
+-- the same, with a row for each bus
 abbrev pub crowd : ℕ → Case
-crowd k = record { n = 24; nbr = crowdRows k 1 23 ++ (2 ^ k - 1) ∷ replicate 40 0; zero = 0; site = 0; units = 0 }
+crowd k = filled (shortCrowd k)
 
--- 256 lines, and 257
+-- the most lines, and one more
 abbrev pub mostLinesTable : List Row
 mostLinesTable = holds (Valid (crowd 3)) ∷ fails (Valid (crowd 4)) ∷ []
 

@@ -1,7 +1,8 @@
 -- The order of refusals: 1, then the first bad line, in it 2, 3, 4 (in a step text 12 after 3); then 5; then 10 or 12;
 -- then 7, 8, 9 at the first bad step; then 13; then 11; then 6.
 use mathlib.Core.List.{List, [], _∷_}
-use Prim.Native.Nat.{ℕ}
+use Prim.Native.Nat.{ℕ, suc}
+use Rattle.grid.specs.Limits.{mostSteps}
 use Rattle.refusals.specs.Refusals.{Check, checkThat}
 use Rattle.demands.specs.Order.{Precedes, InTableOrder, FirstFails}
 use Rattle.tables.specs.Tables.{Row, holds, fails}
@@ -24,9 +25,9 @@ precedesTable =
     -- the first bad line
     ∷ holds (ComesFirst 4 3 2 4)
     ∷ fails (ComesFirst 2 4 4 3)
-    -- the 1,025th step of a text
-    ∷ holds (ComesFirst 3 1025 12 1025)
-    ∷ holds (ComesFirst 12 1025 2 1026)
+    -- the step of a text after the most steps
+    ∷ holds (ComesFirst 3 (suc mostSteps) 12 (suc mostSteps))
+    ∷ holds (ComesFirst 12 (suc mostSteps) 2 (suc (suc mostSteps)))
     -- a list that is too long
     ∷ holds (ComesFirst 5 0 12 0)
     ∷ holds (ComesFirst 12 0 7 1)
@@ -44,11 +45,11 @@ precedesTable =
     ∷ holds (ComesFirst 10 0 11 0)
     ∷ holds (ComesFirst 11 0 6 0)
     ∷ fails (ComesFirst 6 0 11 0)
-    ∷ holds (ComesFirst 9 64 6 0)
+    ∷ holds (ComesFirst 9 mostSteps 6 0)
     -- a case text is read before a step text
     ∷ holds (ComesFirst 4 9 51 0)
     ∷ holds (ComesFirst 52 1 53 1)
-    ∷ holds (ComesFirst 62 1025 7 1)
+    ∷ holds (ComesFirst 62 (suc mostSteps) 7 1)
     ∷ []
 
 -- lists of checks in this order, and lists that are not; and the first of them that fails

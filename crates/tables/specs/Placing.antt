@@ -1,6 +1,7 @@
 -- Placing units: additions that cover, which comes first, the fewest, and greedy.
 use mathlib.Core.List.{List, [], _∷_}
 use Prim.Native.Nat.{ℕ, _≤_}
+use Rattle.grid.specs.Limits.{mostBudget, mostGreedyBudget}
 use Rattle.rules.specs.Placing.{Full, Covers, Free, Rising, placed, Addition, Before, Earlier, FewestSites, SomeAddition}
 use Rattle.rules.specs.Choosing.{WithSite, Best, NoneAdds, GreedyList}
 use Rattle.tables.specs.Tables.{Right, Row, holds, fails}
@@ -58,7 +59,7 @@ coversTable =
 abbrev pub additionTable : List Row
 additionTable =
     holds (Addition (sevenGrid []) 2 (1 ∷ 4 ∷ []))
-    ∷ holds (Addition (sevenGrid []) 8 (1 ∷ 4 ∷ []))
+    ∷ holds (Addition (sevenGrid []) (mostBudget 7) (1 ∷ 4 ∷ []))
     ∷ holds (Addition (sevenGrid []) 2 (3 ∷ 4 ∷ []))
     -- over the budget
     ∷ fails (Addition (sevenGrid []) 1 (1 ∷ 4 ∷ []))
@@ -164,6 +165,6 @@ greedyListTable =
     ∷ fails (GreedyList (sevenGrid []) 2 (3 ∷ []))
     -- and when no site adds a bus
     ∷ holds (GreedyList (sevenGrid []) 3 (3 ∷ 4 ∷ []))
-    ∷ holds (GreedyList (sevenGrid (1 ∷ 4 ∷ [])) 64 [])
+    ∷ holds (GreedyList (sevenGrid (1 ∷ 4 ∷ [])) mostGreedyBudget [])
     ∷ fails (GreedyList (sevenGrid (1 ∷ 4 ∷ [])) 2 (2 ∷ []))
     ∷ []

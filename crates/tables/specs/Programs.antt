@@ -1,10 +1,12 @@
 -- From text to text: the two programs, the four C functions, and the calls on step texts.
 use mathlib.Core.Bool.{true}
 use mathlib.Core.List.{List, [], _∷_, _++_}
-use Prim.Native.Nat.{ℕ}
+use Prim.Native.Nat.{ℕ, suc}
 use lib.ListN.{replicate}
+use Rattle.busset.specs.Bytes.{setLength, setBytes}
 use Rattle.text_field.specs.Split.{bytes}
 use Rattle.refusals.specs.declared.Refusal.the-variants.{WrongForm, OutOfRange, InvalidCase, NoRoom, NoSuchBus}
+use Rattle.grid.specs.Limits.{largestBudget}
 use Rattle.text_put.specs.Put.{Put}
 use Rattle.report_lines.specs.Printing.{IsRefusedText, PrintedReply}
 use Rattle.refusals.specs.declared.Written.the-variants as written
@@ -33,8 +35,8 @@ dayPrintedTable =
     ∷ holds (DayPrinted (block bareInput) (bytes "observed\t0\t7\nxv\tyes\nend\n"))
     ∷ fails (DayPrinted (block bareInput) (bytes "observed\t0\t7\nxv\tno\t0\nend\n"))
     -- a refusal is one line, and no report
-    ∷ holds (DayPrinted (bytes "grid\t65\n") (bytes "refused\t3\t1\n"))
-    ∷ fails (DayPrinted (bytes "grid\t65\n") (bytes "refused\t2\t1\n"))
+    ∷ holds (DayPrinted (bytes "grid\t0\n") (bytes "refused\t3\t1\n"))
+    ∷ fails (DayPrinted (bytes "grid\t0\n") (bytes "refused\t2\t1\n"))
     ∷ fails (DayPrinted (block input) (bytes "refused\t2\t1\n"))
     ∷ []
 
@@ -44,11 +46,11 @@ planPrintedTable =
     holds (PlanPrinted (block ("plan 2" ∷ bareInput)) (bytes "fewest\t2\npmu\t1\npmu\t4\nend\n"))
     ∷ holds (PlanPrinted (block ("plan 1" ∷ bareInput)) (bytes "refused\t11\t0\n"))
     -- 10 at line 1, and never 11
-    ∷ holds (PlanPrinted (block ("plan 9" ∷ bareInput)) (bytes "refused\t10\t1\n"))
-    ∷ fails (PlanPrinted (block ("plan 9" ∷ bareInput)) (bytes "refused\t10\t0\n"))
+    ∷ holds (PlanPrinted (block ("plan 9999" ∷ bareInput)) (bytes "refused\t10\t1\n"))
+    ∷ fails (PlanPrinted (block ("plan 9999" ∷ bareInput)) (bytes "refused\t10\t0\n"))
     -- the case text comes before the budget
-    ∷ holds (PlanPrinted (bytes "plan\t9\ngrid\t65\n") (bytes "refused\t3\t2\n"))
-    ∷ holds (PlanPrinted (bytes "plan\t\ngrid\t65\n") (bytes "refused\t2\t1\n"))
+    ∷ holds (PlanPrinted (bytes "plan\t9999\ngrid\t0\n") (bytes "refused\t3\t2\n"))
+    ∷ holds (PlanPrinted (bytes "plan\t\ngrid\t0\n") (bytes "refused\t2\t1\n"))
     ∷ []
 
 -- ---- step texts
@@ -57,8 +59,8 @@ planPrintedTable =
 abbrev pub textReplayTable : List Row
 textReplayTable =
     holds (TextReplayReply (sevenCase (3 ∷ [])) derivationText (replayed.Reached (setWord (1 ∷ 2 ∷ 3 ∷ 4 ∷ 7 ∷ [])) true))
-    -- 65 is refused in reading, 8 at the step
-    ∷ holds (TextReplayReply (sevenCase (3 ∷ [])) (bytes "step\t65\tO\nend\n") (replayed.Unread (OutOfRange 1)))
+    -- 9999 is refused in reading, 8 at the step
+    ∷ holds (TextReplayReply (sevenCase (3 ∷ [])) (bytes "step\t9999\tO\nend\n") (replayed.Unread (OutOfRange 1)))
     ∷ holds (TextReplayReply (sevenCase (3 ∷ [])) (bytes "step\t8\tO\nend\n") (replayed.Refused (NoSuchBus 1)))
     ∷ fails (TextReplayReply (sevenCase (3 ∷ [])) (bytes "step\t8\tO\nend\n") (replayed.Unread (NoSuchBus 1)))
     -- the whole text is read before step 1 is tried
@@ -94,32 +96,32 @@ printTable =
 
 -- ---- the four C functions
 
--- nine bytes lent
+-- bytes lent, one more than a set has
 abbrev pub lent : List ℕ
-lent = replicate 9 5
+lent = replicate (suc setLength) 5
 
--- the nine bytes after a set below 2 ^ 8
-abbrev pub left : ℕ → List ℕ
-left s = s ∷ 0 ∷ 0 ∷ 0 ∷ 0 ∷ 0 ∷ 0 ∷ 0 ∷ 5 ∷ []
+-- the same bytes after a set of these buses
+abbrev pub left : List ℕ → List ℕ
+left bs = setBytes (setWord bs) ++ 5 ∷ []
 
 -- the question, the bytes before and after, and the result
 abbrev pub estimatorTable : List Row
 estimatorTable =
-    holds (Answered (OfText (block input) ObservedFor) lent (left 79) 0)
-    ∷ holds (Answered (OfText (block input) UnconfirmedFor) lent (left 4) 0)
-    ∷ holds (Answered (OfText (block bareInput) (FewestFor 2)) lent (left 9) 0)
-    ∷ holds (Answered (OfText (block input) (ReplayFor derivationText)) lent (left 79) 0)
+    holds (Answered (OfText (block input) ObservedFor) lent (left (1 ∷ 2 ∷ 3 ∷ 4 ∷ 7 ∷ [])) 0)
+    ∷ holds (Answered (OfText (block input) UnconfirmedFor) lent (left (3 ∷ [])) 0)
+    ∷ holds (Answered (OfText (block bareInput) (FewestFor 2)) lent (left (1 ∷ 4 ∷ [])) 0)
+    ∷ holds (Answered (OfText (block input) (ReplayFor derivationText)) lent (left (1 ∷ 2 ∷ 3 ∷ 4 ∷ 7 ∷ [])) 0)
     -- refusals leave the bytes
     ∷ holds (Answered (OfText (bytes "") ObservedFor) lent lent 102)
     ∷ holds (Answered (OfText (block bareInput) (FewestFor 1)) lent lent 11)
-    ∷ holds (Answered (OfText (block bareInput) (FewestFor 9)) lent lent 10)
+    ∷ holds (Answered (OfText (block bareInput) (FewestFor (suc largestBudget))) lent lent 10)
     -- the case text comes before the budget, and before the step text
-    ∷ holds (Answered (OfText (bytes "grid\t65\n") (FewestFor 9)) lent lent 103)
-    ∷ holds (Answered (OfText (bytes "grid\t65\n") (ReplayFor (bytes "step\n"))) lent lent 103)
+    ∷ holds (Answered (OfText (bytes "grid\t0\n") (FewestFor (suc largestBudget))) lent lent 103)
+    ∷ holds (Answered (OfText (bytes "grid\t0\n") (ReplayFor (bytes "step\n"))) lent lent 103)
     -- 50 is added in reading the step text, and not at a step
-    ∷ holds (Answered (OfText (block input) (ReplayFor (bytes "step\t65\tO\nend\n"))) lent lent 153)
+    ∷ holds (Answered (OfText (block input) (ReplayFor (bytes "step\t9999\tO\nend\n"))) lent lent 153)
     ∷ holds (Answered (OfText (block input) (ReplayFor (bytes "step\t1\tZ\t2\nend\n"))) lent lent 109)
-    -- fewer than eight bytes are 6
+    -- fewer bytes than a set has are 6
     ∷ holds (Answered (OfText (block input) ObservedFor) (5 ∷ []) (5 ∷ []) 6)
     ∷ fails (Answered (OfText (bytes "") ObservedFor) (5 ∷ []) (5 ∷ []) 6)
     ∷ []

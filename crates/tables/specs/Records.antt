@@ -90,7 +90,7 @@ abbrev pub recordTextTable : List (Record × String)
 recordTextTable =
     (Grid 7, "grid\t7")
     ∷ (Bus 1 false true, "bus\t1\tI\tY")
-    ∷ (Bus 64 true false, "bus\t64\tZ\tN")
+    ∷ (Bus 42 true false, "bus\t42\tZ\tN")
     ∷ (Line 5 6, "line\t5\t6")
     ∷ (Pmu 3, "pmu\t3")
     ∷ (End, "end")
@@ -153,7 +153,7 @@ StepLinesRight = Reads stepLineOf stepLineTable
 
 -- steps, and the line that each is
 abbrev pub stepTextTable : List (Step × String)
-stepTextTable = (near 2 3, "step\t2\tN\t3") ∷ (own 3, "step\t3\tO") ∷ (zeroAt 1 2, "step\t1\tZ\t2") ∷ (own 64, "step\t64\tO") ∷ []
+stepTextTable = (near 2 3, "step\t2\tN\t3") ∷ (own 3, "step\t3\tO") ∷ (zeroAt 1 2, "step\t1\tZ\t2") ∷ (own 42, "step\t42\tO") ∷ []
 
 -- every row is right
 abbrev pub StepTextsRight : Type 0

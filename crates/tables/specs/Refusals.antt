@@ -1,6 +1,7 @@
 -- Refusals: the number and place of each, and which of several checks is answered.
 use mathlib.Core.List.{List, [], _∷_}
-use Prim.Native.Nat.{ℕ, _≤_}
+use Prim.Native.Nat.{ℕ, suc, _≤_}
+use Rattle.grid.specs.Limits.{mostSteps}
 use Rattle.refusals.specs.declared.Refusal.{Refusal}
 use Rattle.refusals.specs.declared.Refusal.the-variants.{TextTooLong, WrongForm, OutOfRange, OutOfOrder, InvalidCase, NoRoom}
 use Rattle.refusals.specs.declared.Refusal.the-variants.{NoSuchBus, AlreadyObserved, ReasonFails}
@@ -25,7 +26,7 @@ refusalTable =
     ∷ (OverBudget 1, (10, 1))
     ∷ (NoCover, (11, 0))
     ∷ (TooManySteps 0, (12, 0))
-    ∷ (TooManySteps 1025, (12, 1025))
+    ∷ (TooManySteps (suc mostSteps), (12, suc mostSteps))
     ∷ (NotJoined, (13, 0))
     ∷ []
 

@@ -1,11 +1,12 @@
 -- What each call answers, and which refusal comes first.
 use mathlib.Core.Bool.{true, false}
 use mathlib.Core.List.{List, [], _∷_, _++_}
-use Prim.Native.Nat.{ℕ}
+use Prim.Native.Nat.{ℕ, suc}
 use lib.IntN.{pos}
 use lib.ListN.{replicate}
 use Rattle.text_field.specs.Split.{bytes}
 use Rattle.grid.specs.declared.Case.{Case}
+use Rattle.grid.specs.Limits.{mostSteps, mostBudget, mostGreedyBudget}
 use Rattle.refusals.specs.declared.Refusal.the-variants.{WrongForm, InvalidCase, NoRoom, NoSuchBus, AlreadyObserved, ReasonFails}
 use Rattle.refusals.specs.declared.Refusal.the-variants.{OverBudget, NoCover, TooManySteps, NotJoined}
 use Rattle.list_value.specs.Lists.{listOf}
@@ -46,14 +47,14 @@ abbrev pub figureReplyTable : List Row
 figureReplyTable =
     holds (FigureReply (sevenCase (2 ∷ [])) (setWord (1 ∷ 2 ∷ 3 ∷ 8 ∷ [])) 2 1 (figured.Figure (pos 1)))
     ∷ fails (FigureReply (sevenCase (2 ∷ [])) (setWord (1 ∷ 2 ∷ 3 ∷ [])) 3 7 (figured.Figure (pos 1)))
-    ∷ holds (FigureReply badCase 0 9 9 (figured.Refused InvalidCase))
-    ∷ holds (FigureReply (sevenCase []) 0 9 9 (figured.Refused (NoSuchBus 0)))
-    ∷ holds (FigureReply (sevenCase []) 0 0 1 (figured.Refused (NoSuchBus 0)))
-    ∷ holds (FigureReply (sevenCase []) 0 1 8 (figured.Refused (NoSuchBus 0)))
-    ∷ holds (FigureReply (sevenCase []) 0 1 3 (figured.Refused NotJoined))
+    ∷ holds (FigureReply badCase (setWord []) 9 9 (figured.Refused InvalidCase))
+    ∷ holds (FigureReply (sevenCase []) (setWord []) 9 9 (figured.Refused (NoSuchBus 0)))
+    ∷ holds (FigureReply (sevenCase []) (setWord []) 0 1 (figured.Refused (NoSuchBus 0)))
+    ∷ holds (FigureReply (sevenCase []) (setWord []) 1 8 (figured.Refused (NoSuchBus 0)))
+    ∷ holds (FigureReply (sevenCase []) (setWord []) 1 3 (figured.Refused NotJoined))
     -- a bus is not joined to itself
-    ∷ holds (FigureReply (sevenCase []) 0 3 3 (figured.Refused NotJoined))
-    ∷ fails (FigureReply (sevenCase []) 0 3 3 (figured.Figure (pos 1)))
+    ∷ holds (FigureReply (sevenCase []) (setWord []) 3 3 (figured.Refused NotJoined))
+    ∷ fails (FigureReply (sevenCase []) (setWord []) 3 3 (figured.Figure (pos 1)))
     ∷ []
 
 -- a step tested alone is step 1: 5, 7, 8, 9
@@ -84,7 +85,7 @@ replayReplyTable =
     ∷ fails (ReplayReply (sevenCase []) [] (replayed.Reached (setWord []) false))
     ∷ holds (ReplayReply badCase (own 9 ∷ []) (replayed.Refused InvalidCase))
     -- 12 before any step is looked at
-    ∷ holds (ReplayReply (sevenCase (3 ∷ [])) (replicate 1025 (own 9)) (replayed.Refused (TooManySteps 0)))
+    ∷ holds (ReplayReply (sevenCase (3 ∷ [])) (replicate (suc mostSteps) (own 9)) (replayed.Refused (TooManySteps 0)))
     ∷ holds (ReplayReply (sevenCase (3 ∷ [])) (near 2 3 ∷ near 2 3 ∷ []) (replayed.Refused (AlreadyObserved 2)))
     -- 7 before 8 in one step
     ∷ holds (ReplayReply (sevenCase (3 ∷ [])) (own 3 ∷ near 3 0 ∷ []) (replayed.Refused (NoSuchBus 2)))
@@ -130,8 +131,8 @@ caseReplyTable =
 abbrev pub greedyReplyTable : List Row
 greedyReplyTable =
     holds (GreedyReply (sevenCase []) 2 (7 ∷ 8 ∷ 9 ∷ []) (3 ∷ 4 ∷ 9 ∷ []) (greedy.Added 2))
-    ∷ holds (GreedyReply badCase 65 [] [] (greedy.Refused InvalidCase))
-    ∷ holds (GreedyReply (sevenCase []) 65 [] [] (greedy.Refused (OverBudget 0)))
+    ∷ holds (GreedyReply badCase (suc mostGreedyBudget) [] [] (greedy.Refused InvalidCase))
+    ∷ holds (GreedyReply (sevenCase []) (suc mostGreedyBudget) [] [] (greedy.Refused (OverBudget 0)))
     ∷ holds (GreedyReply (sevenCase []) 2 (7 ∷ []) (7 ∷ []) (greedy.Refused NoRoom))
     ∷ fails (GreedyReply (sevenCase []) 2 (7 ∷ []) (3 ∷ []) (greedy.Refused NoRoom))
     ∷ holds (GreedyReply (sevenCase []) 0 [] [] (greedy.Added 0))
@@ -141,10 +142,10 @@ greedyReplyTable =
 abbrev pub fewestReplyTable : List Row
 fewestReplyTable =
     holds (FewestReply (sevenCase []) 2 (fewest.Sites (setWord (1 ∷ 4 ∷ []))))
-    ∷ holds (FewestReply badCase 9 (fewest.Refused InvalidCase))
-    ∷ holds (FewestReply (sevenCase []) 9 (fewest.Refused (OverBudget 0)))
+    ∷ holds (FewestReply badCase (suc (mostBudget 0)) (fewest.Refused InvalidCase))
+    ∷ holds (FewestReply (sevenCase []) (suc (mostBudget 7)) (fewest.Refused (OverBudget 0)))
     ∷ holds (FewestReply (sevenCase []) 1 (fewest.Refused NoCover))
-    ∷ fails (FewestReply (sevenCase []) 9 (fewest.Refused NoCover))
+    ∷ fails (FewestReply (sevenCase []) (suc (mostBudget 7)) (fewest.Refused NoCover))
     ∷ []
 
 -- texts read; and a case's text written into bytes lent: 5, 6

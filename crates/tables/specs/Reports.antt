@@ -1,13 +1,13 @@
 -- What the two programs print, and what the planning program reads first.
 use mathlib.Core.List.{List, [], _∷_, _++_}
-use Prim.Native.Nat.{ℕ}
+use Prim.Native.Nat.{ℕ, suc, _-_}
 use Prim.Native.String.{String}
 use lib.ListN.{replicate}
-use Rattle.busset.specs.Sets.{setOf}
 use Rattle.text_field.specs.Split.{bytes, lineFeed}
 use Rattle.text_field.specs.declared.Numeral.{Numeral}
 use Rattle.text_field.specs.declared.Numeral.the-variants.{Is, Wrong}
 use Rattle.step.specs.declared.Step.{Step}
+use Rattle.grid.specs.Limits.{mostBytes}
 use Rattle.refusals.specs.declared.Refusal.{Refusal}
 use Rattle.refusals.specs.declared.Refusal.the-variants.{TextTooLong, WrongForm, OutOfRange, OutOfOrder, OverBudget, NoCover}
 use Rattle.case_read.specs.Reading.{got, refused}
@@ -18,12 +18,12 @@ use Rattle.case_line.specs.declared.Record.the-variants.{Pmu, End}
 use Rattle.case_write.specs.Lines.{lineText}
 use Rattle.report_lines.specs.Printing.{refusedText}
 use Rattle.report_day.specs.Day.{verdictFields, dayText}
-use Rattle.plan_input.specs.Asking.{budgetOf, readPlan}
+use Rattle.plan_input.specs.Asking.{defaultBudget, budgetOf, readPlan}
 use Rattle.report_plan.specs.Plan.{planText}
 use Rattle.plan_input.specs.declared.Asked.{Asked}
-use Rattle.tables.specs.Starred.{setWord, drawnCase, seven}
+use Rattle.tables.specs.Starred.{drawnCase, seven}
 use Rattle.tables.specs.Tables.{Right, Reads, Writes, block}
-use Rattle.tables.specs.Drawings.{own, near, zeroAt}
+use Rattle.tables.specs.Drawings.{set, own, near, zeroAt}
 use Rattle.tables.specs.CaseTexts.{input}
 
 -- ---- refusals
@@ -33,7 +33,7 @@ abbrev pub refusedTextTable : List (Refusal × String)
 refusedTextTable =
     (WrongForm 1, "refused\t2\t1\n")
     ∷ (TextTooLong, "refused\t1\t0\n")
-    ∷ (OutOfOrder 257, "refused\t4\t257\n")
+    ∷ (OutOfOrder 320, "refused\t4\t320\n")
     ∷ (OverBudget 1, "refused\t10\t1\n")
     ∷ (NoCover, "refused\t11\t0\n")
     ∷ []
@@ -61,7 +61,7 @@ abbrev pub dayTextTable : List ((ℕ × ℕ × List Step × ℕ) × List ℕ)
 dayTextTable =
     ((5, 7, near 2 3 ∷ own 3 ∷ zeroAt 1 2 ∷ near 4 3 ∷ near 7 3 ∷ [], 1), block output)
     ∷ ((0, 7, [], 0), bytes "observed\t0\t7\nxv\tyes\nend\n")
-    ∷ ((1, 64, own 64 ∷ [], 12), bytes "observed\t1\t64\nstep\t64\tO\nxv\tno\t12\nend\n")
+    ∷ ((1, 42, own 42 ∷ [], 12), bytes "observed\t1\t42\nstep\t42\tO\nxv\tno\t12\nend\n")
     ∷ []
 
 -- every row is right
@@ -70,7 +70,7 @@ DayTextsRight = Right (λ q. dayText (q .0) (q .1) (q .2) (q .3)) dayTextTable
 
 -- how many units are unconfirmed, and the fields after `xv`
 abbrev pub verdictFieldTable : List (ℕ × List (List ℕ))
-verdictFieldTable = (0, bytes "yes" ∷ []) ∷ (1, bytes "no" ∷ bytes "1" ∷ []) ∷ (64, bytes "no" ∷ bytes "64" ∷ []) ∷ []
+verdictFieldTable = (0, bytes "yes" ∷ []) ∷ (1, bytes "no" ∷ bytes "1" ∷ []) ∷ (42, bytes "no" ∷ bytes "42" ∷ []) ∷ []
 
 -- every row is right
 abbrev pub VerdictFieldsRight : Type 0
@@ -81,7 +81,7 @@ VerdictFieldsRight = Right verdictFields verdictFieldTable
 -- first lines, and the budget that each says
 abbrev pub budgetTable : List (String × Numeral)
 budgetTable =
-    ("plan", Is 8)
+    ("plan", Is defaultBudget)
     ∷ ("plan\t0", Is 0)
     ∷ ("plan\t8", Is 8)
     ∷ ("plan\t9", Is 9)
@@ -105,13 +105,13 @@ BudgetsRight = Reads budgetOf budgetTable
 abbrev pub inputTable : List (List ℕ × ReadAnswer)
 inputTable =
     (block ("plan 2" ∷ input), Read)
-    ∷ (block ("plan 9" ∷ input), Read)
+    ∷ (block ("plan 9999" ∷ input), Read)
     ∷ (bytes "", Refused (WrongForm 1))
     ∷ (bytes "plan", Refused (WrongForm 1))
     ∷ (block ("plan 00" ∷ input), Refused (WrongForm 1))
     ∷ (block input, Refused (WrongForm 1))
     ∷ (bytes "plan\n", Refused (WrongForm 2))
-    ∷ (bytes "plan\t9\ngrid\t65\n", Refused (OutOfRange 2))
+    ∷ (bytes "plan\t9999\ngrid\t0\n", Refused (OutOfRange 2))
     ∷ (bytes "plan\ngrid\t2\nbus\t2\tI\tY\n", Refused (OutOfOrder 3))
     ∷ (block ("plan" ∷ input) ++ lineFeed ∷ [], Refused (WrongForm 18))
     ∷ []
@@ -124,7 +124,7 @@ InputsRight = Right (λ s. readPlan s .read .answer) inputTable
 abbrev pub askedTable : List (List ℕ × Asked)
 askedTable =
     (block ("plan 2" ∷ input), record { budget = 2; read = got (drawnCase (seven (3 ∷ []))) })
-    ∷ (block ("plan" ∷ input), record { budget = 8; read = got (drawnCase (seven (3 ∷ []))) })
+    ∷ (block ("plan" ∷ input), record { budget = defaultBudget; read = got (drawnCase (seven (3 ∷ []))) })
     ∷ (bytes "plan\t\n", record { budget = 0; read = refused (WrongForm 1) })
     ∷ []
 
@@ -132,13 +132,13 @@ askedTable =
 abbrev pub AskedRight : Type 0
 AskedRight = Right readPlan askedTable
 
--- the whole input counts: `plan` and line feeds, 8,192 bytes in all, and one more
+-- the whole input counts: how many bytes of `plan` and line feeds there are, the most and one more
 abbrev pub planLimitTable : List (ℕ × ReadAnswer)
-planLimitTable = (8188, Refused (WrongForm 2)) ∷ (8189, Refused TextTooLong) ∷ []
+planLimitTable = (mostBytes, Refused (WrongForm 2)) ∷ (suc mostBytes, Refused TextTooLong) ∷ []
 
 -- every row is right
 abbrev pub PlanLimitsRight : Type 0
-PlanLimitsRight = Right (λ k. readPlan (bytes "plan" ++ replicate k lineFeed) .read .answer) planLimitTable
+PlanLimitsRight = Right (λ k. readPlan (bytes "plan" ++ replicate (k - 4) lineFeed) .read .answer) planLimitTable
 
 -- n and the added sites, and what is printed
 abbrev pub planTextTable : List ((ℕ × List ℕ) × String)
@@ -150,4 +150,4 @@ planTextTable =
 
 -- every row is right
 abbrev pub PlanTextsRight : Type 0
-PlanTextsRight = Writes (λ q. planText (q .0) (setOf (setWord (q .1)))) planTextTable
+PlanTextsRight = Writes (λ q. planText (q .0) (set (q .1))) planTextTable

@@ -1,13 +1,14 @@
 -- Sets of buses, and the machine word that holds one: bus 1 in the lowest bit.
 use mathlib.Core.Bool.{Bool, true, false}
 use mathlib.Core.List.{List, [], _∷_}
-use Prim.Native.Nat.{ℕ, _-_, _≤_, _^_}
-use Rattle.busset.specs.Sets.{Bus, bit, In, Out, Sub, Within, add, meet, lack, less, upTo, size, setOf}
+use Prim.Native.Nat.{ℕ, suc, _-_, _≤_, _^_}
+use Rattle.busset.specs.Sets.{Bus, bit, In, Out, Sub, Within, add, meet, lack, less, upTo, size, setOf, width}
 use Rattle.busset.specs.Sets.{Union, Both, Minus, With, Without, Lowest, Counted, All}
 use Rattle.busset.specs.Held as held
-use Rattle.busset.specs.Bytes.{byteOf}
+use Rattle.busset.specs.Bytes.{byteOf, setLength}
 use Rattle.basics.specs.Deciding.{Decides}
 use Rattle.tables.specs.Tables.{Right, Row, holds, fails}
+use Rattle.tables.specs.Starred.{setWord}
 use Rattle.tables.specs.Drawings.{set}
 
 -- ---- a word's set
@@ -21,10 +22,10 @@ digitTable =
     ∷ ((6, 1), 0)
     ∷ ((6, 2), 1)
     ∷ ((6, 3), 1)
-    ∷ ((2 ^ 63, 64), 1)
-    ∷ ((2 ^ 63, 63), 0)
-    ∷ ((2 ^ 63, 65), 0)
-    ∷ ((0, 1), 0)
+    ∷ ((2 ^ (width - 1), width), 1)
+    ∷ ((2 ^ (width - 1), width - 1), 0)
+    ∷ ((2 ^ (width - 1), suc width), 0)
+    ∷ ((held.emptyWord, 1), 0)
     ∷ []
 
 -- every row is right
@@ -33,7 +34,7 @@ DigitsRight = Right (λ q. bit (setOf (q .0)) (q .1)) digitTable
 
 -- a word, and the word that holds its set: the same
 abbrev pub wordTable : List (ℕ × ℕ)
-wordTable = (0, 0) ∷ (1, 1) ∷ (79, 79) ∷ (2 ^ 64 - 1, 2 ^ 64 - 1) ∷ []
+wordTable = (held.emptyWord, held.emptyWord) ∷ (1, 1) ∷ (79, 79) ∷ (2 ^ width - 1, 2 ^ width - 1) ∷ []
 
 -- every row is right
 abbrev pub WordsRight : Type 0
@@ -41,7 +42,7 @@ WordsRight = Right (λ w. held.wordOf (setOf w)) wordTable
 
 -- a word and a bus, and the word with it
 abbrev pub holdTable : List ((ℕ × ℕ) × ℕ)
-holdTable = ((0, 1), 1) ∷ ((1, 3), 5) ∷ ((5, 3), 5) ∷ ((0, 64), 2 ^ 63) ∷ []
+holdTable = ((held.emptyWord, 1), 1) ∷ ((1, 3), 5) ∷ ((5, 3), 5) ∷ ((held.emptyWord, width), 2 ^ (width - 1)) ∷ []
 
 -- every row is right
 abbrev pub HoldingRight : Type 0
@@ -55,13 +56,19 @@ holdIfTable = (true, 5) ∷ (false, 1) ∷ []
 abbrev pub HoldingIfRight : Type 0
 HoldingIfRight = Right (λ t. held.holdIf t 1 3) holdIfTable
 
--- a word and a place from 0, and the byte there, the lowest first
-abbrev pub byteTable : List ((ℕ × ℕ) × ℕ)
-byteTable = ((79, 0), 79) ∷ ((79, 1), 0) ∷ ((256, 0), 0) ∷ ((256, 1), 1) ∷ ((2 ^ 63, 7), 128) ∷ []
+-- the buses of a word and a place from 0, and the byte there, the lowest first
+abbrev pub byteTable : List ((List ℕ × ℕ) × ℕ)
+byteTable =
+    ((1 ∷ 2 ∷ 3 ∷ 4 ∷ 7 ∷ [], 0), 79)
+    ∷ ((1 ∷ 2 ∷ 3 ∷ 4 ∷ 7 ∷ [], 1), 0)
+    ∷ ((9 ∷ [], 0), 0)
+    ∷ ((9 ∷ [], 1), 1)
+    ∷ ((width ∷ [], setLength - 1), 128)
+    ∷ []
 
 -- every row is right
 abbrev pub BytesRight : Type 0
-BytesRight = Right (λ q. byteOf (q .0) (q .1)) byteTable
+BytesRight = Right (λ q. byteOf (setWord (q .0)) (q .1)) byteTable
 
 -- ---- sets made from others
 
@@ -107,8 +114,8 @@ LacksRight = Right (λ q. lack (q .0) (q .1)) lackTable
 -- n and a set, and its buses up to n: those above are ignored
 abbrev pub upToTable : List ((ℕ × ℕ) × ℕ)
 upToTable =
-    ((7, set (1 ∷ 7 ∷ 8 ∷ 64 ∷ [])), set (1 ∷ 7 ∷ []))
-    ∷ ((64, set (1 ∷ 64 ∷ [])), set (1 ∷ 64 ∷ []))
+    ((7, set (1 ∷ 7 ∷ 8 ∷ width ∷ [])), set (1 ∷ 7 ∷ []))
+    ∷ ((width, set (1 ∷ width ∷ [])), set (1 ∷ width ∷ []))
     ∷ ((1, set (2 ∷ [])), set [])
     ∷ []
 

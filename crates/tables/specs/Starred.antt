@@ -1,13 +1,15 @@
 -- The starred grids of document 01, as one table under one statement: each row asks a public call, and has the reply that it promises.
 use mathlib.Core.List.{List, [], _∷_, _++_}
-use mathlib.Core.Bool.{cond}
-use Prim.Native.Nat.{ℕ, zero, suc, _+_, _-_, _^_, _≤_}
+use Prim.Native.Nat.{ℕ, zero, suc, _-_, _≤_}
 use lib.Dec.{eqb}
 use lib.IntN.{ℤ, pos, negsuc}
-use lib.ListN.{length, drop}
+use lib.ListN.{length, drop, replicate}
+use Rattle.busset.specs.Held.{SetWord, emptyWord, hold, holdIf}
 use Rattle.step.specs.declared.Reason.the-variants.{ZeroInjection}
 use Rattle.step.specs.declared.Step.{Step}
 use Rattle.grid.specs.declared.Case.{Case}
+use Rattle.grid.specs.Limits.{mostBuses}
+use Rattle.grid.specs.Rows.{Rows}
 use Rattle.refusals.specs.declared.Refusal.the-variants.{ReasonFails, NoCover}
 use Rattle.list_follow.specs.Replies.{ReplayReply}
 use Rattle.list_follow.specs.declared.Replayed.the-variants as replayed
@@ -28,25 +30,49 @@ pub record Drawing : Type 0 where
   pub zeros : List ℕ
   pub units : List ℕ
 
--- the word that holds the buses of a list without repeats: bus 1 in the lowest bit
-abbrev pub setWord : List ℕ → ℕ
-setWord [] = 0
-setWord (b ∷ bs) = 2 ^ (b - 1) + setWord bs
+-- the word that holds the buses of a list
+abbrev pub setWord : List ℕ → SetWord
+setWord [] = emptyWord
+setWord (b ∷ bs) = hold (setWord bs) b
+
+-- the buses 1 to n, the highest first
+abbrev pub busesTo : ℕ → List ℕ
+busesTo zero = []
+busesTo (suc n) = suc n ∷ busesTo n
 
 -- the row of bus b: the other end of each line that has b at one end
-abbrev pub rowOf : ℕ → List (ℕ × ℕ) → ℕ
-rowOf b [] = 0
-rowOf b (l ∷ ls) = cond (eqb (l .0) b) (setWord (l .1 ∷ [])) 0 + cond (eqb (l .1) b) (setWord (l .0 ∷ [])) 0 + rowOf b ls
+abbrev pub rowOf : ℕ → List (ℕ × ℕ) → SetWord
+rowOf b [] = emptyWord
+rowOf b (l ∷ ls) = holdIf (eqb (l .0) b) (holdIf (eqb (l .1) b) (rowOf b ls) (l .0)) (l .1)
 
 -- the rows of k buses, from bus b on
-abbrev pub rowsFrom : ℕ → ℕ → List (ℕ × ℕ) → List ℕ
+abbrev pub rowsFrom : ℕ → ℕ → List (ℕ × ℕ) → Rows
 rowsFrom b zero ls = []
 rowsFrom b (suc k) ls = rowOf b ls ∷ rowsFrom (suc b) k ls
 
+-- the case value of a drawing, with no row but those of its n buses
+abbrev pub shortCase : Drawing → Case
+shortCase d = record {
+  n = d .n;
+  nbr = rowsFrom 1 (d .n) (d .lines);
+  zero = setWord (d .zeros);
+  site = setWord (busesTo (d .n));
+  units = setWord (d .units);
+}
+
+-- a case value with a row for each bus: after those that it has, rows with no neighbour
+abbrev pub filled : Case → Case
+filled c = record {
+  n = c .n;
+  nbr = c .nbr ++ replicate (mostBuses - length (c .nbr)) emptyWord;
+  zero = c .zero;
+  site = c .site;
+  units = c .units;
+}
+
 -- the case value of a drawing
 abbrev pub drawnCase : Drawing → Case
-drawnCase d =
-    record { n = d .n; nbr = rowsFrom 1 64 (d .lines); zero = setWord (d .zeros); site = 2 ^ d .n - 1; units = setWord (d .units) }
+drawnCase d = filled (shortCase d)
 
 -- ---- a row
 

@@ -1,10 +1,10 @@
 -- Step texts: what reading one says, its steps, and the records lent for them.
 use mathlib.Core.Bool.{Bool, true, false}
 use mathlib.Core.List.{List, [], _∷_}
-use Prim.Native.Nat.{ℕ}
+use Prim.Native.Nat.{ℕ, suc}
 use Prim.Native.String.{String}
 use lib.ListN.{replicate}
-use Rattle.grid.specs.Limits.{mostBuses}
+use Rattle.grid.specs.Limits.{mostBuses, mostSteps, mostStepBytes}
 use Rattle.rules.specs.Steps.{Names}
 use Rattle.basics.specs.Lists.{Each}
 use Rattle.text_field.specs.Split.{bytes, split, lineFeed}
@@ -20,18 +20,18 @@ use Rattle.tables.specs.Drawings.{own, near, zeroAt}
 
 -- ---- one step
 
--- steps, and whether their numbers are 1 to 64
+-- steps, and whether their numbers are 1 to the most buses
 abbrev pub stepRangeTable : List (Step × Bool)
 stepRangeTable =
     (own 1, true)
-    ∷ (own 64, true)
+    ∷ (own mostBuses, true)
     ∷ (own 0, false)
-    ∷ (own 65, false)
-    ∷ (near 1 64, true)
+    ∷ (own (suc mostBuses), false)
+    ∷ (near 1 mostBuses, true)
     ∷ (near 1 0, false)
-    ∷ (near 65 1, false)
-    ∷ (zeroAt 64 1, true)
-    ∷ (zeroAt 1 65, false)
+    ∷ (near (suc mostBuses) 1, false)
+    ∷ (zeroAt mostBuses 1, true)
+    ∷ (zeroAt 1 (suc mostBuses), false)
     ∷ []
 
 -- every row is right
@@ -47,7 +47,7 @@ readStepsTable =
     ∷ ("step\t3\tO\nend\n", Steps 1)
     ∷ ("step\t2\tN\t3\nstep\t3\tO\nend\n", Steps 2)
     -- no rule of observation is asked here, and no case's n
-    ∷ ("step\t64\tO\nstep\t64\tO\nend\n", Steps 2)
+    ∷ ("step\t42\tO\nstep\t42\tO\nend\n", Steps 2)
     -- 2
     ∷ ("", Refused (WrongForm 1))
     ∷ ("end", Refused (WrongForm 1))
@@ -58,37 +58,37 @@ readStepsTable =
     ∷ ("step\t3\tO\nend\nend\n", Refused (WrongForm 3))
     -- 3, and 2 before it
     ∷ ("step\t0\tO\nend\n", Refused (OutOfRange 1))
-    ∷ ("step\t65\tO\nend\n", Refused (OutOfRange 1))
+    ∷ ("step\t9999\tO\nend\n", Refused (OutOfRange 1))
     ∷ ("step\t1\tN\t0\nend\n", Refused (OutOfRange 1))
-    ∷ ("step\t1\tZ\t65\nend\n", Refused (OutOfRange 1))
-    ∷ ("step\t65\tO\t1\nend\n", Refused (WrongForm 1))
-    ∷ ("step\t65\tO", Refused (WrongForm 1))
+    ∷ ("step\t1\tZ\t9999\nend\n", Refused (OutOfRange 1))
+    ∷ ("step\t9999\tO\t1\nend\n", Refused (WrongForm 1))
+    ∷ ("step\t9999\tO", Refused (WrongForm 1))
     -- the first bad line
-    ∷ ("step\t65\tO\nstep\nend\n", Refused (OutOfRange 1))
+    ∷ ("step\t9999\tO\nstep\nend\n", Refused (OutOfRange 1))
     ∷ []
 
 -- every row is right
 abbrev pub ReadStepsRight : Type 0
 ReadStepsRight = Reads readSteps readStepsTable
 
--- texts from line 1,025 on, after 1,024 steps: `end` is fine; a step is 12, after 2 and 3
+-- texts after the most steps: `end` is fine; a step is 12, after 2 and 3
 abbrev pub beyondTable : List (String × StepsRead)
 beyondTable =
-    ("end\n", Steps 1024)
-    ∷ ("", Refused (WrongForm 1025))
-    ∷ ("step\t1\tO\nend\n", Refused (TooManySteps 1025))
-    ∷ ("step\t65\tO\nend\n", Refused (OutOfRange 1025))
-    ∷ ("step\t1\nend\n", Refused (WrongForm 1025))
-    ∷ ("step\t1\tO\nstep\n", Refused (TooManySteps 1025))
+    ("end\n", Steps mostSteps)
+    ∷ ("", Refused (WrongForm (suc mostSteps)))
+    ∷ ("step\t1\tO\nend\n", Refused (TooManySteps (suc mostSteps)))
+    ∷ ("step\t9999\tO\nend\n", Refused (OutOfRange (suc mostSteps)))
+    ∷ ("step\t1\nend\n", Refused (WrongForm (suc mostSteps)))
+    ∷ ("step\t1\tO\nstep\n", Refused (TooManySteps (suc mostSteps)))
     ∷ []
 
 -- every row is right
 abbrev pub BeyondRight : Type 0
-BeyondRight = Reads (λ s. stepLines 1025 (split lineFeed s .first) (split lineFeed s .rest)) beyondTable
+BeyondRight = Reads (λ s. stepLines (suc mostSteps) (split lineFeed s .first) (split lineFeed s .rest)) beyondTable
 
--- line feeds alone: 16,384 of them are 2 at line 1, one more is 1
+-- line feeds alone: the most bytes of them are 2 at line 1, one more is 1
 abbrev pub stepLimitTable : List (ℕ × StepsRead)
-stepLimitTable = (16384, Refused (WrongForm 1)) ∷ (16385, Refused TextTooLong) ∷ []
+stepLimitTable = (mostStepBytes, Refused (WrongForm 1)) ∷ (suc mostStepBytes, Refused TextTooLong) ∷ []
 
 -- every row is right
 abbrev pub StepLimitsRight : Type 0
@@ -111,11 +111,11 @@ stepsOfTable =
 abbrev pub StepsOfRight : Type 0
 StepsOfRight = Right stepsOf stepsOfTable
 
--- each step names buses 1 to 64; and the step that starts at an index, with the index of the line after it
+-- each step names buses 1 to the most; and the step that starts at an index, with the index of the line after it
 abbrev pub stepAtTable : List Row
 stepAtTable =
-    holds (Each (Names mostBuses) (own 1 ∷ near 64 1 ∷ []))
-    ∷ fails (Each (Names mostBuses) (own 1 ∷ near 64 65 ∷ []))
+    holds (Each (Names mostBuses) (own 1 ∷ near mostBuses 1 ∷ []))
+    ∷ fails (Each (Names mostBuses) (own 1 ∷ near mostBuses (suc mostBuses) ∷ []))
     ∷ holds (StepAt (bytes "step\t3\tO\nend\n") 0 (At (own 3) 9))
     ∷ holds (StepAt (bytes "step\t3\tO\nend\n") 9 Nothing)
     ∷ fails (StepAt (bytes "step\t3\tO\nend\n") 0 Nothing)
@@ -130,7 +130,7 @@ stepAtTable =
 abbrev pub roomTable : List ((ℕ × StepsRead) × StepsRead)
 roomTable =
     ((5, Steps 5), Steps 5)
-    ∷ ((64, Steps 5), Steps 5)
+    ∷ ((6, Steps 5), Steps 5)
     ∷ ((4, Steps 5), Refused NoRoom)
     ∷ ((0, Steps 0), Steps 0)
     ∷ ((0, Refused (WrongForm 3)), Refused (WrongForm 3))

@@ -1,7 +1,8 @@
 -- Steps: when a reason holds, when a step is allowed, and lists of steps.
 use mathlib.Core.List.{List, [], _∷_}
-use Prim.Native.Nat.{ℕ, _+_}
+use Prim.Native.Nat.{ℕ, _+_, _-_}
 use lib.ListN.{replicate}
+use Rattle.grid.specs.Limits.{mostBuses}
 use Rattle.step.specs.Records.{noStep, writtenInto, putFirst}
 use Rattle.step.specs.declared.Reason.{Reason}
 use Rattle.step.specs.declared.Reason.the-variants.{OwnUnit, NeighbourOf, ZeroInjection}
@@ -117,11 +118,11 @@ finishedTable =
 
 -- ---- lists by value, and records lent
 
--- lists, and the list by value that has them, with blanks up to 64
+-- lists, and the list by value that has them, with blanks up to the most buses
 abbrev pub listOfTable : List (List Step × StepList)
 listOfTable =
-    ([], record { n = 0; steps = replicate 64 noStep })
-    ∷ (near 2 3 ∷ own 3 ∷ [], record { n = 2; steps = near 2 3 ∷ own 3 ∷ replicate 62 noStep })
+    ([], record { n = 0; steps = replicate mostBuses noStep })
+    ∷ (near 2 3 ∷ own 3 ∷ [], record { n = 2; steps = near 2 3 ∷ own 3 ∷ replicate (mostBuses - 2) noStep })
     ∷ []
 
 -- every row is right
@@ -158,7 +159,7 @@ PutFirstRight = Right (λ k. putFirst k (λ i. own (i + 1)) (own 7 ∷ own 8 ∷
 
 -- a place from 0 in the derivation's list by value, and the step there
 abbrev pub nthOfTable : List (ℕ × Step)
-nthOfTable = (0, near 2 3) ∷ (4, near 7 3) ∷ (5, noStep) ∷ (64, noStep) ∷ []
+nthOfTable = (0, near 2 3) ∷ (4, near 7 3) ∷ (5, noStep) ∷ (mostBuses, noStep) ∷ []
 
 -- every row is right
 abbrev pub NthOfRight : Type 0

@@ -107,7 +107,7 @@ demand3Table =
     -- it never refuses
     ∷ fails (WeavesSent [] [] (wove.Refused NoRoom))
     -- nothing is woven
-    ∷ fails (WeavesSent (own 7 ∷ own 8 ∷ []) (own 7 ∷ own 8 ∷ []) (wove.Written 0 0))
+    ∷ fails (WeavesSent (own 7 ∷ own 8 ∷ []) (own 7 ∷ own 8 ∷ []) (wove.Written 0 (setWord [])))
     -- the count is made up, or the set
     ∷ fails (WeavesSent (own 7 ∷ own 8 ∷ own 9 ∷ []) (own 3 ∷ near 2 3 ∷ own 9 ∷ []) (wove.Written 3 (setWord (2 ∷ 3 ∷ []))))
     ∷ fails (WeavesSent (own 7 ∷ own 8 ∷ own 9 ∷ []) (own 3 ∷ near 2 3 ∷ own 9 ∷ []) (wove.Written 2 (setWord (3 ∷ []))))
