@@ -13,6 +13,7 @@ use Rattle.text_field.specs.Number.{isDigit, takesDigit, numberFrom, numeralOf,
 use Rattle.case_line.specs.Fields.{markOf, ifOneField, ifNoField}
 use Rattle.case_line.specs.Record.{recordWordOf, lineFields, busFields, recordOf, recordText}
 use Rattle.step_line.specs.StepLine.{letterOf, stepWordOf, reasonFields, stepFields, stepLineOf, stepText}
+use Rattle.grid.specs.Limits.{mostBuses}
 use Rattle.grid.specs.Rows.{neighbours}
 use Rattle.case_inverse.proofs.Grammars.{reads-read, not-got, read-reads}
 use Rattle.case_judge.specs.Judging.{isBus, isAfter, pastBuses, judged}
@@ -23,8 +24,10 @@ use Rattle.case_write.specs.Lines.{lineText}
 use Rattle.report_lines.specs.Printing.{refusedText}
 use Rattle.report_day.specs.Day.{stepsText}
 use Rattle.plan_input.specs.Asking.{planFields, budgetOf, planLines, readPlan}
+use Rattle.tables.proofs.Tests.{names-pass}
 use Rattle.tables.proofs.Rows.{_&_}
 use Rattle.tables.specs.Tables.{AllRight, block}
+use Rattle.tables.specs.Drawings.{own, near}
 use Rattle.tables.specs.CaseTexts as case
 use Rattle.tables.specs.StepTexts as steps
 use Rattle.tables.specs.Reports as reports
@@ -104,13 +107,8 @@ lists-right = refl
 pub found-right : AllRight steps.stepAtTable
 unfolding stepsFrom stepsIn stepLineOf stepWordOf letterOf reasonFields stepFields ifOneField ifNoField split same isDigit takesDigit
     numberFrom numeralOf
-found-right = (
-  record { bus = record { some = omega arith; most = omega arith }; reason = tt },
-  (
-    record { bus = record { some = omega arith; most = omega arith }; reason = record { some = omega arith; most = omega arith } },
-    tt,
-  ),
-)
+found-right =
+    (names-pass mostBuses (own 1) refl, (names-pass mostBuses (near mostBuses 1) refl, tt))
     & (λ h. omega (arith, h .1 .0 .reason .most))
     & record { steps = refl; later = omega arith; high = omega arith }
     & refl

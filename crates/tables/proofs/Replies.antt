@@ -1,12 +1,12 @@
 -- The tables of what each call answers.
-use mathlib.Core.Path.{_≡_, refl, ap}
+use mathlib.Core.Path.{refl, ap}
 use mathlib.Core.List.{List, [], _∷_}
-use Prim.Native.Nat.{ℕ, suc, _+_, _-_, _≤_}
+use Prim.Native.Nat.{ℕ, suc, _≤_}
 use native.Mathlib.Omega.{arith}
 use lib.Count.{ones, onesIn}
 use lib.Signed.{mag}
 use lib.ListN.{length, getD}
-use Rattle.busset.specs.Sets.{Bus, add, meet, lack, less, upTo, setOf, empty}
+use Rattle.busset.specs.Sets.{add, meet, lack, less, upTo, setOf, empty}
 use Rattle.busset.specs.Held.{wordOf, hold}
 use Rattle.basics.proofs.Tests.{decides-yes, decides-no, refutes}
 use Rattle.text_field.specs.Split.{split, join, same}
@@ -23,7 +23,7 @@ use Rattle.rules.proofs.Derivations.{derived-accepted}
 use Rattle.rules.proofs.Leasts.{least-unique}
 use Rattle.rules.proofs.Lists.{closed-finished}
 use Rattle.rules.proofs.Ordering.{fewest-some}
-use Rattle.tables.proofs.Tests.{gap, above, withinTest}
+use Rattle.tables.proofs.Tests.{gap, above, withinTest, bus-passes, names-pass}
 use Rattle.refusals.specs.declared.Refusal.the-variants.{InvalidCase, NoSuchBus, ReasonFails, OverBudget, NoCover}
 use Rattle.grid.specs.Limits.{mostBudget}
 use Rattle.grid.specs.Rows.{neighbours}
@@ -56,33 +56,29 @@ use Rattle.tables.specs.Replies as tables
 pub invalid : Valid tables.badCase → ⊥
 invalid v = omega (arith, v .buses .some)
 
--- b is a bus 1 to n, and a step names such
-bus : (n b : ℕ) → (1 - b) + (b - n) ≡ 0 → Bus n b
-bus n b e = record { some = omega arith; most = omega arith }
-
 -- steps that name buses 1 to 7
 named3 : Names 7 (own 3)
-named3 = record { bus = bus 7 3 refl; reason = tt }
+named3 = names-pass 7 (own 3) refl
 
 pub named12 : Names 7 (zeroAt 1 2)
-named12 = record { bus = bus 7 1 refl; reason = bus 7 2 refl }
+named12 = names-pass 7 (zeroAt 1 2) refl
 
 named23 : Names 7 (near 2 3)
-named23 = record { bus = bus 7 2 refl; reason = bus 7 3 refl }
+named23 = names-pass 7 (near 2 3) refl
 
 -- ---- one question
 
 pub figures-right : AllRight tables.figureReplyTable
 unfolding figure meet less lack upTo neighbours hold wordOf add setOf ones onesIn
 figures-right =
-    ((known .at2 .valid, ((bus 7 2 refl, bus 7 1 refl), (refl, tt))), refl)
+    ((known .at2 .valid, ((bus-passes 7 2 refl, bus-passes 7 1 refl), (refl, tt))), refl)
     & (λ h. omega (arith, ap mag (h .1)))
     & stop invalid (itself _)
     & known .none .valid then stop (λ h. omega (arith, h .0 .most)) (itself _)
     & known .none .valid then stop (λ h. omega (arith, h .0 .some)) (itself _)
     & known .none .valid then stop (λ h. omega (arith, h .1 .most)) (itself _)
-    & known .none .valid then (bus 7 1 refl, bus 7 3 refl) then stop (λ h. omega arith) (itself _)
-    & known .none .valid then (bus 7 3 refl, bus 7 3 refl) then stop (λ h. omega arith) (itself _)
+    & known .none .valid then (bus-passes 7 1 refl, bus-passes 7 3 refl) then stop (λ h. omega arith) (itself _)
+    & known .none .valid then (bus-passes 7 3 refl, bus-passes 7 3 refl) then stop (λ h. omega arith) (itself _)
     & (λ h. omega (arith, h .0 .1 .1 .0))
     & tt
 
@@ -154,7 +150,7 @@ weaves-right = (
         (
           (λ o. refl),
           (
-            record { bus = bus 7 3 refl; reason = bus 7 1 refl },
+            names-pass 7 (near 3 1) refl,
             ((λ o. absurd (omega arith)), (named23, ((λ o. by3), (omega arith, tt)))),
           ),
         ),
@@ -171,8 +167,7 @@ weaves-right = (
     & (v then omega arith then named3 then (λ o. refl) then named23 then (λ o. by3) then stop (λ h. omega arith) (itself _), refl)
     & (λ h. omega (arith, ap (λ (xs : List Step). getD xs 0 noStep .bus) (h .1)))
     & (
-      v then omega arith then named3 then (λ o. refl) then named23 then (λ o. by3) then record
-          { bus = bus 7 6 refl; reason = bus 7 5 refl } then stop (λ h. omega (arith, h refl .observed)) (itself _),
+      v then omega arith then named3 then (λ o. refl) then named23 then (λ o. by3) then names-pass 7 (zeroAt 6 5) refl then stop (λ h. omega (arith, h refl .observed)) (itself _),
       refl,
     )
     & tt

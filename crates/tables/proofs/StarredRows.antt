@@ -1,4 +1,4 @@
--- The table of starred grids, proved: each row by a test that the checker computes, and for an observed set the list that derives it.
+-- The table of starred grids, proved: each row by a test that the checker computes.
 use mathlib.Core.Path.{_≡_, refl, sym, ap}
 use mathlib.Core.List.{List, [], _∷_}
 use mathlib.Core.Logic.{inl, inr}
@@ -7,27 +7,23 @@ use native.Mathlib.Omega.{arith}
 use lib.Dec.{lit≤}
 use lib.IntN.{ℤ, pos, negsuc}
 use lib.Count.{ones, onesIn}
-use Rattle.busset.specs.Sets.{Bus, bit, empty, add, meet, lack, less, upTo, setOf}
+use Rattle.busset.specs.Sets.{bit, empty, add, meet, lack, less, upTo, setOf}
 use Rattle.busset.specs.Held.{wordOf, hold}
 use Rattle.busset.proofs.Digits.{bit-zero}
-use Rattle.step.specs.declared.Reason.{Reason}
-use Rattle.step.specs.declared.Reason.the-variants.{OwnUnit, NeighbourOf, ZeroInjection}
-use Rattle.step.specs.declared.Step.{Step}
 use Rattle.rules.specs.Grids.{total}
-use Rattle.rules.specs.Steps.{Names, ReasonNames}
 use Rattle.rules.specs.Figures.{figure}
 use Rattle.tables.proofs.Tests.{gap, gap-none, isOne, above, withinTest, given, subTest, holdsTest, acceptedTest}
-use Rattle.tables.proofs.Tests.{closedTest, leastTest, least-passes, holds-tests}
-use Rattle.tables.proofs.Sought.{Sought, pick, reasonFor, reasonAt, stepFor, passFrom, extended, derive, confirmTest}
+use Rattle.tables.proofs.Tests.{closedTest, leastTest, least-passes, holds-tests, busTest, bus-passes, namesTest, names-pass}
+use Rattle.tables.proofs.Sought.{Sought, derived, pick, reasonFor, reasonAt, stepFor, passFrom, extended, derive, confirmTest}
 use Rattle.tables.proofs.Sought.{aloneTest, unconfirmedTest, noBetter, bestTest, noneTest, greedyTest, none}
 use Rattle.tables.proofs.Sought.{some, unsure, soughtFrom, judge, orElse, choose, seek, firstOf, smallest}
 use Rattle.refusals.proofs.Orders.{itself}
 use Rattle.grid.specs.Limits.{mostBudget, mostGreedyBudget}
 use Rattle.grid.specs.Rows.{neighbours}
-use Rattle.grid.specs.Cases.{gridOf, Valid}
+use Rattle.grid.specs.Cases.{Valid}
 use Rattle.tables.proofs.Drawn.{rowTest, validTest, filled-passes}
 use Rattle.observe_calls.specs.Replies.{stated}
-use Rattle.tables.specs.Drawings.{set, own, near, zeroAt, drawnGrid}
+use Rattle.tables.specs.Drawings.{set, drawnGrid}
 use Rattle.tables.proofs.StarredSites.{free, verdict-right, greedy-right, fewest-right, uncovered-right}
 use Rattle.tables.specs.Starred.{setWord, shortCase, drawnCase, StarredRow, observes, figures, fails, unconfirmed}
 use Rattle.tables.specs.Starred.{adds, fewestIs, uncovered, StarredRight, AllStarredRight, starredTable}
@@ -70,58 +66,32 @@ gapSought-none : (a b : Sought) → gapSought a b ≡ 0 → a ≡ b
 unfolding gapSought
 gapSought-none a b e = told-inj a b (gap-none (told a) (told b) e)
 
--- b is a bus 1 to n
-unfoldable busTest : ℕ → ℕ → ℕ
-busTest n b = (1 - b) + (b - n)
-
-bus-passes : (n b : ℕ) → busTest n b ≡ 0 → Bus n b
-unfolding busTest
-bus-passes n b e = record { some = omega arith; most = omega arith }
-
--- the step names buses 1 to n
-unfoldable reasonTest : ℕ → Reason → ℕ
-reasonTest n OwnUnit = 0
-reasonTest n (NeighbourOf p) = busTest n p
-reasonTest n (ZeroInjection w) = busTest n w
-
-unfoldable namesTest : ℕ → Step → ℕ
-namesTest n x = busTest n (x .bus) + reasonTest n (x .reason)
-
-names-pass : (n : ℕ) (x : Step) → namesTest n x ≡ 0 → Names n x
-unfolding namesTest reasonTest
-names-pass n x e = record { bus = bus-passes n (x .bus) (omega arith); reason = go (x .reason) (omega arith) }
-  where
-    go : (r : Reason) → reasonTest n r ≡ 0 → ReasonNames n r
-    go OwnUnit e = tt
-    go (NeighbourOf p) e = bus-passes n p e
-    go (ZeroInjection w) e = bus-passes n w e
-
 -- ---- a row
 
--- the test of a row; xs is the list that derives the set
-unfoldable wrong : StarredRow → List Step → ℕ
-wrong (observes d bs) xs = validTest (shortCase d) + leastTest (gridOf (drawnCase d)) xs (set bs)
-wrong (figures d bs i j z) xs =
+-- the test of a row
+unfoldable wrong : StarredRow → ℕ
+wrong (observes d bs) = validTest (shortCase d) + leastTest (drawnGrid d) (derived (drawnGrid d)) (set bs)
+wrong (figures d bs i j z) =
     validTest (shortCase d) + busTest (d .n) i + busTest (d .n) j + (1 - bit (neighbours (drawnCase d .nbr) i) j)
     + gapZ (figure (neighbours (drawnCase d .nbr)) (stated (drawnCase d) (setWord bs)) i j) z
-wrong (fails d x) xs = validTest (shortCase d) + namesTest (d .n) x + (1 - holdsTest (gridOf (drawnCase d)) empty (x .bus) (x .reason))
-wrong (unconfirmed d bs) xs = validTest (shortCase d) + withinTest (d .n) (set bs) + unconfirmedTest (drawnGrid d) (set bs)
-wrong (adds d budget ss) xs = validTest (shortCase d) + (budget - mostGreedyBudget) + greedyTest (drawnGrid d) budget ss
-wrong (fewestIs d budget bs) xs =
+wrong (fails d x) = validTest (shortCase d) + namesTest (d .n) x + (1 - holdsTest (drawnGrid d) empty (x .bus) (x .reason))
+wrong (unconfirmed d bs) = validTest (shortCase d) + withinTest (d .n) (set bs) + unconfirmedTest (drawnGrid d) (set bs)
+wrong (adds d budget ss) = validTest (shortCase d) + (budget - mostGreedyBudget) + greedyTest (drawnGrid d) budget ss
+wrong (fewestIs d budget bs) =
     validTest (shortCase d) + (budget - mostBudget (d .n)) + gapSought (smallest (drawnGrid d) (free d) (budget + 1) 0) (some (set bs))
-wrong (uncovered d budget) xs = validTest (shortCase d) + (budget - mostBudget (d .n)) + gapSought (smallest (drawnGrid d) (free d) (budget + 1) 0) none
+wrong (uncovered d budget) = validTest (shortCase d) + (budget - mostBudget (d .n)) + gapSought (smallest (drawnGrid d) (free d) (budget + 1) 0) none
 
-row-right : (r : StarredRow) (xs : List Step) → wrong r xs ≡ 0 → StarredRight r
+row-right : (r : StarredRow) → wrong r ≡ 0 → StarredRight r
 unfolding wrong
-row-right (observes d bs) xs e =
+row-right (observes d bs) e =
     let v : Valid (drawnCase d) = filled-passes (shortCase d) (omega arith) in
-    ((v, tt), least-passes (gridOf (drawnCase d)) xs (set bs) (v .proper) (omega arith))
-row-right (figures d bs i j z) xs e =
+    ((v, tt), least-passes (drawnGrid d) (derived (drawnGrid d)) (set bs) (v .proper) (omega arith))
+row-right (figures d bs i j z) e =
     let n = d .n in (
       (filled-passes (shortCase d) (omega arith), ((bus-passes n i (omega arith), bus-passes n j (omega arith)), (omega arith, tt))),
       sym (gapZ-none (figure (neighbours (drawnCase d .nbr)) (stated (drawnCase d) (setWord bs)) i j) z (omega arith)),
     )
-row-right (fails d x) xs e =
+row-right (fails d x) e =
     let v : Valid (drawnCase d) = filled-passes (shortCase d) (omega arith) in
     inr (
       v,
@@ -132,60 +102,36 @@ row-right (fails d x) xs e =
           inr (
             bit-zero (x .bus),
             inl (
-              λ h. omega (arith, holds-tests (gridOf (drawnCase d)) empty (x .bus) (v .proper) (x .reason) h),
+              λ h. omega (arith, holds-tests (drawnGrid d) empty (x .bus) (v .proper) (x .reason) h),
               itself _,
             ),
           ),
         ),
       ),
     )
-row-right (unconfirmed d bs) xs e = verdict-right d bs e
-row-right (adds d budget ss) xs e = greedy-right d budget ss e
-row-right (fewestIs d budget bs) xs e =
+row-right (unconfirmed d bs) e = verdict-right d bs e
+row-right (adds d budget ss) e = greedy-right d budget ss e
+row-right (fewestIs d budget bs) e =
     fewest-right d budget bs (omega arith)
     (gapSought-none (smallest (drawnGrid d) (free d) (budget + 1) 0) (some (set bs)) (omega arith))
-row-right (uncovered d budget) xs e =
+row-right (uncovered d budget) e =
     uncovered-right d budget (omega arith) (gapSought-none (smallest (drawnGrid d) (free d) (budget + 1) 0) none (omega arith))
 
 -- ---- the table
 
-unfoldable allWrong : List StarredRow → List (List Step) → ℕ
-allWrong [] xss = 0
-allWrong (r ∷ rs) [] = 1
-allWrong (r ∷ rs) (xs ∷ xss) = wrong r xs + allWrong rs xss
+unfoldable allWrong : List StarredRow → ℕ
+allWrong [] = 0
+allWrong (r ∷ rs) = wrong r + allWrong rs
 
-all-right : (rs : List StarredRow) (xss : List (List Step)) → allWrong rs xss ≡ 0 → AllStarredRight rs
+all-right : (rs : List StarredRow) → allWrong rs ≡ 0 → AllStarredRight rs
 unfolding allWrong
-all-right [] xss e = tt
-all-right (r ∷ rs) [] e = absurd (omega arith)
-all-right (r ∷ rs) (xs ∷ xss) e = (row-right r xs (omega arith), all-right rs xss (omega arith))
-
--- for each row the list that derives its set
-abbrev derivations : List (List Step)
-derivations =
-    []
-    ∷ (near 1 2 ∷ own 2 ∷ near 3 2 ∷ [])
-    ∷ []
-    ∷ []
-    ∷ []
-    ∷ (near 2 3 ∷ own 3 ∷ zeroAt 1 2 ∷ near 4 3 ∷ near 7 3 ∷ [])
-    ∷ (near 3 4 ∷ own 4 ∷ near 5 4 ∷ zeroAt 6 5 ∷ [])
-    ∷ (own 1 ∷ near 2 1 ∷ near 3 4 ∷ own 4 ∷ near 5 4 ∷ zeroAt 6 5 ∷ zeroAt 7 3 ∷ [])
-    ∷ (own 1 ∷ near 2 1 ∷ near 4 5 ∷ own 5 ∷ [])
-    ∷ []
-    ∷ []
-    ∷ []
-    ∷ []
-    ∷ []
-    ∷ []
-    ∷ []
-    ∷ []
-    ∷ []
+all-right [] e = tt
+all-right (r ∷ rs) e = (row-right r (omega arith), all-right rs (omega arith))
 
 -- every row of the table is right
 pub table-right : AllStarredRight starredTable
-unfolding allWrong wrong gapSought busTest reasonTest namesTest validTest withinTest rowTest leastTest acceptedTest holdsTest closedTest
+unfolding allWrong wrong gapSought validTest withinTest rowTest leastTest acceptedTest holdsTest closedTest
     subTest isOne gap given total neighbours hold wordOf setOf figure upTo less lack meet add ones onesIn pick reasonFor reasonAt stepFor
     passFrom extended derive confirmTest aloneTest unconfirmedTest noBetter bestTest noneTest greedyTest above soughtFrom judge orElse
     choose seek firstOf smallest
-table-right = all-right starredTable derivations refl
+table-right = all-right starredTable refl

@@ -8,14 +8,13 @@ use lib.ListN.{length, drop}
 use Rattle.busset.specs.Sets.{lack}
 use Rattle.busset.proofs.Members.{lack-at}
 use Rattle.busset.proofs.Words.{set-zero}
-use Rattle.rules.specs.Grids.{Grid}
 use Rattle.rules.proofs.Choices.{greedy-unique}
 use Rattle.rules.proofs.Ordering.{fewest-some}
 use Rattle.tables.proofs.Tests.{withinTest, within-passes}
 use Rattle.tables.proofs.Sought.{unconfirmedTest, unconfirmed-passes, greedyTest, greedy-passes, none, some, smallest, fewest-passes}
 use Rattle.refusals.specs.declared.Refusal.the-variants.{NoCover}
 use Rattle.grid.specs.Limits.{mostBudget, mostGreedyBudget}
-use Rattle.grid.specs.Cases.{gridOf, Valid}
+use Rattle.grid.specs.Cases.{Valid}
 use Rattle.refusals.proofs.Orders.{itself}
 use Rattle.tables.proofs.Drawn.{validTest, filled-passes}
 use Rattle.place_calls.specs.declared.Verdict.the-variants as verdict

@@ -15,7 +15,7 @@ use Rattle.rules.specs.Derivation.{Derivation}
 use Rattle.rules.proofs.Reasons.{closed-reasoned}
 use Rattle.rules.proofs.Lists.{closed-finished}
 use Rattle.rules.proofs.Derivations.{derived-unique, derived-accepted}
-use Rattle.tables.proofs.Tests.{gap, given, subTest, holdsTest}
+use Rattle.tables.proofs.Tests.{gap, given, subTest, holdsTest, bus-passes, names-pass}
 use Rattle.grid.specs.Rows.{neighbours}
 use Rattle.list_value.specs.declared.StepList.{StepList}
 use Rattle.tables.proofs.Rows.{_&_}
@@ -81,16 +81,16 @@ allowed-right =
 
 pub names-right : AllRight steps.namesTable
 names-right =
-    record { bus = record { some = omega arith; most = omega arith }; reason = tt }
+    names-pass 7 (own 7) refl
     & (λ h. omega (arith, h .bus .most))
     & (λ h. omega (arith, h .bus .some))
-    & record { bus = record { some = omega arith; most = omega arith }; reason = record { some = omega arith; most = omega arith } }
+    & names-pass 7 (near 1 7) refl
     & (λ h. omega (arith, h .reason .most))
     & (λ h. omega (arith, h .reason .some))
     & (λ h. omega (arith, h .reason .most))
     & (λ h. omega (arith, h .bus .most))
     & tt
-    & record { some = omega arith; most = omega arith }
+    & bus-passes 7 7 refl
     & (λ h. omega (arith, h .some))
     & tt
 

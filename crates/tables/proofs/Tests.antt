@@ -13,7 +13,7 @@ use Rattle.step.specs.declared.Reason.the-variants.{OwnUnit, NeighbourOf, ZeroI
 use Rattle.step.specs.declared.Step.{Step}
 use Rattle.rules.specs.Grids.{Grid, Proper, total}
 use Rattle.rules.specs.Observation.{Closed, ObservedSet}
-use Rattle.rules.specs.Steps.{Holds, AcceptedFrom, reached}
+use Rattle.rules.specs.Steps.{Holds, ReasonNames, Names, AcceptedFrom, reached}
 use Rattle.rules.proofs.Firing.{fired-by}
 use Rattle.rules.proofs.Lists.{accepted-inside}
 
@@ -88,6 +88,33 @@ pub given-passes : (d x : ℕ) → d ≡ 1 → given d x ≡ 0 → x ≡ 0
 unfolding given
 given-passes zero x e h = absurd (omega arith)
 given-passes (suc d) x e h = h
+
+-- ---- what a step names
+
+-- b is a bus 1 to n
+abbrev pub busTest : ℕ → ℕ → ℕ
+busTest n b = (1 - b) + (b - n)
+
+pub bus-passes : (n b : ℕ) → busTest n b ≡ 0 → Bus n b
+bus-passes n b e = record { some = omega arith; most = omega arith }
+
+-- the reason names buses 1 to n
+abbrev pub reasonNamesTest : ℕ → Reason → ℕ
+reasonNamesTest n OwnUnit = 0
+reasonNamesTest n (NeighbourOf p) = busTest n p
+reasonNamesTest n (ZeroInjection w) = busTest n w
+
+-- and so does the step
+abbrev pub namesTest : ℕ → Step → ℕ
+namesTest n x = busTest n (x .bus) + reasonNamesTest n (x .reason)
+
+pub names-pass : (n : ℕ) (x : Step) → namesTest n x ≡ 0 → Names n x
+names-pass n x e = record { bus = bus-passes n (x .bus) (omega arith); reason = go (x .reason) (omega arith) }
+  where
+    go : (r : Reason) → reasonNamesTest n r ≡ 0 → ReasonNames n r
+    go OwnUnit e = tt
+    go (NeighbourOf p) e = bus-passes n p e
+    go (ZeroInjection w) e = bus-passes n w e
 
 -- ---- steps and lists
 

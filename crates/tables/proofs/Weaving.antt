@@ -18,7 +18,7 @@ use Rattle.rules.specs.Steps.{Names, reached, Accepted}
 use Rattle.basics.specs.Lists.{Each}
 use Rattle.rules.specs.Weaving.{TakenFromOne, here, there, Shuffle, none, next}
 use Rattle.rules.specs.Figures.{figure}
-use Rattle.tables.proofs.Tests.{gap, above, withinTest}
+use Rattle.tables.proofs.Tests.{gap, above, withinTest, names-pass}
 use Rattle.rules.proofs.Shuffles.{weaving-shuffles}
 use Rattle.grid.specs.Limits.{mostBuses}
 use Rattle.grid.specs.Rows.{neighbours}
@@ -195,7 +195,7 @@ calls-right =
     & tt
   where
     named3 : Names 7 (own 3)
-    named3 = record { bus = record { some = omega arith; most = omega arith }; reason = tt }
+    named3 = names-pass 7 (own 3) refl
 
     named23 : Names 7 (near 2 3)
-    named23 = record { bus = record { some = omega arith; most = omega arith }; reason = record { some = omega arith; most = omega arith } }
+    named23 = names-pass 7 (near 2 3) refl
