@@ -11,7 +11,7 @@ use Rattle.tables.proofs.Tests.{gap, isOne, above, withinTest, given, s
 use Rattle.tables.proofs.Sought.{derived, pick, reasonFor, reasonAt, stepFor, passFrom, extended, derive}
 use Rattle.grid.specs.Rows.{neighbours}
 use Rattle.grid.specs.Cases.{Valid}
-use Rattle.tables.proofs.Drawn.{rowTest, validTest, filled-passes}
+use Rattle.tables.proofs.Drawn.{rowTest, linesTest, validTest, filled-passes}
 use Rattle.tables.specs.Starred.{Drawing, shortCase, drawnCase, seven, path}
 use Rattle.tables.specs.Drawings.{set, drawnGrid, pathWith, sweep, leaf, lone, ring}
 
@@ -45,7 +45,7 @@ pub record Known : Type 0 where
   pub lone1 : ObservedIn lone (set (1 ∷ []))
 
 pub known : Known
-unfolding validTest withinTest rowTest above leastTest acceptedTest holdsTest closedTest subTest isOne gap given total neighbours hold
+unfolding validTest linesTest withinTest rowTest above leastTest acceptedTest holdsTest closedTest subTest isOne gap given total neighbours hold
     wordOf setOf upTo less lack add ones onesIn pick reasonFor reasonAt stepFor passFrom extended derive
 known = record {
   none = observed (seven []) (set []) refl refl;

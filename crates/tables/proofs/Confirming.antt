@@ -15,7 +15,7 @@ use Rattle.rules.proofs.Choices.{unconfirmed-unique}
 use Rattle.tables.proofs.Tests.{gap, above, withinTest, within-passes, given}
 use Rattle.tables.proofs.Sought.{confirmTest, aloneTest, unconfirmedTest, unconfirmed-passes}
 use Rattle.grid.specs.Rows.{neighbours}
-use Rattle.tables.proofs.Drawn.{rowTest, validTest, filled-passes}
+use Rattle.tables.proofs.Drawn.{rowTest, linesTest, validTest, filled-passes}
 use Rattle.tables.specs.Starred.{Drawing, setWord, shortCase, seven}
 use Rattle.tables.proofs.Rows.{_&_}
 use Rattle.tables.specs.Tables.{AllRight}
@@ -49,12 +49,12 @@ alone d bs v w e =
 
 -- no units, and a unit alone
 pub nobody : UnconfirmedSet (sevenGrid [] .neighbours) (set []) (set [])
-unfolding validTest withinTest above rowTest unconfirmedTest aloneTest confirmTest gap given total meet upTo neighbours hold wordOf add
+unfolding validTest linesTest withinTest above rowTest unconfirmedTest aloneTest confirmTest gap given total meet upTo neighbours hold wordOf add
     setOf ones onesIn lack
 nobody = alone (seven []) [] refl refl refl
 
 pub itself : UnconfirmedSet (sevenGrid [] .neighbours) (set (3 ∷ [])) (set (3 ∷ []))
-unfolding validTest withinTest above rowTest unconfirmedTest aloneTest confirmTest gap given total meet upTo neighbours hold wordOf add
+unfolding validTest linesTest withinTest above rowTest unconfirmedTest aloneTest confirmTest gap given total meet upTo neighbours hold wordOf add
     setOf ones onesIn lack
 itself = alone (seven (3 ∷ [])) (3 ∷ []) refl refl refl
 
@@ -67,7 +67,7 @@ unconfirmed-right =
     & tt
 
 pub sets-right : AllRight tables.unconfirmedSetTable
-unfolding validTest withinTest above rowTest unconfirmedTest aloneTest confirmTest gap given total meet upTo neighbours hold wordOf add
+unfolding validTest linesTest withinTest above rowTest unconfirmedTest aloneTest confirmTest gap given total meet upTo neighbours hold wordOf add
     setOf ones onesIn lack
 sets-right =
     nobody

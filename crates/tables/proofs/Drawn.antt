@@ -12,7 +12,7 @@ use Rattle.basics.proofs.Tests.{below-or}
 use Rattle.busset.proofs.Digits.{bit-zero}
 use Rattle.busset.proofs.Words.{set-zero}
 use Rattle.rules.specs.Grids.{Proper, total, lineCount}
-use Rattle.tables.proofs.Tests.{total-none, withinTest, within-passes}
+use Rattle.tables.proofs.Tests.{total-same, total-none, withinTest, within-passes, size-upTo}
 use Rattle.grid.specs.declared.Case.{Case}
 use Rattle.grid.specs.Limits.{mostBuses, mostLines}
 use Rattle.grid.specs.Rows.{Rows, neighbours}
@@ -24,11 +24,19 @@ use Rattle.tables.specs.Starred.{filled}
 unfoldable pub rowTest : ℕ → (ℕ → ℕ) → ℕ → ℕ
 rowTest n nbr a = withinTest n (nbr a) + bit (nbr a) a + total n (λ b. bit (nbr a) b - bit (nbr b) a)
 
+-- how many lines there are: the buses up to b that b is joined to, for each b
+unfoldable pub linesTest : ℕ → (ℕ → ℕ) → ℕ
+linesTest n nbr = total n (λ b. total b (bit (nbr b)))
+
+pub lines-counted : (n : ℕ) (rows : Rows) → lineCount n (neighbours rows) ≡ linesTest n (neighbours rows)
+unfolding linesTest
+lines-counted n rows = total-same n (λ b. size-upTo b (neighbours rows b) (row-bus rows b))
+
 unfoldable pub validTest : Case → ℕ
 validTest c =
     (1 - c .n) + (c .n - mostBuses) + total (length (c .nbr)) (rowTest (c .n) (neighbours (c .nbr)))
     + withinTest (c .n) (setOf (c .zero)) + withinTest (c .n) (setOf (c .site)) + withinTest (c .n) (setOf (c .units))
-    + (lineCount (c .n) (neighbours (c .nbr)) - mostLines)
+    + (linesTest (c .n) (neighbours (c .nbr)) - mostLines)
 
 module _ (c : Case) (ok : validTest c ≡ 0) where
   -- a bus with a neighbour has a row
@@ -69,7 +77,7 @@ module _ (c : Case) (ok : validTest c ≡ 0) where
       sites = within-passes (c .n) (setOf (c .site)) (set-zero (c .site)) (omega arith);
       units = within-passes (c .n) (setOf (c .units)) (set-zero (c .units)) (omega arith);
     };
-    few = omega arith;
+    few = omega (arith, lines-counted (c .n) (c .nbr));
   }
 
 -- ---- the rows that fill up

@@ -16,7 +16,7 @@ use Rattle.grid.specs.Rows.{neighbours}
 use Rattle.grid.specs.Cases.{Lines}
 use Rattle.refusals.specs.Refusals.{Check, checkThat, Failed}
 use Rattle.refusals.proofs.Orders.{itself, failed-unique, failed-or-passed}
-use Rattle.tables.proofs.Drawn.{rowTest, validTest, filled-passes}
+use Rattle.tables.proofs.Drawn.{rowTest, linesTest, validTest, filled-passes}
 use Rattle.estimator_reply.specs.Results.{codeOf}
 use Rattle.tables.specs.Starred.{shortCase, seven, path}
 use Rattle.tables.proofs.Rows.{_&_}
@@ -48,7 +48,7 @@ table-right = refl
 -- ---- which case values are valid
 
 pub valid-right : AllRight grids.validTable
-unfolding validTest withinTest above rowTest total lack upTo neighbours hold wordOf add setOf ones onesIn
+unfolding validTest linesTest withinTest above rowTest total lack upTo neighbours hold wordOf add setOf ones onesIn
 valid-right =
     filled-passes (shortCase (seven (3 ∷ []))) refl
     & filled-passes (shortCase path) refl
@@ -76,7 +76,7 @@ proper-right =
     & tt
 
 pub lines-right : AllRight grids.lineTable
-unfolding neighbours hold wordOf add setOf validTest withinTest above rowTest total lack upTo ones onesIn
+unfolding neighbours hold wordOf add setOf validTest linesTest withinTest above rowTest total lack upTo ones onesIn
 lines-right =
     pair-lines 1 2 refl
     & (λ l. omega (arith, l .back))

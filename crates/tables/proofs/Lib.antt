@@ -10,6 +10,7 @@ pub mod Sets
 pub mod Grids
 pub mod Order
 pub mod Crowded
+pub mod Stars
 pub mod Computed
 pub mod Observation
 pub mod Deriving

@@ -3,12 +3,13 @@ use mathlib.Core.Logic.{⊎-elim}
 use mathlib.Core.Path.{_≡_, sym, ap, ap₂, _∙_, subst⁻¹}
 use Prim.Native.Nat.{ℕ, zero, suc, _≤_, _<_}
 use native.Mathlib.Omega.{arith}
-use Rattle.busset.specs.Sets.{Bus, bit, In, Within, All}
+use Rattle.busset.specs.Sets.{Bus, bit, In, Within, size, All}
 use Rattle.basics.proofs.Tests.{same-or, below-or}
 use Rattle.busset.proofs.Digits.{bit-zero}
 use Rattle.busset.proofs.Words.{set-empty}
+use Rattle.busset.proofs.Sizes.{size-empty, size-add}
 use Rattle.busset.proofs.Members.{out-of}
-use Rattle.busset.proofs.Holding.{hold-here, hold-there}
+use Rattle.busset.proofs.Holding.{set-hold, hold-here, hold-there}
 use Rattle.rules.specs.Grids.{total}
 use Rattle.tables.proofs.Tests.{total-none, gap, gap-none}
 use Rattle.tables.specs.Starred.{setWord, busesTo}
@@ -35,6 +36,14 @@ all-buses (suc n) = record {
   where
     differ : (b n : ℕ) → (b ≡ suc n → ⊥) → b ≤ suc n → b ≤ n
     differ b n ne l = omega arith
+
+-- they are n
+pub size-buses : (n : ℕ) → size (set (busesTo n)) ≡ n
+size-buses zero = ap size set-empty ∙ size-empty
+size-buses (suc n) =
+    ap size (set-hold (setWord (busesTo n)) (suc n) (omega arith))
+    ∙ size-add (set (busesTo n)) (suc n) (out-of (set (busesTo n)) (suc n) (λ h. omega (arith, all-buses n .only (suc n) h .most)))
+    ∙ ap suc (size-buses n)
 
 -- an operation that gives 0 of two digits 0, where all buses are 1 to n: its digit at every bus, from those at 1 to n
 module _ (n : ℕ) (f : ℕ → ℕ → ℕ) (s t r : ℕ) (none : f 0 0 ≡ 0) (ws : Within n s) (wt : Within n t) (wr : Within n r)

@@ -25,7 +25,7 @@ use Rattle.grid.specs.declared.Case.{Case}
 use Rattle.grid.specs.Limits.{mostBudget}
 use Rattle.grid.specs.Rows.{neighbours}
 use Rattle.grid.specs.Cases.{gridOf}
-use Rattle.tables.proofs.Drawn.{rowTest, validTest, filled-passes}
+use Rattle.tables.proofs.Drawn.{rowTest, linesTest, validTest, filled-passes}
 use Rattle.tables.specs.Starred.{filled, shortCase, seven}
 use Rattle.tables.proofs.Rows.{_&_}
 use Rattle.tables.proofs.Computed.{known}
@@ -169,7 +169,7 @@ pub record Placed : Type 0 where
   pub greedyBarred : GreedyList (barred []) 1 (2 ∷ [])
 
 pub known-places : Placed
-unfolding validTest withinTest rowTest above leastTest acceptedTest holdsTest closedTest subTest isOne gap given total neighbours hold
+unfolding validTest linesTest withinTest rowTest above leastTest acceptedTest holdsTest closedTest subTest isOne gap given total neighbours hold
     wordOf setOf upTo less lack add ones onesIn pick reasonFor reasonAt stepFor passFrom extended derive soughtFrom judge orElse choose seek
     firstOf smallest noBetter bestTest noneTest greedyTest
 known-places = record {

@@ -30,7 +30,7 @@ use Rattle.grid.specs.Rows.{neighbours}
 use Rattle.grid.specs.Cases.{Valid}
 use Rattle.refusals.specs.Refusals.{Failed, numberOf}
 use Rattle.refusals.proofs.Orders.{itself, failed-or-passed, failed-unique}
-use Rattle.tables.proofs.Drawn.{rowTest, validTest, filled-passes}
+use Rattle.tables.proofs.Drawn.{rowTest, linesTest, validTest, filled-passes}
 use Rattle.case_line.specs.Fields.{ifNoField}
 use Rattle.step_line.specs.StepLine.{stepWordOf, stepLineOf}
 use Rattle.step_text.specs.Taking.{countRead}
@@ -230,7 +230,7 @@ fewests-right =
     over = v then stop (λ h. omega arith) (itself _)
 
 pub texts-right : AllRight tables.textReplyTable
-unfolding readCase readText readLines readSteps stepLines stepLineOf stepWordOf ifNoField split same validTest withinTest above rowTest
+unfolding readCase readText readLines readSteps stepLines stepLineOf stepWordOf ifNoField split same validTest linesTest withinTest above rowTest
     total upTo busRecords members lineRecords linesText recordText join digits neighbours hold wordOf add setOf ones onesIn lack
 texts-right =
     refl

@@ -21,7 +21,7 @@ use Rattle.refusals.proofs.Orders.{itself}
 use Rattle.grid.specs.Limits.{mostBudget, mostGreedyBudget}
 use Rattle.grid.specs.Rows.{neighbours}
 use Rattle.grid.specs.Cases.{Valid}
-use Rattle.tables.proofs.Drawn.{rowTest, validTest, filled-passes}
+use Rattle.tables.proofs.Drawn.{rowTest, linesTest, validTest, filled-passes}
 use Rattle.observe_calls.specs.Replies.{stated}
 use Rattle.tables.specs.Drawings.{set, drawnGrid}
 use Rattle.tables.proofs.StarredSites.{free, verdict-right, greedy-right, fewest-right, uncovered-right}
@@ -130,7 +130,7 @@ all-right (r ∷ rs) e = (row-right r (omega arith), all-right rs (omega arith))
 
 -- every row of the table is right
 pub table-right : AllStarredRight starredTable
-unfolding allWrong wrong gapSought validTest withinTest rowTest leastTest acceptedTest holdsTest closedTest
+unfolding allWrong wrong gapSought validTest linesTest withinTest rowTest leastTest acceptedTest holdsTest closedTest
     subTest isOne gap given total neighbours hold wordOf setOf figure upTo less lack meet add ones onesIn pick reasonFor reasonAt stepFor
     passFrom extended derive confirmTest aloneTest unconfirmedTest noBetter bestTest noneTest greedyTest above soughtFrom judge orElse
     choose seek firstOf smallest

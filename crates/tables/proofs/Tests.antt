@@ -1,13 +1,14 @@
 -- Tests of a grid that is written out, which the checker computes: each is a number that is 0 where it passes.
-use mathlib.Core.Path.{_≡_, refl, ap, subst, subst⁻¹}
+use mathlib.Core.Path.{_≡_, refl, sym, ap, _∙_, subst, subst⁻¹}
 use mathlib.Core.List.{List, [], _∷_}
 use mathlib.Core.Logic.{⊎-elim}
 use Prim.Native.Nat.{ℕ, zero, suc, _+_, _-_, _≤_, _<_}
 use native.Mathlib.Omega.{arith}
 use Rattle.busset.specs.Sets.{Bus, bit, In, Out, Sub, Within, empty, add, lack, less, upTo, size}
 use Rattle.basics.proofs.Tests.{same-or, below-or}
-use Rattle.busset.proofs.Members.{in-or, sub-of, lack-at, upTo-in, upTo-out, less-here, less-there, less-sub}
-use Rattle.busset.proofs.Sizes.{size-some}
+use Rattle.busset.proofs.Digits.{ext}
+use Rattle.busset.proofs.Members.{in-or, sub-of, empty-of, lack-at, upTo-in, upTo-out, less-here, less-there, less-sub}
+use Rattle.busset.proofs.Sizes.{size-empty, size-some, one-more}
 use Rattle.step.specs.declared.Reason.{Reason}
 use Rattle.step.specs.declared.Reason.the-variants.{OwnUnit, NeighbourOf, ZeroInjection}
 use Rattle.step.specs.declared.Step.{Step}
@@ -18,6 +19,11 @@ use Rattle.rules.proofs.Firing.{fired-by}
 use Rattle.rules.proofs.Lists.{accepted-inside}
 
 -- ---- sums of tests over the buses
+
+pub total-same : (n : ℕ) {f g : ℕ → ℕ} → ((b : ℕ) → f b ≡ g b) → total n f ≡ total n g
+unfolding total
+total-same zero e = refl
+total-same (suc n) e = omega (arith, total-same n e, e (suc n))
 
 pub total-none : (n : ℕ) (f : ℕ → ℕ) → total n f ≡ 0 → (b : ℕ) → Bus n b → f b ≡ 0
 unfolding total
@@ -70,6 +76,35 @@ within-passes n s o e (suc b) h =
     (λ (l : n < suc b). absurd (omega (arith, size-some (above n s) (suc b) (omega (arith, after-in n s (suc b) l)))))
     (λ (l : suc b ≤ n). record { some = omega arith; most = l })
     (below-or n (suc b))
+
+-- how many buses of s are 1 to n
+pub size-upTo : (n s : ℕ) → Out s 0 → size (upTo n s) ≡ total n (bit s)
+unfolding total
+size-upTo zero s o = ap size (empty-of (upTo zero s) none) ∙ size-empty
+  where
+    none : (b : ℕ) → Out (upTo zero s) b
+    none zero = upTo-in zero s zero (omega arith) ∙ o
+    none (suc b) = upTo-out zero s (suc b) (omega arith)
+size-upTo (suc n) s o =
+    ⊎-elim
+    (λ (h : In s (suc n)). one-more (upTo n s) (upTo (suc n) s) (suc n) (upTo-in (suc n) s (suc n) (omega arith) ∙ h)
+    (upTo-out n s (suc n) (omega arith)) there ∙ omega (arith, size-upTo n s o))
+    (λ (h : Out s (suc n)). ap size (ext (upTo (suc n) s) (upTo n s) (λ b. ⊎-elim
+    (λ (e : b ≡ suc n). subst⁻¹ (λ (x : ℕ). bit (upTo (suc n) s) x ≡ bit (upTo n s) x) e
+    (upTo-in (suc n) s (suc n) (omega arith) ∙ h ∙ sym (upTo-out n s (suc n) (omega arith))))
+    (λ (ne : b ≡ suc n → ⊥). there b ne)
+    (same-or b (suc n)))) ∙ omega (arith, size-upTo n s o))
+    (in-or s (suc n))
+  where
+    there : (b : ℕ) → (b ≡ suc n → ⊥) → bit (upTo (suc n) s) b ≡ bit (upTo n s) b
+    there b ne =
+        ⊎-elim
+        (λ (l : n < b). upTo-out (suc n) s b (let d = above-it b l ne in omega arith) ∙ sym (upTo-out n s b l))
+        (λ (l : b ≤ n). upTo-in (suc n) s b (omega arith) ∙ sym (upTo-in n s b l))
+        (below-or n b)
+      where
+        above-it : (b : ℕ) → n < b → (b ≡ suc n → ⊥) → suc n < b
+        above-it b l ne = omega arith
 
 -- s has all of the buses m
 unfoldable pub subTest : ℕ → ℕ → ℕ → ℕ

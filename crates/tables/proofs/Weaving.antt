@@ -1,33 +1,26 @@
 -- The tables of weaving and of the firing figure.
-use mathlib.Core.Path.{_≡_, refl, ap, ap₂}
+use mathlib.Core.Path.{_≡_, refl, ap}
 use mathlib.Core.List.{List, [], _∷_}
 use mathlib.Core.Logic.{_⊎_, inl, inr, ⊎-elim}
-use Prim.Native.Nat.{ℕ, suc, _-_, _^_, _≤_, _<_}
+use Prim.Native.Nat.{ℕ, _≤_}
 use native.Mathlib.Omega.{arith}
-use lib.Dec.{lit≤}
-use lib.IntN.{pos, negsuc, _+ℤ_, _-ℤ_}
 use lib.Count.{ones, onesIn}
 use lib.ListN.{length, getD}
 use lib.Signed.{leZ-yes}
-use Rattle.busset.specs.Sets.{bit, In, size, add, meet, lack, less, upTo, setOf}
+use Rattle.busset.specs.Sets.{bit, In, add, meet, lack, less, upTo, setOf}
 use Rattle.busset.specs.Held.{SetWord, wordOf, hold}
 use Rattle.step.specs.Records.{noStep}
 use Rattle.step.specs.declared.Step.{Step}
-use Rattle.rules.specs.Grids.{total}
 use Rattle.rules.specs.Steps.{Names, reached, Accepted}
 use Rattle.basics.specs.Lists.{Each}
 use Rattle.rules.specs.Weaving.{TakenFromOne, here, there, Shuffle, none, next}
 use Rattle.rules.specs.Figures.{figure}
-use Rattle.tables.proofs.Tests.{gap, above, withinTest, names-pass}
+use Rattle.tables.proofs.Tests.{gap, names-pass}
 use Rattle.rules.proofs.Shuffles.{weaving-shuffles}
-use Rattle.grid.specs.Limits.{mostBuses}
 use Rattle.grid.specs.Rows.{neighbours}
-use Rattle.grid.specs.Cases.{gridOf}
-use Rattle.tables.proofs.Drawn.{rowTest, validTest, valid-passes}
 use Rattle.list_follow.specs.declared.Wove.the-variants as wove
 use Rattle.demands.proofs.Demand3.{demand-3}
-use Rattle.tables.specs.Starred.{setWord, busesTo, drawnCase, seven}
-use Rattle.tables.proofs.Crowded.{ones-in}
+use Rattle.tables.specs.Starred.{setWord, drawnCase, seven}
 use Rattle.tables.proofs.Computed.{known}
 use Rattle.tables.proofs.Rows.{_&_}
 use Rattle.tables.proofs.Deriving.{reasonTest, allowedTest, allowed-passes}
@@ -61,30 +54,6 @@ runs-right =
     & record { low = leZ-yes tt; high = leZ-yes tt }
     & (λ h. h .high .le)
     & tt
-
--- the figure where i has so many neighbours, and so many of them other than j are observed
-figure-from : (nbr : ℕ → ℕ) (s i j a b : ℕ) → size (nbr i) ≡ a → size (less (meet (nbr i) s) j) ≡ b
-    → figure nbr s i j ≡ pos 1 -ℤ pos a +ℤ pos (bit s i) +ℤ pos b
-unfolding figure
-figure-from nbr s i j a b p q = ap₂ (λ (x y : ℕ). pos 1 -ℤ pos x +ℤ pos (bit s i) +ℤ pos y) p q
-
--- the star's figure of 1 towards 2, with the digits counted
-star-figure : (s : ℕ) → less (meet (gridOf figures.star .neighbours 1) s) 2 < 2 ^ suc mostBuses
-    → figure (gridOf figures.star .neighbours) s 1 2 ≡ pos 1 -ℤ pos (mostBuses - 1) +ℤ pos (bit s 1) +ℤ pos
-    (onesIn (suc mostBuses) (less (meet (gridOf figures.star .neighbours 1) s) 2))
-unfolding neighbours hold wordOf add setOf onesIn less lack
-star-figure s l =
-    figure-from (gridOf figures.star .neighbours) s 1 2 (mostBuses - 1) (onesIn (suc mostBuses) (less (meet (gridOf figures.star .neighbours 1) s) 2))
-    (ones-in (suc mostBuses) (gridOf figures.star .neighbours 1) (lit≤ tt)) (ones-in (suc mostBuses) (less (meet (gridOf figures.star .neighbours 1) s) 2) l)
-
-star-ends : (figure (gridOf figures.star .neighbours) (set []) 1 2 ≡ negsuc (mostBuses - 3))
-    × (figure (gridOf figures.star .neighbours) (set (busesTo mostBuses)) 1 2 ≡ pos 1)
-unfolding meet less lack neighbours hold wordOf add setOf onesIn
-star-ends = (star-figure (set []) (lit≤ tt), star-figure (set (busesTo mostBuses)) (lit≤ tt))
-
-pub ends-right : AllRight figures.figureEndTable
-unfolding validTest withinTest above rowTest total upTo neighbours hold wordOf add setOf ones onesIn lack less
-ends-right = valid-passes figures.star refl & star-ends .0 & star-ends .1 & tt
 
 -- ---- weaving
 

@@ -1,7 +1,7 @@
 -- The firing figure.
 use mathlib.Core.List.{List, [], _∷_}
 use mathlib.Core.Path.{_≡_}
-use Prim.Native.Nat.{ℕ, _-_}
+use Prim.Native.Nat.{ℕ, suc, _-_}
 use lib.IntN.{ℤ, pos, negsuc}
 use lib.ListN.{replicate}
 use Rattle.busset.specs.Sets.{less}
@@ -9,6 +9,7 @@ use Rattle.busset.specs.Held.{emptyWord, wordOf}
 use Rattle.rules.specs.Figures.{figure, Runs}
 use Rattle.grid.specs.declared.Case.{Case}
 use Rattle.grid.specs.Limits.{mostBuses}
+use Rattle.grid.specs.Rows.{Rows}
 use Rattle.grid.specs.Cases.{gridOf, Valid}
 use Rattle.tables.specs.Starred.{setWord, busesTo, drawnCase, seven}
 use Rattle.observe_calls.specs.Replies.{stated}
@@ -39,11 +40,15 @@ figureTable =
 abbrev pub FiguresRight : Type 0
 FiguresRight = Right (λ q. figure (sevenGrid [] .neighbours) (set (q .0)) (q .1) (q .2)) figureTable
 
--- the most buses, of which 1 is joined to every other
+-- the rows of m buses and one more, of which 1 is joined to every other
+abbrev pub starRows : ℕ → Rows
+starRows m = wordOf (less (set (busesTo (suc m))) 1) ∷ replicate m (setWord (1 ∷ []))
+
+-- the most buses, so joined
 abbrev pub star : Case
 star = record {
   n = mostBuses;
-  nbr = wordOf (less (set (busesTo mostBuses)) 1) ∷ replicate (mostBuses - 1) (setWord (1 ∷ []));
+  nbr = starRows (mostBuses - 1);
   zero = emptyWord;
   site = emptyWord;
   units = emptyWord;
