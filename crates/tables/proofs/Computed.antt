@@ -7,7 +7,8 @@ use Rattle.busset.specs.Sets.{add, lack, less, upTo, setOf}
 use Rattle.busset.specs.Held.{wordOf, hold}
 use Rattle.rules.specs.Grids.{total}
 use Rattle.rules.specs.Observation.{ObservedSet}
-use Rattle.tables.proofs.Tests.{gap, isOne, above, withinTest, given, subTest, holdsTest, acceptedTest, closedTest, leastTest, least-passes}
+use Rattle.tables.proofs.Tests.{gap, isOne, above, withinTest, given, subTest, holdsTest}
+use Rattle.tables.proofs.Tests.{acceptedTest, closedTest, leastTest, least-passes}
 use Rattle.tables.proofs.Sought.{derived, pick, reasonFor, reasonAt, stepFor, passFrom, extended, derive}
 use Rattle.grid.specs.Rows.{neighbours}
 use Rattle.grid.specs.Cases.{Valid}
@@ -45,8 +46,8 @@ pub record Known : Type 0 where
   pub lone1 : ObservedIn lone (set (1 ∷ []))
 
 pub known : Known
-unfolding validTest linesTest withinTest rowTest above leastTest acceptedTest holdsTest closedTest subTest isOne gap given total neighbours hold
-    wordOf setOf upTo less lack add ones onesIn pick reasonFor reasonAt stepFor passFrom extended derive
+unfolding validTest linesTest withinTest rowTest above leastTest acceptedTest holdsTest closedTest subTest isOne gap given total neighbours
+    hold wordOf setOf upTo less lack add ones onesIn pick reasonFor reasonAt stepFor passFrom extended derive
 known = record {
   none = observed (seven []) (set []) refl refl;
   at2 = observed (seven (2 ∷ [])) (set (1 ∷ 2 ∷ 3 ∷ [])) refl refl;

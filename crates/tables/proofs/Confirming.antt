@@ -49,13 +49,13 @@ alone d bs v w e =
 
 -- no units, and a unit alone
 pub nobody : UnconfirmedSet (sevenGrid [] .neighbours) (set []) (set [])
-unfolding validTest linesTest withinTest above rowTest unconfirmedTest aloneTest confirmTest gap given total meet upTo neighbours hold wordOf add
-    setOf ones onesIn lack
+unfolding validTest linesTest withinTest above rowTest unconfirmedTest aloneTest confirmTest gap given total meet upTo neighbours hold
+    wordOf add setOf ones onesIn lack
 nobody = alone (seven []) [] refl refl refl
 
 pub itself : UnconfirmedSet (sevenGrid [] .neighbours) (set (3 ∷ [])) (set (3 ∷ []))
-unfolding validTest linesTest withinTest above rowTest unconfirmedTest aloneTest confirmTest gap given total meet upTo neighbours hold wordOf add
-    setOf ones onesIn lack
+unfolding validTest linesTest withinTest above rowTest unconfirmedTest aloneTest confirmTest gap given total meet upTo neighbours hold
+    wordOf add setOf ones onesIn lack
 itself = alone (seven (3 ∷ [])) (3 ∷ []) refl refl refl
 
 pub unconfirmed-right : AllRight tables.unconfirmedTable
@@ -67,8 +67,8 @@ unconfirmed-right =
     & tt
 
 pub sets-right : AllRight tables.unconfirmedSetTable
-unfolding validTest linesTest withinTest above rowTest unconfirmedTest aloneTest confirmTest gap given total meet upTo neighbours hold wordOf add
-    setOf ones onesIn lack
+unfolding validTest linesTest withinTest above rowTest unconfirmedTest aloneTest confirmTest gap given total meet upTo neighbours hold
+    wordOf add setOf ones onesIn lack
 sets-right =
     nobody
     & itself

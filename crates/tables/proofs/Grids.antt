@@ -31,7 +31,7 @@ pub limits-right : grids.LimitsRight
 limits-right = refl
 
 pub neighbours-right : grids.NeighboursRight
-unfolding neighbours hold wordOf add setOf
+unfolding neighbours
 neighbours-right = refl
 
 pub parts-right : grids.GridPartsRight

@@ -77,7 +77,7 @@ unfolding hold wordOf add setOf
 all-seven = all-closed (known .at3 .valid .proper) (all-buses 7)
 
 pub closed-right : AllRight tables.closedTable
-unfolding neighbours hold wordOf add setOf
+unfolding hold wordOf add setOf
 closed-right =
     known .at3 .least .closed
     & all-seven

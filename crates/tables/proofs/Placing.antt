@@ -169,9 +169,9 @@ pub record Placed : Type 0 where
   pub greedyBarred : GreedyList (barred []) 1 (2 ∷ [])
 
 pub known-places : Placed
-unfolding validTest linesTest withinTest rowTest above leastTest acceptedTest holdsTest closedTest subTest isOne gap given total neighbours hold
-    wordOf setOf upTo less lack add ones onesIn pick reasonFor reasonAt stepFor passFrom extended derive soughtFrom judge orElse choose seek
-    firstOf smallest noBetter bestTest noneTest greedyTest
+unfolding validTest linesTest withinTest rowTest above leastTest acceptedTest holdsTest closedTest subTest isOne gap given total neighbours
+    hold wordOf setOf upTo less lack add ones onesIn pick reasonFor reasonAt stepFor passFrom extended derive soughtFrom judge orElse choose
+    seek firstOf smallest noBetter bestTest noneTest greedyTest
 known-places = record {
   fewest1 = found (shortCase (seven [])) 1 none refl refl;
   fewest2 = found (shortCase (seven [])) 2 (some (set (1 ∷ 4 ∷ []))) refl refl;

@@ -179,7 +179,8 @@ unfolding readCase readText readLines judged isBus isAfter pastBuses recordOf re
     stepsIn stepLineOf stepWordOf letterOf reasonFields stepFields byteOf bytesFrom
 calls-right =
     gives tables.lent (Set five) (says (observed.Set five) (replies.sets-right .0))
-    & gives tables.lent (Set (setWord (3 ∷ []))) (says (unconfirmed.Unconfirmed (setWord (3 ∷ []))) ((known .at3 .valid, tt), confirming.itself))
+    & gives tables.lent (Set (setWord (3 ∷ [])))
+    (says (unconfirmed.Unconfirmed (setWord (3 ∷ []))) ((known .at3 .valid, tt), confirming.itself))
     & gives tables.lent (Set (setWord (1 ∷ 4 ∷ []))) (says (fewest.Sites (setWord (1 ∷ 4 ∷ []))) (replies.fewests-right .0))
     & gives tables.lent (Set five) (says (replayed.Reached five true) (replays-right .0))
     & gives tables.lent (Refused (WrongForm 1)) refl

@@ -45,7 +45,7 @@ texts-right = refl
 
 pub allowed-right : AllRight case.grammarTable
 unfolding readLines judged isBus isAfter pastBuses recordOf recordWordOf lineFields busFields markOf ifOneField ifNoField split join same
-    isDigit takesDigit numberFrom numeralOf add held.hold held.wordOf setOf neighbours
+    isDigit takesDigit numberFrom numeralOf
 allowed-right =
     read-reads (split lineFeed (block case.oneInput) .rest) start 1 (split lineFeed (block case.oneInput) .first) case.oneCase refl
     & (λ h. not-got _ (reads-read start _ _ 1 (omega arith) h))
@@ -53,7 +53,7 @@ allowed-right =
     & tt
 
 pub wired-right : case.WiredRight
-unfolding add held.hold held.wordOf setOf neighbours
+unfolding held.hold held.wordOf neighbours
 wired-right = refl
 
 pub whole-right : case.WholeTextsRight

@@ -23,7 +23,7 @@ use Rattle.rules.proofs.Derivations.{derived-accepted}
 use Rattle.rules.proofs.Leasts.{least-unique}
 use Rattle.rules.proofs.Lists.{closed-finished}
 use Rattle.rules.proofs.Ordering.{fewest-some}
-use Rattle.tables.proofs.Tests.{gap, above, withinTest, bus-passes, names-pass}
+use Rattle.tables.proofs.Tests.{above, withinTest, bus-passes, names-pass}
 use Rattle.refusals.specs.declared.Refusal.the-variants.{InvalidCase, NoSuchBus, ReasonFails, OverBudget, NoCover}
 use Rattle.grid.specs.Limits.{mostBudget}
 use Rattle.grid.specs.Rows.{neighbours}
@@ -83,7 +83,7 @@ figures-right =
     & tt
 
 pub tests-right : AllRight tables.stepReplyTable
-unfolding reasonTest allowedTest gap upTo neighbours lack hold wordOf add setOf ones onesIn
+unfolding upTo neighbours hold wordOf add setOf
 tests-right =
     (v, (named23, (refl, (record { unit = refl; joined = refl }, tt))))
     & stop invalid (itself _)
@@ -101,11 +101,10 @@ tests-right =
 
 -- the list 1 by Z 2 is refused at step 1
 refused-9 : Failed (replayChecks (tables.sevenCase (3 ∷ [])) (zeroAt 1 2 ∷ own 8 ∷ [])) (ReasonFails 1)
-unfolding hold wordOf add setOf
 refused-9 = known .at3 .valid then omega arith then named12 then refl then stop (λ h. omega (arith, h .observed)) (itself _)
 
 pub replays-right : AllRight tables.replayReplyTable
-unfolding reasonTest allowedTest gap neighbours lack add hold wordOf setOf ones onesIn
+unfolding reasonTest allowedTest neighbours add hold wordOf setOf
 replays-right = (
   (v, (omega arith, accepted-checks (tables.sevenCase (3 ∷ [])) (v .proper) 1 empty derivationSteps (derived-accepted is-derivation .0))),
   refl,
@@ -167,7 +166,8 @@ weaves-right = (
     & (v then omega arith then named3 then (λ o. refl) then named23 then (λ o. by3) then stop (λ h. omega arith) (itself _), refl)
     & (λ h. omega (arith, ap (λ (xs : List Step). getD xs 0 noStep .bus) (h .1)))
     & (
-      v then omega arith then named3 then (λ o. refl) then named23 then (λ o. by3) then names-pass 7 (zeroAt 6 5) refl then stop (λ h. omega (arith, h refl .observed)) (itself _),
+      v then omega arith then named3 then (λ o. refl) then named23 then (λ o. by3) then names-pass 7 (zeroAt 6 5) refl
+          then stop (λ h. omega (arith, h refl .observed)) (itself _),
       refl,
     )
     & tt
@@ -220,7 +220,10 @@ fewests-right =
     & stop invalid (itself _)
     & over
     & v then omega arith then stop (known-places .fewest1) (itself _)
-    & (λ h. omega (arith, ap numberOf (failed-unique (fewestChecks (tables.sevenCase []) (suc (mostBudget 7))) (OverBudget 0) NoCover over h)))
+    & (λ h. omega (
+      arith,
+      ap numberOf (failed-unique (fewestChecks (tables.sevenCase []) (suc (mostBudget 7))) (OverBudget 0) NoCover over h),
+    ))
     & tt
   where
     v : Valid (tables.sevenCase [])
@@ -230,8 +233,8 @@ fewests-right =
     over = v then stop (λ h. omega arith) (itself _)
 
 pub texts-right : AllRight tables.textReplyTable
-unfolding readCase readText readLines readSteps stepLines stepLineOf stepWordOf ifNoField split same validTest linesTest withinTest above rowTest
-    total upTo busRecords members lineRecords linesText recordText join digits neighbours hold wordOf add setOf ones onesIn lack
+unfolding readCase readText readLines readSteps stepLines stepLineOf stepWordOf ifNoField split same validTest linesTest withinTest above
+    rowTest total busRecords members lineRecords linesText recordText join digits neighbours setOf ones onesIn lack
 texts-right =
     refl
     & refl

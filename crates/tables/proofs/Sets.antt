@@ -23,11 +23,11 @@ use Rattle.tables.specs.Sets as sets
 -- ---- computed
 
 pub digits-right : sets.DigitsRight
-unfolding held.hold held.wordOf add setOf
+unfolding setOf
 digits-right = refl
 
 pub words-right : sets.WordsRight
-unfolding held.hold held.wordOf add setOf
+unfolding held.hold held.wordOf setOf
 words-right = refl
 
 pub holding-right : sets.HoldingRight

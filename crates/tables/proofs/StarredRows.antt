@@ -79,7 +79,8 @@ wrong (unconfirmed d bs) = validTest (shortCase d) + withinTest (d .n) (set bs) 
 wrong (adds d budget ss) = validTest (shortCase d) + (budget - mostGreedyBudget) + greedyTest (drawnGrid d) budget ss
 wrong (fewestIs d budget bs) =
     validTest (shortCase d) + (budget - mostBudget (d .n)) + gapSought (smallest (drawnGrid d) (free d) (budget + 1) 0) (some (set bs))
-wrong (uncovered d budget) = validTest (shortCase d) + (budget - mostBudget (d .n)) + gapSought (smallest (drawnGrid d) (free d) (budget + 1) 0) none
+wrong (uncovered d budget) =
+    validTest (shortCase d) + (budget - mostBudget (d .n)) + gapSought (smallest (drawnGrid d) (free d) (budget + 1) 0) none
 
 row-right : (r : StarredRow) → wrong r ≡ 0 → StarredRight r
 unfolding wrong
@@ -130,8 +131,8 @@ all-right (r ∷ rs) e = (row-right r (omega arith), all-right rs (omega arith))
 
 -- every row of the table is right
 pub table-right : AllStarredRight starredTable
-unfolding allWrong wrong gapSought validTest linesTest withinTest rowTest leastTest acceptedTest holdsTest closedTest
-    subTest isOne gap given total neighbours hold wordOf setOf figure upTo less lack meet add ones onesIn pick reasonFor reasonAt stepFor
-    passFrom extended derive confirmTest aloneTest unconfirmedTest noBetter bestTest noneTest greedyTest above soughtFrom judge orElse
-    choose seek firstOf smallest
+unfolding allWrong wrong gapSought validTest linesTest withinTest rowTest leastTest acceptedTest holdsTest closedTest subTest isOne gap
+    given total neighbours hold wordOf setOf figure upTo less lack meet add ones onesIn pick reasonFor reasonAt stepFor passFrom extended
+    derive confirmTest aloneTest unconfirmedTest noBetter bestTest noneTest greedyTest above soughtFrom judge orElse choose seek firstOf
+    smallest
 table-right = all-right starredTable refl

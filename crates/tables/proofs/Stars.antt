@@ -142,7 +142,8 @@ star-valid = record {
 -- bus 1 has m neighbours
 first-size : (m : ℕ) → size (near m 1) ≡ m
 first-size m =
-    ap size (first-row m) ∙ omega (arith, size-buses (suc m), size-less (every m) 1 (all-buses (suc m) .has 1 (record { some = omega arith; most = omega arith })))
+    let one : Bus (suc m) 1 = record { some = omega arith; most = omega arith } in
+    ap size (first-row m) ∙ omega (arith, size-buses (suc m), size-less (every m) 1 (all-buses (suc m) .has 1 one))
 
 -- of which none, or m - 1 other than 2, are observed
 none-observed : (m : ℕ) → size (less (meet (near m 1) (set [])) 2) ≡ 0

@@ -15,7 +15,7 @@ use Rattle.rules.specs.Steps.{Names, reached, Accepted}
 use Rattle.basics.specs.Lists.{Each}
 use Rattle.rules.specs.Weaving.{TakenFromOne, here, there, Shuffle, none, next}
 use Rattle.rules.specs.Figures.{figure}
-use Rattle.tables.proofs.Tests.{gap, names-pass}
+use Rattle.tables.proofs.Tests.{names-pass}
 use Rattle.rules.proofs.Shuffles.{weaving-shuffles}
 use Rattle.grid.specs.Rows.{neighbours}
 use Rattle.list_follow.specs.declared.Wove.the-variants as wove
@@ -122,7 +122,7 @@ shuffles-right =
 
 -- each desk's list is accepted
 accepted : Each (Accepted (sevenGrid (3 ∷ []))) weaving.desks
-unfolding reasonTest allowedTest gap neighbours add lack hold wordOf setOf ones onesIn
+unfolding reasonTest allowedTest neighbours add hold wordOf setOf
 accepted = (
   (allowed-passes (sevenGrid (3 ∷ [])) (set []) (near 2 3) refl, (allowed-passes (sevenGrid (3 ∷ [])) (set (2 ∷ [])) (own 3) refl, tt)),
   ((allowed-passes (sevenGrid (3 ∷ [])) (set []) (own 3) refl, tt), tt),

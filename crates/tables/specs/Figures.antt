@@ -62,7 +62,7 @@ figureEndTable =
     ∷ holds (figure (gridOf star .neighbours) (set (busesTo mostBuses)) 1 2 ≡ pos 1)
     ∷ []
 
--- where the figure runs: from 2 - the most buses to 1
+-- where the figure runs: from 2 less the most buses, up to 1
 abbrev pub figureRunTable : List Row
 figureRunTable =
     holds (Runs (mostBuses - 2) (negsuc (mostBuses - 3)))

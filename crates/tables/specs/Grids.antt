@@ -4,19 +4,21 @@ use Prim.Native.Nat.{ℕ, zero, suc}
 use lib.Dec.{leb}
 use Rattle.busset.specs.Sets.{width, less}
 use Rattle.busset.specs.Held.{emptyWord, wordOf, holdIf}
+use Rattle.busset.specs.Bytes.{setLength}
 use Rattle.rules.specs.Grids.{Line, Proper, total, lineCount}
 use Rattle.grid.specs.declared.Case.{Case}
 use Rattle.grid.specs.Limits.{mostBuses, mostLines, mostSteps, largestBudget, mostBudget, mostGreedyBudget}
 use Rattle.grid.specs.Limits.{mostBytes, mostStepBytes}
 use Rattle.grid.specs.Rows.{Rows, neighbours}
 use Rattle.grid.specs.Cases.{gridOf, LinesAt, Lines, Valid}
+use Rattle.plan_input.specs.Asking.{defaultBudget}
 use Rattle.tables.specs.Starred.{setWord, busesTo, filled, drawnCase, seven, path}
 use Rattle.tables.specs.Tables.{Right, Row, holds, fails}
 use Rattle.tables.specs.Drawings.{set, value, sevenGrid, drawnGrid}
 
 -- ---- document 01's numbers
 
--- each limit, and its number: no other line of these tables says one
+-- each limit, how many bytes a set has, and the budget of `plan` alone, with its number: no other line of the tables says one
 abbrev pub limitTable : List (ℕ × ℕ)
 limitTable =
     (mostBuses, 64)
@@ -28,6 +30,8 @@ limitTable =
     ∷ (largestBudget, 8)
     ∷ (mostBudget 7, 8)
     ∷ (mostGreedyBudget, 64)
+    ∷ (setLength, 8)
+    ∷ (defaultBudget, 8)
     ∷ []
 
 -- every row is right

@@ -2,7 +2,7 @@
 use mathlib.Core.List.{List, [], _∷_, _++_}
 use Prim.Native.Nat.{ℕ, suc, _-_}
 use Prim.Native.String.{String}
-use lib.ListN.{replicate}
+use lib.ListN.{length, replicate}
 use Rattle.text_field.specs.Split.{bytes, lineFeed}
 use Rattle.text_field.specs.declared.Numeral.{Numeral}
 use Rattle.text_field.specs.declared.Numeral.the-variants.{Is, Wrong}
@@ -132,13 +132,13 @@ askedTable =
 abbrev pub AskedRight : Type 0
 AskedRight = Right readPlan askedTable
 
--- the whole input counts: how many bytes of `plan` and line feeds there are, the most and one more
+-- the whole input counts: how many bytes `plan` and line feeds are, and what reading says; the most, and one more
 abbrev pub planLimitTable : List (ℕ × ReadAnswer)
 planLimitTable = (mostBytes, Refused (WrongForm 2)) ∷ (suc mostBytes, Refused TextTooLong) ∷ []
 
 -- every row is right
 abbrev pub PlanLimitsRight : Type 0
-PlanLimitsRight = Right (λ k. readPlan (bytes "plan" ++ replicate (k - 4) lineFeed) .read .answer) planLimitTable
+PlanLimitsRight = Right (λ k. readPlan (bytes "plan" ++ replicate (k - length (bytes "plan")) lineFeed) .read .answer) planLimitTable
 
 -- n and the added sites, and what is printed
 abbrev pub planTextTable : List ((ℕ × List ℕ) × String)
