@@ -12,7 +12,7 @@ use Rattle.step.specs.declared.NamedBus.{NamedBus}
 use Rattle.step.specs.declared.NamedBus.the-variants.{Nothing, Bus as BusNamed}
 use Rattle.step.specs.declared.Step.{Step}
 use Rattle.step.specs.Reasons.{namedBy, letters, turnOf}
-use Rattle.step.proofs.Reasons.{turn-most, Alone, OneOf, Naming}
+use Rattle.step.proofs.Reasons.{turn-most, Alone, Naming}
 use Rattle.rules.specs.Grids.{Grid, Proper}
 use Rattle.rules.specs.Steps.{Holds, Allowed, BusIfNamed, Finished}
 use Rattle.rules.specs.Derivation.{NamesAtMost, TakenFirst, NextIs}

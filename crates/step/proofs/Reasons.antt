@@ -53,7 +53,7 @@ pub record Alone (q : Reason) : Type 0 where
   pub only : (r : Reason) → turnOf r ≡ turnOf q → r ≡ q
 
 -- r is one of the reasons f
-pub record OneOf (f : ℕ → Reason) (r : Reason) : Type 0 where
+pub record WithSomeBus (f : ℕ → Reason) (r : Reason) : Type 0 where
   pub bus : ℕ
   pub is : r ≡ f bus
 
@@ -61,7 +61,7 @@ pub record OneOf (f : ℕ → Reason) (r : Reason) : Type 0 where
 pub record Naming (f : ℕ → Reason) : Type 0 where
   pub names : (p : ℕ) → namedBy (f p) ≡ Bus p
   pub turn : (p : ℕ) → turnOf (f p) ≡ turnOf (f 0)
-  pub only : (r : Reason) → turnOf r ≡ turnOf (f 0) → OneOf f r
+  pub only : (r : Reason) → turnOf r ≡ turnOf (f 0) → WithSomeBus f r
 
 given-same : {q r : Reason} → Is q ≡ Is r → r ≡ q
 given-same e = cc
@@ -89,7 +89,7 @@ naming f names letter none some = record {
   only = λ r e. go r (namedBy r) (by-turn (f 0) r e);
 }
   where
-    go : (r : Reason) (x : NamedBus) → reasonOf (letterOf (f 0)) x ≡ Is r → OneOf f r
+    go : (r : Reason) (x : NamedBus) → reasonOf (letterOf (f 0)) x ≡ Is r → WithSomeBus f r
     go r Nothing e = absurd (given-wrong (sym none ∙ e))
     go r (Bus p) e = record { bus = p; is = given-same (sym (some p) ∙ e) }
 

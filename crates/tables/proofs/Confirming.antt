@@ -16,7 +16,7 @@ use Rattle.tables.proofs.Tests.{gap, above, withinTest, within-passes, 
 use Rattle.tables.proofs.Sought.{confirmTest, aloneTest, unconfirmedTest, unconfirmed-passes}
 use Rattle.grid.specs.Rows.{neighbours}
 use Rattle.tables.proofs.Drawn.{rowTest, linesTest, validTest, filled-passes}
-use Rattle.tables.specs.Starred.{Drawing, setWord, shortCase, seven}
+use Rattle.tables.specs.Starred.{Drawing, wordWith, shortCase, seven}
 use Rattle.tables.proofs.Rows.{_&_}
 use Rattle.tables.specs.Tables.{AllRight}
 use Rattle.tables.specs.Drawings.{set, drawnGrid, sevenGrid, apart}
@@ -45,7 +45,7 @@ alone : (d : Drawing) (bs : List ℕ) → validTest (shortCase d) ≡ 0 → with
     → UnconfirmedSet (drawnGrid d .neighbours) (drawnGrid d .units) (set bs)
 alone d bs v w e =
     unconfirmed-passes (drawnGrid d) (filled-passes (shortCase d) v .proper) (set bs)
-    (within-passes (d .n) (set bs) (set-zero (setWord bs)) w) e
+    (within-passes (d .n) (set bs) (set-zero (wordWith bs)) w) e
 
 -- no units, and a unit alone
 pub nobody : UnconfirmedSet (sevenGrid [] .neighbours) (set []) (set [])

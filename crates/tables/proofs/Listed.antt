@@ -12,7 +12,7 @@ use Rattle.busset.proofs.Members.{out-of}
 use Rattle.busset.proofs.Holding.{set-hold, hold-here, hold-there}
 use Rattle.rules.specs.Grids.{total}
 use Rattle.tables.proofs.Tests.{total-none, gap, gap-none}
-use Rattle.tables.specs.Starred.{setWord, busesTo}
+use Rattle.tables.specs.Starred.{wordWith, busesTo}
 use Rattle.tables.specs.Drawings.{set}
 
 -- it has the buses 1 to n, and no other
@@ -23,13 +23,13 @@ all-buses zero = record {
 }
 all-buses (suc n) = record {
   has = λ b h. ⊎-elim
-      (λ (e : b ≡ suc n). subst⁻¹ (In (set (busesTo (suc n)))) e (hold-here (setWord (busesTo n)) (suc n) (omega arith)))
-      (λ (ne : b ≡ suc n → ⊥). hold-there (setWord (busesTo n)) (suc n) b (omega arith) ne
+      (λ (e : b ≡ suc n). subst⁻¹ (In (set (busesTo (suc n)))) e (hold-here (wordWith (busesTo n)) (suc n) (omega arith)))
+      (λ (ne : b ≡ suc n → ⊥). hold-there (wordWith (busesTo n)) (suc n) b (omega arith) ne
       ∙ all-buses n .has b (record { some = h .some; most = let l = h .most in let d = differ b n ne l in omega arith }))
       (same-or b (suc n));
   only = λ b h. ⊎-elim
       (λ (e : b ≡ suc n). record { some = omega arith; most = omega arith })
-      (λ (ne : b ≡ suc n → ⊥). let l = all-buses n .only b (sym (hold-there (setWord (busesTo n)) (suc n) b (omega arith) ne) ∙ h) in
+      (λ (ne : b ≡ suc n → ⊥). let l = all-buses n .only b (sym (hold-there (wordWith (busesTo n)) (suc n) b (omega arith) ne) ∙ h) in
       record { some = l .some; most = let m = l .most in omega arith })
       (same-or b (suc n));
 }
@@ -41,7 +41,7 @@ all-buses (suc n) = record {
 pub size-buses : (n : ℕ) → size (set (busesTo n)) ≡ n
 size-buses zero = ap size set-empty ∙ size-empty
 size-buses (suc n) =
-    ap size (set-hold (setWord (busesTo n)) (suc n) (omega arith))
+    ap size (set-hold (wordWith (busesTo n)) (suc n) (omega arith))
     ∙ size-add (set (busesTo n)) (suc n) (out-of (set (busesTo n)) (suc n) (λ h. omega (arith, all-buses n .only (suc n) h .most)))
     ∙ ap suc (size-buses n)
 

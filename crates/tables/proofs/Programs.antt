@@ -51,7 +51,7 @@ use Rattle.tables.proofs.Replies.{invalid, named12}
 use Rattle.tables.proofs.Replies as replies
 use Rattle.tables.proofs.Placing.{known-places}
 use Rattle.tables.specs.Tables.{AllRight, block}
-use Rattle.tables.specs.Starred.{setWord}
+use Rattle.tables.specs.Starred.{wordWith}
 use Rattle.tables.specs.Drawings.{set}
 use Rattle.tables.specs.CaseTexts.{input, bareInput}
 use Rattle.tables.specs.Reports.{output}
@@ -171,7 +171,7 @@ says reply p = record { reply = reply; meets = p; is = refl }
 
 -- the buses that a unit at 3 makes observed
 abbrev five : SetWord
-five = setWord (1 ∷ 2 ∷ 3 ∷ 4 ∷ 7 ∷ [])
+five = wordWith (1 ∷ 2 ∷ 3 ∷ 4 ∷ 7 ∷ [])
 
 pub calls-right : AllRight tables.estimatorTable
 unfolding readCase readText readLines judged isBus isAfter pastBuses recordOf recordWordOf lineFields busFields markOf ifOneField ifNoField
@@ -179,9 +179,9 @@ unfolding readCase readText readLines judged isBus isAfter pastBuses recordOf re
     stepsIn stepLineOf stepWordOf letterOf reasonFields stepFields byteOf bytesFrom
 calls-right =
     gives tables.lent (Set five) (says (observed.Set five) (replies.sets-right .0))
-    & gives tables.lent (Set (setWord (3 ∷ [])))
-    (says (unconfirmed.Unconfirmed (setWord (3 ∷ []))) ((known .at3 .valid, tt), confirming.itself))
-    & gives tables.lent (Set (setWord (1 ∷ 4 ∷ []))) (says (fewest.Sites (setWord (1 ∷ 4 ∷ []))) (replies.fewests-right .0))
+    & gives tables.lent (Set (wordWith (3 ∷ [])))
+    (says (unconfirmed.Unconfirmed (wordWith (3 ∷ []))) ((known .at3 .valid, tt), confirming.itself))
+    & gives tables.lent (Set (wordWith (1 ∷ 4 ∷ []))) (says (fewest.Sites (wordWith (1 ∷ 4 ∷ []))) (replies.fewests-right .0))
     & gives tables.lent (Set five) (says (replayed.Reached five true) (replays-right .0))
     & gives tables.lent (Refused (WrongForm 1)) refl
     & gives tables.lent (Refused NoCover)

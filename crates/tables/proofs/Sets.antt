@@ -15,7 +15,7 @@ use Rattle.rules.specs.Grids.{total}
 use Rattle.tables.proofs.Tests.{gap, above, withinTest, within-passes, subTest, sub-passes}
 use Rattle.tables.proofs.Listed.{by-bus, all-buses}
 use Rattle.tables.proofs.Rows.{_&_}
-use Rattle.tables.specs.Starred.{setWord}
+use Rattle.tables.specs.Starred.{wordWith}
 use Rattle.tables.specs.Tables.{AllRight}
 use Rattle.tables.specs.Drawings.{set}
 use Rattle.tables.specs.Sets as sets
@@ -70,7 +70,7 @@ sizes-right = refl
 
 -- the buses of a list are 1 to 3
 inside : (bs : List ℕ) → withinTest 3 (set bs) ≡ 0 → Within 3 (set bs)
-inside bs e = within-passes 3 (set bs) (set-zero (setWord bs)) e
+inside bs e = within-passes 3 (set bs) (set-zero (wordWith bs)) e
 
 -- what an operation on digits says of three such lists
 listed : (f : ℕ → ℕ → ℕ) (bs cs ds : List ℕ) → f 0 0 ≡ 0 → withinTest 3 (set bs) ≡ 0 → withinTest 3 (set cs) ≡ 0 → withinTest 3 (set ds) ≡ 0

@@ -25,7 +25,7 @@ use Rattle.tables.proofs.Drawn.{rowTest, linesTest, validTest, filled-p
 use Rattle.observe_calls.specs.Replies.{stated}
 use Rattle.tables.specs.Drawings.{set, drawnGrid}
 use Rattle.tables.proofs.StarredSites.{free, verdict-right, greedy-right, fewest-right, uncovered-right}
-use Rattle.tables.specs.Starred.{setWord, shortCase, drawnCase, StarredRow, observes, figures, fails, unconfirmed}
+use Rattle.tables.specs.Starred.{wordWith, shortCase, drawnCase, StarredRow, observes, figures, fails, unconfirmed}
 use Rattle.tables.specs.Starred.{adds, fewestIs, uncovered, StarredRight, AllStarredRight, starredTable}
 
 -- how far two integers are apart
@@ -73,7 +73,7 @@ unfoldable wrong : StarredRow → ℕ
 wrong (observes d bs) = validTest (shortCase d) + leastTest (drawnGrid d) (derived (drawnGrid d)) (set bs)
 wrong (figures d bs i j z) =
     validTest (shortCase d) + busTest (d .n) i + busTest (d .n) j + (1 - bit (neighbours (drawnCase d .nbr) i) j)
-    + gapZ (figure (neighbours (drawnCase d .nbr)) (stated (drawnCase d) (setWord bs)) i j) z
+    + gapZ (figure (neighbours (drawnCase d .nbr)) (stated (drawnCase d) (wordWith bs)) i j) z
 wrong (fails d x) = validTest (shortCase d) + namesTest (d .n) x + (1 - holdsTest (drawnGrid d) empty (x .bus) (x .reason))
 wrong (unconfirmed d bs) = validTest (shortCase d) + withinTest (d .n) (set bs) + unconfirmedTest (drawnGrid d) (set bs)
 wrong (adds d budget ss) = validTest (shortCase d) + (budget - mostGreedyBudget) + greedyTest (drawnGrid d) budget ss
@@ -90,7 +90,7 @@ row-right (observes d bs) e =
 row-right (figures d bs i j z) e =
     let n = d .n in (
       (filled-passes (shortCase d) (omega arith), ((bus-passes n i (omega arith), bus-passes n j (omega arith)), (omega arith, tt))),
-      sym (gapZ-none (figure (neighbours (drawnCase d .nbr)) (stated (drawnCase d) (setWord bs)) i j) z (omega arith)),
+      sym (gapZ-none (figure (neighbours (drawnCase d .nbr)) (stated (drawnCase d) (wordWith bs)) i j) z (omega arith)),
     )
 row-right (fails d x) e =
     let v : Valid (drawnCase d) = filled-passes (shortCase d) (omega arith) in

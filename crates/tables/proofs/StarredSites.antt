@@ -21,7 +21,7 @@ use Rattle.place_calls.specs.declared.Verdict.the-variants as verdict
 use Rattle.place_calls.specs.declared.Greedy.the-variants as greedy
 use Rattle.place_calls.specs.declared.Fewest.the-variants as fewest
 use Rattle.place_calls.specs.Replies.{VerdictReply, GreedyReply, FewestReply}
-use Rattle.tables.specs.Starred.{Drawing, setWord, shortCase, drawnCase}
+use Rattle.tables.specs.Starred.{Drawing, wordWith, shortCase, drawnCase}
 use Rattle.tables.specs.Drawings.{set, drawnGrid}
 
 -- ---- a row, from its test
@@ -32,12 +32,12 @@ free d = lack (drawnGrid d .sites) (drawnGrid d .units)
 
 pub verdict-right : (d : Drawing) (bs : List ℕ)
     → validTest (shortCase d) + withinTest (d .n) (set bs) + unconfirmedTest (drawnGrid d) (set bs) ≡ 0
-    → VerdictReply (drawnCase d) (verdict.Unconfirmed (setWord bs))
+    → VerdictReply (drawnCase d) (verdict.Unconfirmed (wordWith bs))
 verdict-right d bs e =
     let v : Valid (drawnCase d) = filled-passes (shortCase d) (omega arith) in (
       (v, tt),
       unconfirmed-passes (drawnGrid d) (v .proper) (set bs)
-          (within-passes (d .n) (set bs) (set-zero (setWord bs)) (omega arith)) (omega arith),
+          (within-passes (d .n) (set bs) (set-zero (wordWith bs)) (omega arith)) (omega arith),
     )
 
 pub greedy-right : (d : Drawing) (budget : ℕ) (xs : List ℕ)
@@ -62,7 +62,7 @@ greedy-right d budget xs e entry room =
 
 pub fewest-right : (d : Drawing) (budget : ℕ) (bs : List ℕ) → validTest (shortCase d) + (budget - mostBudget (d .n)) ≡ 0
     → smallest (drawnGrid d) (free d) (budget + 1) 0 ≡ some (set bs)
-    → FewestReply (drawnCase d) budget (fewest.Sites (setWord bs))
+    → FewestReply (drawnCase d) budget (fewest.Sites (wordWith bs))
 fewest-right d budget bs e found =
     let v : Valid (drawnCase d) = filled-passes (shortCase d) (omega arith) in
     let f = fewest-passes (drawnGrid d) (v .proper) (free d) (record { at = lack-at (drawnGrid d .sites) (drawnGrid d .units) }) budget

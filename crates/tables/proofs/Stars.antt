@@ -25,7 +25,7 @@ use Rattle.tables.proofs.Listed.{all-buses, size-buses}
 use Rattle.tables.proofs.Tests.{bus-passes}
 use Rattle.tables.proofs.Rows.{_&_}
 use Rattle.tables.specs.Tables.{AllRight}
-use Rattle.tables.specs.Starred.{setWord, busesTo}
+use Rattle.tables.specs.Starred.{wordWith, busesTo}
 use Rattle.tables.specs.Drawings.{set}
 use Rattle.tables.specs.Figures.{starRows, star, figureEndTable}
 
@@ -41,14 +41,14 @@ near m = neighbours (starRows m)
 
 first-row : (m : ℕ) → near m 1 ≡ less (every m) 1
 unfolding neighbours
-first-row m = word-set (less (every m) 1) (omega (arith, less-sub (every m) 1 0, set-zero (setWord (busesTo (suc m)))))
+first-row m = word-set (less (every m) 1) (omega (arith, less-sub (every m) 1 0, set-zero (wordWith (busesTo (suc m)))))
 
 other-row : (m i : ℕ) → i < m → near m (suc (suc i)) ≡ set (1 ∷ [])
 unfolding neighbours
-other-row m i l = ap setOf (getD-replicate m i (setWord (1 ∷ [])) emptyWord l)
+other-row m i l = ap setOf (getD-replicate m i (wordWith (1 ∷ [])) emptyWord l)
 
 past-row : (m i : ℕ) → m ≤ i → near m (suc (suc i)) ≡ empty
-past-row m i l = row-past (starRows m) (suc (suc i)) (omega (arith, length-replicate m (setWord (1 ∷ []))))
+past-row m i l = row-past (starRows m) (suc (suc i)) (omega (arith, length-replicate m (wordWith (1 ∷ []))))
 
 -- the set of bus 1 has no other
 only-1 : (b : ℕ) → In (set (1 ∷ [])) b → b ≡ 1

@@ -20,7 +20,7 @@ use Rattle.rules.proofs.Shuffles.{weaving-shuffles}
 use Rattle.grid.specs.Rows.{neighbours}
 use Rattle.list_follow.specs.declared.Wove.the-variants as wove
 use Rattle.demands.proofs.Demand3.{demand-3}
-use Rattle.tables.specs.Starred.{setWord, drawnCase, seven}
+use Rattle.tables.specs.Starred.{wordWith, drawnCase, seven}
 use Rattle.tables.proofs.Computed.{known}
 use Rattle.tables.proofs.Rows.{_&_}
 use Rattle.tables.proofs.Deriving.{reasonTest, allowedTest, allowed-passes}
@@ -142,7 +142,7 @@ pub calls-right : AllRight weaving.demand3Table
 unfolding neighbours add hold wordOf setOf
 calls-right =
     demand-3 .weaves (drawnCase (seven (3 ∷ []))) weaving.desks weaving.sent
-    (own 7 ∷ own 8 ∷ own 9 ∷ []) (own 3 ∷ near 2 3 ∷ own 9 ∷ []) (wove.Written 2 (setWord (2 ∷ 3 ∷ [])))
+    (own 7 ∷ own 8 ∷ own 9 ∷ []) (own 3 ∷ near 2 3 ∷ own 9 ∷ []) (wove.Written 2 (wordWith (2 ∷ 3 ∷ [])))
     (record { valid = known .at3 .valid; alone = accepted; shuffled = shuffled; few = omega arith; room = omega arith }) (
       (
         known .at3 .valid,
@@ -159,7 +159,7 @@ calls-right =
     & (λ h. omega (arith, ap (λ (xs : List Step). getD xs 0 noStep .bus) (h .records)))
     & (λ h. let e = h .answers in let c : _≡_ {A = ℕ} 3 (h .count) = cc in omega (arith, c, h .counted))
     & (λ h. let e = h .answers in
-    let s : _≡_ {A = SetWord} (setWord (3 ∷ [])) (h .set) = cc in
+    let s : _≡_ {A = SetWord} (wordWith (3 ∷ [])) (h .set) = cc in
     omega (arith, ap (λ (w : SetWord). bit (setOf w) 2) s, ap (λ (t : ℕ). bit t 2) (h .reaches)))
     & tt
   where

@@ -23,7 +23,7 @@ use Rattle.case_read.specs.declared.ReadAnswer.{ReadAnswer}
 use Rattle.case_read.specs.declared.ReadAnswer.the-variants.{Read, Refused}
 use Rattle.case_judge.specs.declared.Judgement.{Judgement}
 use Rattle.case_judge.specs.declared.Judgement.the-variants.{Next, Last, Form, Range, Order}
-use Rattle.tables.specs.Starred.{setWord, drawnCase, seven, path}
+use Rattle.tables.specs.Starred.{wordWith, drawnCase, seven, path}
 use Rattle.tables.specs.Tables.{Right, Reads, Row, holds, fails, block}
 use Rattle.tables.specs.Drawings.{value}
 
@@ -102,8 +102,8 @@ grammarTable =
 -- a line of three buses, and the rows with it: each end has the other
 abbrev pub wiredTable : List ((ℕ × ℕ) × Rows)
 wiredTable =
-    ((1, 3), setWord (3 ∷ []) ∷ emptyWord ∷ setWord (1 ∷ []) ∷ [])
-    ∷ ((1, 2), setWord (2 ∷ []) ∷ setWord (1 ∷ []) ∷ emptyWord ∷ [])
+    ((1, 3), wordWith (3 ∷ []) ∷ emptyWord ∷ wordWith (1 ∷ []) ∷ [])
+    ∷ ((1, 2), wordWith (2 ∷ []) ∷ wordWith (1 ∷ []) ∷ emptyWord ∷ [])
     ∷ []
 
 -- every row is right

@@ -7,11 +7,11 @@ use Rattle.step.specs.declared.Step.{Step}
 use Rattle.rules.specs.Grids.{Grid}
 use Rattle.grid.specs.declared.Case.{Case}
 use Rattle.grid.specs.Cases.{gridOf}
-use Rattle.tables.specs.Starred.{Drawing, setWord, filled, drawnCase, seven, path}
+use Rattle.tables.specs.Starred.{Drawing, wordWith, filled, drawnCase, seven, path}
 
 -- the set of the buses of a list
 abbrev pub set : List ℕ → ℕ
-set bs = setOf (setWord bs)
+set bs = setOf (wordWith bs)
 
 -- `step b O`
 abbrev pub own : ℕ → Step
@@ -29,10 +29,10 @@ zeroAt b w = record { bus = b; reason = ZeroInjection w }
 abbrev pub shortValue : ℕ → List (List ℕ) → List ℕ → List ℕ → List ℕ → Case
 shortValue n rows zeros sites units = record {
   n = n;
-  nbr = map setWord rows;
-  zero = setWord zeros;
-  site = setWord sites;
-  units = setWord units;
+  nbr = map wordWith rows;
+  zero = wordWith zeros;
+  site = wordWith sites;
+  units = wordWith units;
 }
 
 -- the same, with a row for each bus

@@ -11,7 +11,7 @@ use Rattle.grid.specs.declared.Case.{Case}
 use Rattle.grid.specs.Limits.{mostBuses}
 use Rattle.grid.specs.Rows.{Rows}
 use Rattle.grid.specs.Cases.{gridOf, Valid}
-use Rattle.tables.specs.Starred.{setWord, busesTo, drawnCase, seven}
+use Rattle.tables.specs.Starred.{wordWith, busesTo, drawnCase, seven}
 use Rattle.observe_calls.specs.Replies.{stated}
 use Rattle.tables.specs.Tables.{Right, Row, holds, fails}
 use Rattle.tables.specs.Drawings.{set, sevenGrid}
@@ -42,7 +42,7 @@ FiguresRight = Right (λ q. figure (sevenGrid [] .neighbours) (set (q .0)) (q .1
 
 -- the rows of m buses and one more, of which 1 is joined to every other
 abbrev pub starRows : ℕ → Rows
-starRows m = wordOf (less (set (busesTo (suc m))) 1) ∷ replicate m (setWord (1 ∷ []))
+starRows m = wordOf (less (set (busesTo (suc m))) 1) ∷ replicate m (wordWith (1 ∷ []))
 
 -- the most buses, so joined
 abbrev pub star : Case
@@ -77,4 +77,4 @@ statedSetTable = (1 ∷ 7 ∷ [], set (1 ∷ 7 ∷ [])) ∷ (1 ∷ 8 ∷ mostBus
 
 -- every row is right
 abbrev pub StatedRight : Type 0
-StatedRight = Right (λ bs. stated (drawnCase (seven [])) (setWord bs)) statedSetTable
+StatedRight = Right (λ bs. stated (drawnCase (seven [])) (wordWith bs)) statedSetTable

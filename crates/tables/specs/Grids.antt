@@ -12,7 +12,7 @@ use Rattle.grid.specs.Limits.{mostBytes, mostStepBytes}
 use Rattle.grid.specs.Rows.{Rows, neighbours}
 use Rattle.grid.specs.Cases.{gridOf, LinesAt, Lines, Valid}
 use Rattle.plan_input.specs.Asking.{defaultBudget}
-use Rattle.tables.specs.Starred.{setWord, busesTo, filled, drawnCase, seven, path}
+use Rattle.tables.specs.Starred.{wordWith, busesTo, filled, drawnCase, seven, path}
 use Rattle.tables.specs.Tables.{Right, Row, holds, fails}
 use Rattle.tables.specs.Drawings.{set, value, sevenGrid, drawnGrid}
 
@@ -164,7 +164,7 @@ crowdRows k b (suc m) = holdIf (leb b k) (wordOf (less (set (busesTo 23)) b)) 24
 abbrev pub shortCrowd : ℕ → Case
 shortCrowd k = record {
   n = 24;
-  nbr = crowdRows k 1 23 ++ setWord (busesTo k) ∷ [];
+  nbr = crowdRows k 1 23 ++ wordWith (busesTo k) ∷ [];
   zero = emptyWord;
   site = emptyWord;
   units = emptyWord;

@@ -18,7 +18,7 @@ use Rattle.step_replay.specs.Replying.{TextReplayReply}
 use Rattle.step_replay.specs.declared.TextReplayed.the-variants as replayed
 use Rattle.estimator.specs.Answers.{ObservedFor, UnconfirmedFor, FewestFor, ReplayFor, OfText}
 use Rattle.estimator_reply.specs.Results.{Answered}
-use Rattle.tables.specs.Starred.{setWord}
+use Rattle.tables.specs.Starred.{wordWith}
 use Rattle.tables.specs.Tables.{Row, holds, fails, block}
 use Rattle.tables.specs.Drawings.{own}
 use Rattle.tables.specs.CaseTexts.{input, bareInput}
@@ -58,7 +58,7 @@ planPrintedTable =
 -- the case, the step text, and what replaying it answers
 abbrev pub textReplayTable : List Row
 textReplayTable =
-    holds (TextReplayReply (sevenCase (3 ∷ [])) derivationText (replayed.Reached (setWord (1 ∷ 2 ∷ 3 ∷ 4 ∷ 7 ∷ [])) true))
+    holds (TextReplayReply (sevenCase (3 ∷ [])) derivationText (replayed.Reached (wordWith (1 ∷ 2 ∷ 3 ∷ 4 ∷ 7 ∷ [])) true))
     -- 9999 is refused in reading, 8 at the step
     ∷ holds (TextReplayReply (sevenCase (3 ∷ [])) (bytes "step\t9999\tO\nend\n") (replayed.Unread (OutOfRange 1)))
     ∷ holds (TextReplayReply (sevenCase (3 ∷ [])) (bytes "step\t8\tO\nend\n") (replayed.Refused (NoSuchBus 1)))
@@ -102,7 +102,7 @@ lent = replicate (suc setLength) 5
 
 -- the same bytes after a set of these buses
 abbrev pub left : List ℕ → List ℕ
-left bs = setBytes (setWord bs) ++ 5 ∷ []
+left bs = setBytes (wordWith bs) ++ 5 ∷ []
 
 -- the question, the bytes before and after, and the result
 abbrev pub estimatorTable : List Row

@@ -27,7 +27,7 @@ use Rattle.list_derive.specs.declared.DerivationAnswer.the-variants as derived
 use Rattle.place_calls.specs.declared.Verdict.the-variants as verdict
 use Rattle.place_calls.specs.declared.Greedy.the-variants as greedy
 use Rattle.place_calls.specs.declared.Fewest.the-variants as fewest
-use Rattle.tables.specs.Starred.{setWord, drawnCase, seven}
+use Rattle.tables.specs.Starred.{wordWith, drawnCase, seven}
 use Rattle.tables.specs.Tables.{Row, holds, fails}
 use Rattle.tables.specs.Drawings.{own, near, zeroAt, value}
 use Rattle.tables.specs.Steps.{derivationSteps}
@@ -45,31 +45,31 @@ badCase = value 0 [] [] [] []
 -- the firing figure of i towards j where these buses are stated: 5, 7, 13
 abbrev pub figureReplyTable : List Row
 figureReplyTable =
-    holds (FigureReply (sevenCase (2 ∷ [])) (setWord (1 ∷ 2 ∷ 3 ∷ 8 ∷ [])) 2 1 (figured.Figure (pos 1)))
-    ∷ fails (FigureReply (sevenCase (2 ∷ [])) (setWord (1 ∷ 2 ∷ 3 ∷ [])) 3 7 (figured.Figure (pos 1)))
-    ∷ holds (FigureReply badCase (setWord []) 9 9 (figured.Refused InvalidCase))
-    ∷ holds (FigureReply (sevenCase []) (setWord []) 9 9 (figured.Refused (NoSuchBus 0)))
-    ∷ holds (FigureReply (sevenCase []) (setWord []) 0 1 (figured.Refused (NoSuchBus 0)))
-    ∷ holds (FigureReply (sevenCase []) (setWord []) 1 8 (figured.Refused (NoSuchBus 0)))
-    ∷ holds (FigureReply (sevenCase []) (setWord []) 1 3 (figured.Refused NotJoined))
+    holds (FigureReply (sevenCase (2 ∷ [])) (wordWith (1 ∷ 2 ∷ 3 ∷ 8 ∷ [])) 2 1 (figured.Figure (pos 1)))
+    ∷ fails (FigureReply (sevenCase (2 ∷ [])) (wordWith (1 ∷ 2 ∷ 3 ∷ [])) 3 7 (figured.Figure (pos 1)))
+    ∷ holds (FigureReply badCase (wordWith []) 9 9 (figured.Refused InvalidCase))
+    ∷ holds (FigureReply (sevenCase []) (wordWith []) 9 9 (figured.Refused (NoSuchBus 0)))
+    ∷ holds (FigureReply (sevenCase []) (wordWith []) 0 1 (figured.Refused (NoSuchBus 0)))
+    ∷ holds (FigureReply (sevenCase []) (wordWith []) 1 8 (figured.Refused (NoSuchBus 0)))
+    ∷ holds (FigureReply (sevenCase []) (wordWith []) 1 3 (figured.Refused NotJoined))
     -- a bus is not joined to itself
-    ∷ holds (FigureReply (sevenCase []) (setWord []) 3 3 (figured.Refused NotJoined))
-    ∷ fails (FigureReply (sevenCase []) (setWord []) 3 3 (figured.Figure (pos 1)))
+    ∷ holds (FigureReply (sevenCase []) (wordWith []) 3 3 (figured.Refused NotJoined))
+    ∷ fails (FigureReply (sevenCase []) (wordWith []) 3 3 (figured.Figure (pos 1)))
     ∷ []
 
 -- a step tested alone is step 1: 5, 7, 8, 9
 abbrev pub stepReplyTable : List Row
 stepReplyTable =
-    holds (StepReply (sevenCase (3 ∷ [])) (setWord []) (near 2 3) tested.Allowed)
-    ∷ holds (StepReply badCase (setWord []) (own 8) (tested.Refused InvalidCase))
-    ∷ holds (StepReply (sevenCase (3 ∷ [])) (setWord []) (near 2 8) (tested.Refused (NoSuchBus 1)))
+    holds (StepReply (sevenCase (3 ∷ [])) (wordWith []) (near 2 3) tested.Allowed)
+    ∷ holds (StepReply badCase (wordWith []) (own 8) (tested.Refused InvalidCase))
+    ∷ holds (StepReply (sevenCase (3 ∷ [])) (wordWith []) (near 2 8) (tested.Refused (NoSuchBus 1)))
     -- 7 before 8: the bus is observed, and the reason names bus 0
-    ∷ holds (StepReply (sevenCase (3 ∷ [])) (setWord (2 ∷ [])) (near 2 0) (tested.Refused (NoSuchBus 1)))
+    ∷ holds (StepReply (sevenCase (3 ∷ [])) (wordWith (2 ∷ [])) (near 2 0) (tested.Refused (NoSuchBus 1)))
     -- 8 before 9: the bus is observed, and the reason is false
-    ∷ holds (StepReply (sevenCase (3 ∷ [])) (setWord (1 ∷ [])) (zeroAt 1 2) (tested.Refused (AlreadyObserved 1)))
-    ∷ holds (StepReply (sevenCase (3 ∷ [])) (setWord []) (zeroAt 1 2) (tested.Refused (ReasonFails 1)))
+    ∷ holds (StepReply (sevenCase (3 ∷ [])) (wordWith (1 ∷ [])) (zeroAt 1 2) (tested.Refused (AlreadyObserved 1)))
+    ∷ holds (StepReply (sevenCase (3 ∷ [])) (wordWith []) (zeroAt 1 2) (tested.Refused (ReasonFails 1)))
     -- 7 and not 8, where the bus is stated and above n
-    ∷ holds (StepReply (sevenCase (3 ∷ [])) (setWord (8 ∷ [])) (own 8) (tested.Refused (NoSuchBus 1)))
+    ∷ holds (StepReply (sevenCase (3 ∷ [])) (wordWith (8 ∷ [])) (own 8) (tested.Refused (NoSuchBus 1)))
     ∷ []
 
 -- ---- lists
@@ -77,12 +77,12 @@ stepReplyTable =
 -- replay: 5, 12, then 7, 8, 9 at the first bad step
 abbrev pub replayReplyTable : List Row
 replayReplyTable =
-    holds (ReplayReply (sevenCase (3 ∷ [])) derivationSteps (replayed.Reached (setWord (1 ∷ 2 ∷ 3 ∷ 4 ∷ 7 ∷ [])) true))
+    holds (ReplayReply (sevenCase (3 ∷ [])) derivationSteps (replayed.Reached (wordWith (1 ∷ 2 ∷ 3 ∷ 4 ∷ 7 ∷ [])) true))
     -- an unfinished list is an answer
-    ∷ holds (ReplayReply (sevenCase (3 ∷ [])) (near 2 3 ∷ []) (replayed.Reached (setWord (2 ∷ [])) false))
-    ∷ holds (ReplayReply (sevenCase (3 ∷ [])) [] (replayed.Reached (setWord []) false))
-    ∷ holds (ReplayReply (sevenCase []) [] (replayed.Reached (setWord []) true))
-    ∷ fails (ReplayReply (sevenCase []) [] (replayed.Reached (setWord []) false))
+    ∷ holds (ReplayReply (sevenCase (3 ∷ [])) (near 2 3 ∷ []) (replayed.Reached (wordWith (2 ∷ [])) false))
+    ∷ holds (ReplayReply (sevenCase (3 ∷ [])) [] (replayed.Reached (wordWith []) false))
+    ∷ holds (ReplayReply (sevenCase []) [] (replayed.Reached (wordWith []) true))
+    ∷ fails (ReplayReply (sevenCase []) [] (replayed.Reached (wordWith []) false))
     ∷ holds (ReplayReply badCase (own 9 ∷ []) (replayed.Refused InvalidCase))
     -- 12 before any step is looked at
     ∷ holds (ReplayReply (sevenCase (3 ∷ [])) (replicate (suc mostSteps) (own 9)) (replayed.Refused (TooManySteps 0)))
@@ -99,12 +99,12 @@ abbrev pub weaveReplyTable : List Row
 weaveReplyTable =
     -- a step for an observed bus is passed over, also where its reason is false; the rest of the records stays
     holds (WeaveReply (sevenCase (3 ∷ [])) (own 3 ∷ near 3 1 ∷ near 2 3 ∷ []) (own 7 ∷ own 8 ∷ own 9 ∷ []) (own 3 ∷ near 2 3 ∷ own 9 ∷ [])
-    (wove.Written 2 (setWord (2 ∷ 3 ∷ []))))
+    (wove.Written 2 (wordWith (2 ∷ 3 ∷ []))))
     -- but its numbers are checked
     ∷ holds (WeaveReply (sevenCase (3 ∷ [])) (own 3 ∷ near 3 8 ∷ []) (own 7 ∷ []) (own 7 ∷ []) (wove.Refused (NoSuchBus 2)))
     ∷ holds (WeaveReply (sevenCase (3 ∷ [])) (zeroAt 1 2 ∷ []) (own 7 ∷ []) (own 7 ∷ []) (wove.Refused (ReasonFails 1)))
     -- 6 compares what is written with the room
-    ∷ holds (WeaveReply (sevenCase (3 ∷ [])) (own 3 ∷ own 3 ∷ own 3 ∷ []) (own 7 ∷ []) (own 3 ∷ []) (wove.Written 1 (setWord (3 ∷ []))))
+    ∷ holds (WeaveReply (sevenCase (3 ∷ [])) (own 3 ∷ own 3 ∷ own 3 ∷ []) (own 7 ∷ []) (own 3 ∷ []) (wove.Written 1 (wordWith (3 ∷ []))))
     ∷ holds (WeaveReply (sevenCase (3 ∷ [])) (own 3 ∷ near 2 3 ∷ []) (own 7 ∷ []) (own 7 ∷ []) (wove.Refused NoRoom))
     -- a refusal writes nothing
     ∷ fails (WeaveReply (sevenCase (3 ∷ [])) (own 3 ∷ near 2 3 ∷ []) (own 7 ∷ []) (own 3 ∷ []) (wove.Refused NoRoom))
@@ -117,13 +117,13 @@ weaveReplyTable =
 -- the observed set and the derivation: 5
 abbrev pub caseReplyTable : List Row
 caseReplyTable =
-    holds (ObservedReply (sevenCase (3 ∷ [])) (observed.Set (setWord (1 ∷ 2 ∷ 3 ∷ 4 ∷ 7 ∷ []))))
-    ∷ fails (ObservedReply (sevenCase (3 ∷ [])) (observed.Set (setWord (2 ∷ 3 ∷ 4 ∷ 7 ∷ []))))
+    holds (ObservedReply (sevenCase (3 ∷ [])) (observed.Set (wordWith (1 ∷ 2 ∷ 3 ∷ 4 ∷ 7 ∷ []))))
+    ∷ fails (ObservedReply (sevenCase (3 ∷ [])) (observed.Set (wordWith (2 ∷ 3 ∷ 4 ∷ 7 ∷ []))))
     ∷ holds (ObservedReply badCase (observed.Refused InvalidCase))
     ∷ fails (ObservedReply (sevenCase (3 ∷ [])) (observed.Refused InvalidCase))
     ∷ holds (DerivationReply (sevenCase (3 ∷ [])) (record { answer = derived.Found; list = listOf derivationSteps }))
     ∷ holds (DerivationReply badCase (record { answer = derived.Refused InvalidCase; list = listOf [] }))
-    ∷ holds (VerdictReply (sevenCase (3 ∷ [])) (verdict.Unconfirmed (setWord (3 ∷ []))))
+    ∷ holds (VerdictReply (sevenCase (3 ∷ [])) (verdict.Unconfirmed (wordWith (3 ∷ []))))
     ∷ holds (VerdictReply badCase (verdict.Refused InvalidCase))
     ∷ []
 
@@ -141,7 +141,7 @@ greedyReplyTable =
 -- the fewest with a budget: 5, 10, 11
 abbrev pub fewestReplyTable : List Row
 fewestReplyTable =
-    holds (FewestReply (sevenCase []) 2 (fewest.Sites (setWord (1 ∷ 4 ∷ []))))
+    holds (FewestReply (sevenCase []) 2 (fewest.Sites (wordWith (1 ∷ 4 ∷ []))))
     ∷ holds (FewestReply badCase (suc (mostBudget 0)) (fewest.Refused InvalidCase))
     ∷ holds (FewestReply (sevenCase []) (suc (mostBudget 7)) (fewest.Refused (OverBudget 0)))
     ∷ holds (FewestReply (sevenCase []) 1 (fewest.Refused NoCover))

@@ -10,7 +10,7 @@ use Rattle.refusals.specs.declared.Refusal.the-variants.{OverBudget, NoCover, T
 use Rattle.estimator_reply.specs.Results.{codeOf, resultOf, leftBy}
 use Rattle.estimator_reply.specs.declared.Answer.{Answer}
 use Rattle.estimator_reply.specs.declared.Answer.the-variants.{Set, Refused, Unread}
-use Rattle.tables.specs.Starred.{setWord}
+use Rattle.tables.specs.Starred.{wordWith}
 use Rattle.tables.specs.Tables.{Right}
 
 -- ---- the result
@@ -33,11 +33,11 @@ CodesRight = Right codeOf codeTable
 -- answers and how many bytes are lent, and the result: 50 is added in reading the step text, and 6 comes last
 abbrev pub resultTable : List ((Answer × ℕ) × ℕ)
 resultTable =
-    ((Set (setWord (1 ∷ 3 ∷ [])), setLength), 0)
-    ∷ ((Set (setWord (1 ∷ 3 ∷ [])), suc setLength), 0)
-    ∷ ((Set (setWord []), setLength), 0)
-    ∷ ((Set (setWord (1 ∷ 3 ∷ [])), setLength - 1), 6)
-    ∷ ((Set (setWord (1 ∷ 3 ∷ [])), 0), 6)
+    ((Set (wordWith (1 ∷ 3 ∷ [])), setLength), 0)
+    ∷ ((Set (wordWith (1 ∷ 3 ∷ [])), suc setLength), 0)
+    ∷ ((Set (wordWith []), setLength), 0)
+    ∷ ((Set (wordWith (1 ∷ 3 ∷ [])), setLength - 1), 6)
+    ∷ ((Set (wordWith (1 ∷ 3 ∷ [])), 0), 6)
     ∷ ((Refused (WrongForm 1), setLength), 102)
     ∷ ((Refused (WrongForm 1), 0), 102)
     ∷ ((Refused (NoSuchBus 2), setLength), 207)
@@ -66,14 +66,14 @@ setBytesTable =
 
 -- every row is right
 abbrev pub SetBytesRight : Type 0
-SetBytesRight = Right (λ bs. setBytes (setWord bs)) setBytesTable
+SetBytesRight = Right (λ bs. setBytes (wordWith bs)) setBytesTable
 
 -- answers and the bytes lent, and what these hold afterwards
 abbrev pub leftByTable : List ((Answer × List ℕ) × List ℕ)
 leftByTable =
-    ((Set (setWord (1 ∷ 2 ∷ [])), replicate setLength 9), 3 ∷ replicate (setLength - 1) 0)
-    ∷ ((Set (setWord (1 ∷ 2 ∷ [])), replicate setLength 9 ++ 5 ∷ 6 ∷ []), 3 ∷ replicate (setLength - 1) 0 ++ 5 ∷ 6 ∷ [])
-    ∷ ((Set (setWord (1 ∷ 2 ∷ [])), replicate (setLength - 1) 9), replicate (setLength - 1) 9)
+    ((Set (wordWith (1 ∷ 2 ∷ [])), replicate setLength 9), 3 ∷ replicate (setLength - 1) 0)
+    ∷ ((Set (wordWith (1 ∷ 2 ∷ [])), replicate setLength 9 ++ 5 ∷ 6 ∷ []), 3 ∷ replicate (setLength - 1) 0 ++ 5 ∷ 6 ∷ [])
+    ∷ ((Set (wordWith (1 ∷ 2 ∷ [])), replicate (setLength - 1) 9), replicate (setLength - 1) 9)
     ∷ ((Refused (ReasonFails 1), replicate setLength 9), replicate setLength 9)
     ∷ ((Unread (WrongForm 1), replicate setLength 9), replicate setLength 9)
     ∷ []

@@ -8,7 +8,7 @@ use Rattle.busset.specs.Held as held
 use Rattle.busset.specs.Bytes.{byteOf, setLength}
 use Rattle.basics.specs.Deciding.{Decides}
 use Rattle.tables.specs.Tables.{Right, Row, holds, fails}
-use Rattle.tables.specs.Starred.{setWord}
+use Rattle.tables.specs.Starred.{wordWith}
 use Rattle.tables.specs.Drawings.{set}
 
 -- ---- a word's set
@@ -68,7 +68,7 @@ byteTable =
 
 -- every row is right
 abbrev pub BytesRight : Type 0
-BytesRight = Right (λ q. byteOf (setWord (q .0)) (q .1)) byteTable
+BytesRight = Right (λ q. byteOf (wordWith (q .0)) (q .1)) byteTable
 
 -- ---- sets made from others
 

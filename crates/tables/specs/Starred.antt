@@ -31,9 +31,9 @@ pub record Drawing : Type 0 where
   pub units : List ℕ
 
 -- the word that holds the buses of a list
-abbrev pub setWord : List ℕ → SetWord
-setWord [] = emptyWord
-setWord (b ∷ bs) = hold (setWord bs) b
+abbrev pub wordWith : List ℕ → SetWord
+wordWith [] = emptyWord
+wordWith (b ∷ bs) = hold (wordWith bs) b
 
 -- the buses 1 to n, the highest first
 abbrev pub busesTo : ℕ → List ℕ
@@ -55,9 +55,9 @@ abbrev pub shortCase : Drawing → Case
 shortCase d = record {
   n = d .n;
   nbr = rowsFrom 1 (d .n) (d .lines);
-  zero = setWord (d .zeros);
-  site = setWord (busesTo (d .n));
-  units = setWord (d .units);
+  zero = wordWith (d .zeros);
+  site = wordWith (busesTo (d .n));
+  units = wordWith (d .units);
 }
 
 -- a case value with a row for each bus: after those that it has, rows with no neighbour
@@ -95,14 +95,14 @@ pub data StarredRow : Type 0 where
 
 -- the row's reply is the one that the call's promise asks
 abbrev pub StarredRight : StarredRow → Type 0
-StarredRight (observes d bs) = ObservedReply (drawnCase d) (observed.Set (setWord bs))
-StarredRight (figures d bs i j z) = FigureReply (drawnCase d) (setWord bs) i j (figured.Figure z)
+StarredRight (observes d bs) = ObservedReply (drawnCase d) (observed.Set (wordWith bs))
+StarredRight (figures d bs i j z) = FigureReply (drawnCase d) (wordWith bs) i j (figured.Figure z)
 StarredRight (fails d x) = ReplayReply (drawnCase d) (x ∷ []) (replayed.Refused (ReasonFails 1))
-StarredRight (unconfirmed d bs) = VerdictReply (drawnCase d) (verdict.Unconfirmed (setWord bs))
+StarredRight (unconfirmed d bs) = VerdictReply (drawnCase d) (verdict.Unconfirmed (wordWith bs))
 StarredRight (adds d budget xs) =
     (entry : List ℕ) → length xs ≤ length entry
     → GreedyReply (drawnCase d) budget entry (xs ++ drop (length xs) entry) (greedy.Added (length xs))
-StarredRight (fewestIs d budget bs) = FewestReply (drawnCase d) budget (fewest.Sites (setWord bs))
+StarredRight (fewestIs d budget bs) = FewestReply (drawnCase d) budget (fewest.Sites (wordWith bs))
 StarredRight (uncovered d budget) = FewestReply (drawnCase d) budget (fewest.Refused NoCover)
 
 -- and so for every row

@@ -9,7 +9,7 @@ use Rattle.refusals.specs.declared.Refusal.the-variants.{NoRoom}
 use Rattle.list_follow.specs.declared.Wove.{Wove}
 use Rattle.list_follow.specs.declared.Wove.the-variants as wove
 use Rattle.demands.specs.Demand3.{Weaves}
-use Rattle.tables.specs.Starred.{setWord, drawnCase, seven}
+use Rattle.tables.specs.Starred.{wordWith, drawnCase, seven}
 use Rattle.tables.specs.Tables.{Right, Row, holds, fails}
 use Rattle.tables.specs.Drawings.{set, own, near, zeroAt, sevenGrid}
 use Rattle.tables.specs.Steps.{derivationSteps}
@@ -103,12 +103,12 @@ WeavesSent = Weaves (drawnCase (seven (3 ∷ []))) desks sent
 -- the same of the call
 abbrev pub demand3Table : List Row
 demand3Table =
-    holds (WeavesSent (own 7 ∷ own 8 ∷ own 9 ∷ []) (own 3 ∷ near 2 3 ∷ own 9 ∷ []) (wove.Written 2 (setWord (2 ∷ 3 ∷ []))))
+    holds (WeavesSent (own 7 ∷ own 8 ∷ own 9 ∷ []) (own 3 ∷ near 2 3 ∷ own 9 ∷ []) (wove.Written 2 (wordWith (2 ∷ 3 ∷ []))))
     -- it never refuses
     ∷ fails (WeavesSent [] [] (wove.Refused NoRoom))
     -- nothing is woven
-    ∷ fails (WeavesSent (own 7 ∷ own 8 ∷ []) (own 7 ∷ own 8 ∷ []) (wove.Written 0 (setWord [])))
+    ∷ fails (WeavesSent (own 7 ∷ own 8 ∷ []) (own 7 ∷ own 8 ∷ []) (wove.Written 0 (wordWith [])))
     -- the count is made up, or the set
-    ∷ fails (WeavesSent (own 7 ∷ own 8 ∷ own 9 ∷ []) (own 3 ∷ near 2 3 ∷ own 9 ∷ []) (wove.Written 3 (setWord (2 ∷ 3 ∷ []))))
-    ∷ fails (WeavesSent (own 7 ∷ own 8 ∷ own 9 ∷ []) (own 3 ∷ near 2 3 ∷ own 9 ∷ []) (wove.Written 2 (setWord (3 ∷ []))))
+    ∷ fails (WeavesSent (own 7 ∷ own 8 ∷ own 9 ∷ []) (own 3 ∷ near 2 3 ∷ own 9 ∷ []) (wove.Written 3 (wordWith (2 ∷ 3 ∷ []))))
+    ∷ fails (WeavesSent (own 7 ∷ own 8 ∷ own 9 ∷ []) (own 3 ∷ near 2 3 ∷ own 9 ∷ []) (wove.Written 2 (wordWith (3 ∷ []))))
     ∷ []
