@@ -11,6 +11,7 @@ use Rattle.busset.specs.Held.{SetWord, emptyWord}
 use Rattle.basics.proofs.Tests.{refutes}
 use Rattle.busset.proofs.Members.{out-of}
 use Rattle.step.specs.declared.Reason.the-variants.{OwnUnit, NeighbourOf, ZeroInjection}
+use Rattle.step.specs.Reasons.{turnOf}
 use Rattle.step.proofs.Reasons.{own-turn, neighbour-turn, zero-turn}
 use Rattle.rules.specs.Grids.{Grid, Proper}
 use Rattle.rules.specs.Steps.{Holds}
@@ -18,7 +19,7 @@ use Rattle.grid.specs.Cases.{gridWith}
 use Rattle.list_derive.specs.Searching.{NextAnswer}
 use Rattle.list_derive.specs.declared.searching.Next.{Next}
 use Rattle.list_derive.specs.declared.searching.Next.the-variants.{Take, Nothing}
-use Rattle.list_derive.proofs.Nexting.{Lacks, lacks-more, names-none, fails-none, fails-alone, fails-named, none-holds}
+use Rattle.list_derive.proofs.Nexting.{Lacks, lacks-more, names-none, FailsBefore, fails-none, fails-alone, fails-named, none-holds}
 use Rattle.list_derive.proofs.Nexting.{Clear, clear-none, clear-more, finished-by, next-by, first-alone, first-named}
 use Rattle.list_derive.proofs.Siteless.{siteless-proper, next-sites}
 use borrow.Author.Needs.{needs}
@@ -65,6 +66,19 @@ answered c r h sites = next-sites (c .args .n) (c .args .nbr .now) (c .args .zer
 new : (c : tie.Then1 Inv-loop μ-loop Inv-loop2 μ-loop2 Inv-search μ-search)
     → let at = c .before .before .before in Out (setOf (at .before .args .s)) (at .search .b)
 new c = out-of _ _ (refutes (c .before .has .ensures) (not-true _ (c .if1 .taken)))
+
+-- past the part for own units, and past that for neighbours: the reasons of their turns fail
+past-own : (c : tie.Else2 Inv-loop μ-loop Inv-loop2 μ-loop2 Inv-search μ-search)
+    → let at = c .before .before .before .before .before in
+    FailsBefore (asked (at .before)) (setOf (at .before .args .s)) (at .search .b) (suc (turnOf OwnUnit))
+past-own c = fails-alone own-turn (fails-none _ _ _) (refutes (c .before .has2 .ensures) (c .if2 .left))
+
+past-neighbours : (c : tie.After-loop Inv-loop μ-loop Inv-loop2 μ-loop2 Inv-search μ-search)
+    → let at = c .before .before .before .before .before .before .before in
+    FailsBefore (asked (at .before)) (setOf (at .before .args .s)) (at .search .b) (suc (turnOf (NeighbourOf 0)))
+past-neighbours c =
+    let at = c .before .before .before .before .before .before .before in
+    fails-named neighbour-turn (proper (at .before)) (past-own (c .before .before)) (c .loop-test .left) (c .before .loop .inv .3)
 
 add-end : tie.Need-add-end Inv-loop μ-loop Inv-loop2 μ-loop2 Inv-search μ-search
 add-end c = search needs
@@ -155,23 +169,20 @@ returns-2 c =
 
 returns-3 : tie.Need-returns-3 Inv-loop μ-loop Inv-loop2 μ-loop2 Inv-search μ-search
 returns-3 c =
-    let at-own = c .before .before .before .before in
-    let at = at-own .before .before .before .before .before in
-    let own = fails-alone own-turn (fails-none _ _ _) (refutes (at-own .before .has2 .ensures) (at-own .if2 .left)) in
+    let past = c .before .before .before .before in
+    let at = past .before .before .before .before .before in
     answered (at .before) (Take _)
-    (next-by (NeighbourOf _) (at .search .inv .3) (new (at-own .before .before)) (c .before .by-unit .ensures .yes (c .if3 .taken))
-    (first-named neighbour-turn own (c .before .before .before .loop .inv .3)))
+    (next-by (NeighbourOf _) (at .search .inv .3) (new (past .before .before)) (c .before .by-unit .ensures .yes (c .if3 .taken))
+    (first-named neighbour-turn (past-own past) (c .before .before .before .loop .inv .3)))
 
 returns-4 : tie.Need-returns-4 Inv-loop μ-loop Inv-loop2 μ-loop2 Inv-search μ-search
 returns-4 c =
-    let at-near = c .before .before .before .before in
-    let at-own = at-near .before .before in
-    let at = at-own .before .before .before .before .before in
-    let own = fails-alone own-turn (fails-none _ _ _) (refutes (at-own .before .has2 .ensures) (at-own .if2 .left)) in
-    let near = fails-named neighbour-turn (proper (at .before)) own (at-near .loop-test .left) (at-near .before .loop .inv .3) in
+    let past = c .before .before .before .before in
+    let at = past .before .before .before .before .before .before .before in
     answered (at .before) (Take _)
-    (next-by (ZeroInjection _) (at .search .inv .3) (new (at-own .before .before)) (c .before .by-zero .ensures .yes (c .if4 .taken))
-    (first-named zero-turn near (c .before .before .before .loop2 .inv .3)))
+    (next-by (ZeroInjection _) (at .search .inv .3) (new (past .before .before .before .before))
+    (c .before .by-zero .ensures .yes (c .if4 .taken))
+    (first-named zero-turn (past-neighbours past) (c .before .before .before .loop2 .inv .3)))
 
 pub next-step-spec : {M : Type 1} → statement M
 next-step-spec =
