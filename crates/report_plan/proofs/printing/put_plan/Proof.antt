@@ -1,7 +1,8 @@
--- Four texts, put one after another, are the plan. The first ends by byte 11 and the units take at most 15 bytes a bus.
-use Prim.Native.Nat.{_≤_}
+-- Four texts, put one after another, are the plan. The first ends after 7 bytes and a number, and the units take at most rowRoom bytes.
+use Prim.Native.Nat.{_+_, _≤_}
 use native.Mathlib.Omega.{arith}
 use Rattle.text_field.specs.Split.{join}
+use Rattle.text_field.specs.Number.{mostDigits}
 use Rattle.text_field.proofs.Digits.{text-length}
 use Rattle.case_read.proofs.Lengths.{members-most}
 use Rattle.report_plan.proofs.Reports.{plan-put}
@@ -19,7 +20,7 @@ count-requires c κs = search needs
 put-tagged-requires : tie.Need-put-tagged-requires
 put-tagged-requires c κs = search needs
 
-after-tagged : (c : tie.After-put-tagged) → c .put-tagged .result ≤ 11
+after-tagged : (c : tie.After-put-tagged) → c .put-tagged .result ≤ 7 + mostDigits
 after-tagged c = omega (arith, c .put-tagged .ensures .next, text-length (c .before .count .result))
 
 put-byte-requires : tie.Need-put-byte-requires
