@@ -25,6 +25,10 @@ gridWith n rows zeros sites units = record {
 abbrev pub bareGrid : ℕ → Rows → SetWord → Grid
 bareGrid n rows zeros = gridWith n rows zeros emptyWord emptyWord
 
+-- the case value of these parts
+abbrev pub caseOf : ℕ → Rows → SetWord → SetWord → SetWord → Case
+caseOf n rows zeros sites units = record { n = n; nbr = rows; zero = zeros; site = sites; units = units }
+
 -- the grid that a case value says
 abbrev pub gridOf : Case → Grid
 gridOf c = gridWith (c .n) (c .nbr) (c .zero) (c .site) (c .units)

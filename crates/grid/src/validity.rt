@@ -7,11 +7,11 @@ ghost use Rattle.basics.specs.Deciding.{Decides};
 ghost use Rattle.busset.specs.Sets.{Bus, width};
 ghost use Rattle.rules.specs.Grids.{Line, lineCount};
 ghost use Rattle.grid.specs.Rows.{neighbours};
-ghost use Rattle.grid.specs.Cases.{Valid, Lines, LinesAt};
-use crate::Case;
+ghost use Rattle.grid.specs.Cases.{caseOf, Valid, Lines, LinesAt};
 use crate::Rows;
 use crate::limits::MOST_BUSES;
 use crate::limits::MOST_LINES;
+use busset::BusSet;
 
 // Whether a and b, joined as seen from a, have a line.
 pub fn is_line(n: usize, nbr: &Rows, a: usize, b: usize) -> bool
@@ -70,28 +70,28 @@ pub fn count_lines(n: usize, nbr: &Rows) -> usize
     sum
 }
 
-pub fn is_valid(case: Case) -> bool
-    ensures { λ r. ⌜ Decides (Valid case) r ⌝ }
+// Whether the case of these parts is valid.
+pub fn is_valid(n: usize, nbr: &Rows, zero: BusSet, site: BusSet, units: BusSet) -> bool
+    requires { ⌜ length (now nbr) ≡ mostBuses ⌝ }
+    ensures { λ r. ⌜ Decides (Valid (caseOf n (now (nbr .entry)) zero site units)) r ⌝ }
 {
-    let n = case.n;
     if n < 1 {
         return false;
     }
     if MOST_BUSES < n {
         return false;
     }
-    if !busset::is_within(case.zero, n) {
+    if !busset::is_within(zero, n) {
         return false;
     }
-    if !busset::is_within(case.site, n) {
+    if !busset::is_within(site, n) {
         return false;
     }
-    if !busset::is_within(case.units, n) {
+    if !busset::is_within(units, n) {
         return false;
     }
-    let nbr = case.nbr;
-    if !all_lines(n, &nbr) {
+    if !all_lines(n, nbr) {
         return false;
     }
-    count_lines(n, &nbr) <= MOST_LINES
+    count_lines(n, nbr) <= MOST_LINES
 }

@@ -1,3 +1,5 @@
 pub mod Rows
-pub mod Beginning
+pub mod Asking
+pub mod Lending
+pub mod Followed
 pub mod Promised

@@ -9,9 +9,12 @@ use types.Kit.{Given}
 use denote.Laws.{Is, Makes}
 use denote.Struct.Laws as LL
 use denote.Enum.Laws as EL
+use denote.Array.{Array}
+use denote.Builtin.{u64}
+use denote.RattleType.{RattleType}
+use Rattle.grid.specs.Limits.{mostBuses}
 use Rattle.grid.specs.declared.Case.{Case}
 use Rattle.list_follow.specs.declared.Following.{Following}
-use Rattle.list_value.specs.declared.StepList.{StepList}
 use Rattle.list_follow.specs.declared.Task.{Task}
 use Rattle.list_follow.specs.declared.Task.the-variants.{Replay, Weave}
 use Rattle.list_follow.specs.declared.Wove.{Wove}
@@ -20,14 +23,16 @@ use Rattle.grid.proofs.Case as case
 use Rattle.grid.proofs.Case.Laws as case′
 use Rattle.list_follow.proofs.Following as following
 use Rattle.list_follow.proofs.Following.Laws as following′
-use Rattle.list_value.proofs.StepList as list
-use Rattle.list_value.proofs.StepList.Laws as list′
 use Rattle.list_follow.proofs.Task as task
 use Rattle.list_follow.proofs.Task.Laws as task′
 use Rattle.list_follow.proofs.Wove as wove
 use Rattle.list_follow.proofs.Wove.Laws as wove′
 use Rattle.list_follow.proofs.Replayed as replayed
 use Rattle.list_follow.proofs.Replayed.Laws as replayed′
+
+-- the neighbours of all buses, as their type is lent
+abbrev pub Rows : RattleType
+Rows = Array u64 mostBuses
 
 -- a task's fact
 pub task-is : (k : Task) → Is task.the-row k (EL.vals task.the-type task′.the-laws k)
@@ -40,9 +45,6 @@ module _ {M : Type 1} (𝓤 : URA M) (H : Heap 𝓤) (A : Atoms 𝓤) where
 
   pub following-made : Makes 𝓤 H A following.the-row (Is following.the-row)
   following-made = LL.makes following.the-type following′.the-plain 𝓤 H A
-
-  pub list-made : Makes 𝓤 H A list.the-row (Is list.the-row)
-  list-made = LL.makes list.the-type list′.the-plain 𝓤 H A
 
   pub task-made : Makes 𝓤 H A task.the-row (Is task.the-row)
   task-made = EL.makes task.the-type task′.the-plain 𝓤 H A
@@ -59,9 +61,6 @@ module _ {M : Type 1} (𝓤 : URA M) (H : Heap 𝓤) (A : Atoms 𝓤) where
 
     pub following-typed : (x : Following) (v : Val) → Is following.the-row x (v ∷ []) → T (hasTy following′.mir v) × WT v
     following-typed x v is = LL.lawful following.the-type following′.the-laws 𝓤 H A W .typed x (v ∷ []) is .0
-
-    pub list-typed : (x : StepList) (v : Val) → Is list.the-row x (v ∷ []) → T (hasTy list′.mir v) × WT v
-    list-typed x v is = LL.lawful list.the-type list′.the-laws 𝓤 H A W .typed x (v ∷ []) is .0
 
     pub task-typed : (x : Task) (v : Val) → Is task.the-row x (v ∷ []) → T (hasTy task′.mir v) × WT v
     task-typed x v is = EL.lawful task.the-type task′.the-laws 𝓤 H A W tt .typed x (v ∷ []) is .0

@@ -51,7 +51,7 @@ pub fn derive(n: usize, nbr: &Rows, zero: BusSet, units: BusSet) -> StepList
 pub fn derivation(case: Case) -> Derived
     ensures { λ r. ⌜ DerivationReply case r ⌝ }
 {
-    if !grid::validity::is_valid(case) {
+    if !grid::validity::is_valid(case.n, &case.nbr, case.zero, case.site, case.units) {
         let none = no_steps();
         return Derived {
             answer: DerivationAnswer::Refused(Refusal::InvalidCase),

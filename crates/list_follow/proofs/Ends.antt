@@ -1,26 +1,23 @@
 -- How a list that was followed ends: whether it is finished, and that replay and weaving answer what they promise.
 use mathlib.Core.Path.{_≡_, refl, sym, ap, _∙_, subst, subst⁻¹}
-use mathlib.Core.List.{List, [], _∷_, _++_}
+use mathlib.Core.List.{List, [], _∷_}
 use mathlib.Core.Logic.{inl}
 use mathlib.Core.Bool.{Bool, true, false, cond}
-use Prim.Native.Nat.{ℕ, _-_, _≤_, _<_}
+use Prim.Native.Nat.{ℕ, _≤_, _<_}
 use native.Mathlib.Omega.{arith}
 use lib.Dec.{leb}
-use lib.ListN.{length, drop, replicate, length-append}
-use lib.Seq.{take-at}
+use lib.ListN.{length}
+use lib.Seq.{take-all}
 use borrow.Author.Tests.{le-leb, lt-leb}
-use Rattle.grid.specs.Limits.{mostBuses}
 use Rattle.basics.specs.Deciding.{Decides}
-use Rattle.busset.specs.Sets.{Sub, setOf}
+use Rattle.busset.specs.Sets.{Sub, Counted, width, size, empty, setOf}
 use Rattle.basics.proofs.Tests.{decides-le, decides-by, decides-no, refutes}
 use Rattle.busset.proofs.Members.{sub-of, sub-antisym}
-use Rattle.busset.proofs.Sizes.{size-most}
-use Rattle.step.specs.Records.{noStep, writtenInto, putFirst}
+use Rattle.step.specs.Records.{writtenInto}
 use Rattle.step.specs.declared.Step.{Step}
-use Rattle.step.proofs.Records.{put-first}
 use Rattle.rules.specs.Grids.{Grid}
 use Rattle.rules.specs.Observation.{Closed}
-use Rattle.rules.specs.Steps.{Finished, reached}
+use Rattle.rules.specs.Steps.{Finished}
 use Rattle.rules.specs.Weaving.{woven}
 use Rattle.rules.proofs.Lists.{finished-closed, closed-finished}
 use Rattle.grid.specs.declared.Case.{Case}
@@ -31,11 +28,8 @@ use Rattle.refusals.specs.Refusals.{Check, checkThat, Passed}
 use Rattle.refusals.proofs.Orders.{itself, passed-then, failed-sooner, failed-later}
 use Rattle.grid.specs.Near.{WithNeighbours}
 use Rattle.observe.specs.Passes.{Swept}
-use Rattle.list_value.specs.Lists.{nthOf, listOf}
-use Rattle.list_value.specs.declared.StepList.{StepList}
-use Rattle.list_value.proofs.Listing.{nth-in}
 use Rattle.list_follow.specs.Following.{listChecks, StandingBy, Carries, StandsAfter}
-use Rattle.list_follow.specs.Replies.{replayChecks, WeaveReply, AnswersReplay, woveAt, countWritten, PutSteps}
+use Rattle.list_follow.specs.Replies.{replayChecks, WeaveReply, AnswersReplay, woveAt, countWritten, CanPut, putWoven}
 use Rattle.list_follow.specs.declared.Task.the-variants.{Weave}
 use Rattle.list_follow.specs.declared.Standing.{Standing}
 use Rattle.list_follow.specs.declared.Standing.the-variants.{Good, Bad}
@@ -43,7 +37,7 @@ use Rattle.list_follow.specs.declared.Following.{Following}
 use Rattle.list_follow.specs.declared.Replayed.the-variants as replayed
 use Rattle.list_follow.specs.declared.Wove.{Wove}
 use Rattle.list_follow.specs.declared.Wove.the-variants as wove
-use Rattle.list_follow.proofs.Joining.{all-within, woven-reaches, woven-size}
+use Rattle.list_follow.proofs.Joining.{each-bus, woven-reaches, woven-size}
 
 -- ---- finished is closed: it has what O1 gives, and a sweep of O2 changes nothing
 
@@ -78,78 +72,78 @@ ended-bad {c} e xs s = subst (StandingBy (replayChecks c xs)) e (s .standing)
 
 -- ---- weaving
 
-pub settled-fits : (st : Following) (room : ℕ) → st .standing ≡ Good → st .list .n ≤ room
-    → wove.Written (st .list .n) (st .set) ≡ woveAt st room (st .standing)
-settled-fits st room e l =
-    ap (λ (b : Bool). cond b (wove.Written (st .list .n) (st .set)) (wove.Refused NoRoom)) (sym (le-leb (st .list .n) room l))
-    ∙ ap (woveAt st room) (sym e)
+pub settled-fits : (st : Following) {room n : ℕ} → Counted width (setOf (st .set)) n → st .standing ≡ Good → n ≤ room
+    → wove.Written n (st .set) ≡ woveAt st room (st .standing)
+settled-fits st {room} {n} counted e l =
+    ap (λ (b : Bool). cond b (wove.Written n (st .set)) (wove.Refused NoRoom)) (sym (le-leb n room l))
+    ∙ ap (λ (k : ℕ). cond (leb k room) (wove.Written k (st .set)) (wove.Refused NoRoom)) (counted .is) ∙ ap (woveAt st room) (sym e)
 
-pub settled-full : (st : Following) (room : ℕ) → st .standing ≡ Good → room < st .list .n
+pub settled-full : (st : Following) {room n : ℕ} → Counted width (setOf (st .set)) n → st .standing ≡ Good → room < n
     → wove.Refused NoRoom ≡ woveAt st room (st .standing)
-settled-full st room e l =
-    ap (λ (b : Bool). cond b (wove.Written (st .list .n) (st .set)) (wove.Refused NoRoom)) (sym (lt-leb (st .list .n) room l))
-    ∙ ap (woveAt st room) (sym e)
+settled-full st {room} {n} counted e l =
+    ap (λ (b : Bool). cond b (wove.Written n (st .set)) (wove.Refused NoRoom)) (sym (lt-leb n room l))
+    ∙ ap (λ (k : ℕ). cond (leb k room) (wove.Written k (st .set)) (wove.Refused NoRoom)) (counted .is) ∙ ap (woveAt st room) (sym e)
 
 pub settled-bad : (st : Following) (room : ℕ) {q : Refusal} → st .standing ≡ Bad q → wove.Refused q ≡ woveAt st room (st .standing)
 settled-bad st room e = ap (woveAt st room) (sym e)
 
--- no more is written than there is room for
-pub count-fits : (st : Following) (room : ℕ) (w : Standing) → countWritten (woveAt st room w) ≤ room
-count-fits st room Good = go (leb (st .list .n) room) (decides-le (st .list .n) room)
-  where
-    go : (b : Bool) → Decides (st .list .n ≤ room) b
-        → countWritten (cond b (wove.Written (st .list .n) (st .set)) (wove.Refused NoRoom)) ≤ room
-    go true d = d .yes refl
-    go false d = omega arith
-count-fits st room (Bad q) = omega arith
-
--- a list by value, put into records
-put-list : (ys before : List Step) → length ys ≤ mostBuses → length ys ≤ length before
-    → putFirst (length ys) (nthOf (listOf ys)) before ≡ writtenInto ys before
-put-list ys before few room =
-    let blanks = replicate (mostBuses - length ys) noStep in
-    put-first (listOf ys .steps) before (nthOf (listOf ys)) (length ys) (λ i l. sym (nth-in (listOf ys) i (omega arith)))
-    (omega (arith, length-append ys blanks)) room
-    ∙ ap (λ (zs : List Step). zs ++ drop (length ys) before) (take-at ys blanks (length ys) refl)
-
-module _ (c : Case) (st : Following) (xs before after : List Step) where
+module _ (c : Case) (st : Following) (xs before : List Step) where
   abbrev checks : List Check
   checks = listChecks Weave c (length xs) xs
 
   abbrev room : List Check
   room = checkThat (length (woven xs) ≤ length before) 6 0 ∷ []
 
-  -- the answer r is right where the records hold as many steps of the list as it says
+  -- how many buses are reached
+  abbrev count : ℕ
+  count = size (setOf (st .set))
+
+  -- weaving writes one step for each bus that the list reaches
+  counts : Carries xs st → count ≡ length (woven xs)
+  counts h = ap size (h .set) ∙ sym (woven-size xs)
+
+  -- as many steps as r says can be put, and where they are put, r is right
   abbrev Right : Wove → Type 0
-  Right r = after ≡ putFirst (countWritten r) (nthOf (st .list)) before → WeaveReply c xs before after r
+  Right r = CanPut (countWritten r) xs before
+      × ((after : List Step) → after ≡ putWoven (countWritten r) xs before → WeaveReply c xs before after r)
 
-  count : Carries xs st → st .list .n ≡ length (woven xs)
-  count h = ap (λ (l : StepList). l .n) (h .list)
+  none : CanPut 0 xs before
+  none = record { buses = λ l. absurd (omega arith); some = omega arith; room = omega arith }
 
-  fits : Passed checks → Carries xs st → st .list .n ≤ length before → Right (wove.Written (st .list .n) (st .set))
-  fits ok h l put =
-      let enough : length (woven xs) ≤ length before = omega (arith, l, count h) in
-      let few : length (woven xs) ≤ mostBuses =
-      omega (arith, woven-size xs, size-most (c .n) (reached xs) (all-within Weave c (length xs) xs ok), ok .0 .buses .most) in (
-        passed-then checks room ok (enough, tt),
-        count h,
-        h .set ∙ sym (woven-reaches xs),
-        put ∙ ap (λ (l : StepList). putFirst (l .n) (nthOf l) before) (h .list) ∙ put-list (woven xs) before few enough,
-      )
+  fits : Passed checks → Carries xs st → count ≤ length before → Right (wove.Written count (st .set))
+  fits ok h l = (
+    record {
+      buses = λ p. each-bus Weave c 1 empty xs (ok .0 .buses .most) (ok .1 .1);
+      some = omega (arith, counts h);
+      room = l;
+    },
+    λ after put. (
+      passed-then checks room ok (omega (arith, l, counts h), tt),
+      counts h,
+      h .set ∙ sym (woven-reaches xs),
+      put ∙ ap (λ (ys : List Step). writtenInto ys before) (take-all count (woven xs) (omega (arith, counts h))),
+    ),
+  )
 
-  full : Passed checks → Carries xs st → (st .list .n ≤ length before → ⊥) → Right (wove.Refused NoRoom)
-  full ok h f put = (failed-later checks room NoRoom ok (inl (λ l. f (omega (arith, count h, l)), itself NoRoom)), put)
+  full : Passed checks → Carries xs st → (count ≤ length before → ⊥) → Right (wove.Refused NoRoom)
+  full ok h f =
+      (none, λ after put. (failed-later checks room NoRoom ok (inl (λ l. f (omega (arith, counts h, l)), itself NoRoom)), put))
 
   right : (w : Standing) → StandingBy checks w → (w ≡ Good → Carries xs st) → Right (woveAt st (length before) w)
-  right Good ok h = go (leb (st .list .n) (length before)) (decides-le (st .list .n) (length before))
+  right Good ok h = go (leb count (length before)) (decides-le count (length before))
     where
-      go : (b : Bool) → Decides (st .list .n ≤ length before) b
-          → Right (cond b (wove.Written (st .list .n) (st .set)) (wove.Refused NoRoom))
+      go : (b : Bool) → Decides (count ≤ length before) b → Right (cond b (wove.Written count (st .set)) (wove.Refused NoRoom))
       go true d = fits ok (h refl) (d .yes refl)
       go false d = full ok (h refl) (refutes d refl)
-  right (Bad q) f h = λ put. (failed-sooner checks room q f, put)
+  right (Bad q) f h = (none, λ after put. (failed-sooner checks room q f, put))
 
-pub weave-law : {c : Case} {st : Following} (xs before after : List Step) (r : Wove) → StandsAfter c Weave (length xs) xs st
-    → PutSteps st before after r → WeaveReply c xs before after r
-weave-law {c} {st} xs before after r s p =
-    subst⁻¹ (Right c st xs before after) (p .settled) (right c st xs before after (st .standing) (s .standing) (s .carries)) (p .records)
+  settles : {r : Wove} → StandsAfter c Weave (length xs) xs st → r ≡ woveAt st (length before) (st .standing) → Right r
+  settles s e = subst⁻¹ Right e (right (st .standing) (s .standing) (s .carries))
+
+  pub can-put : {r : Wove} → StandsAfter c Weave (length xs) xs st → r ≡ woveAt st (length before) (st .standing)
+      → CanPut (countWritten r) xs before
+  can-put s e = settles s e .0
+
+  pub weave-law : {r : Wove} (after : List Step) → StandsAfter c Weave (length xs) xs st → r ≡ woveAt st (length before) (st .standing)
+      → after ≡ putWoven (countWritten r) xs before → WeaveReply c xs before after r
+  weave-law after s e = settles s e .1 after

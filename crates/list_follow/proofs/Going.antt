@@ -1,35 +1,34 @@
 -- One step further: each way that the next step can go, for replay and for weaving; and step after step.
 use mathlib.Core.Path.{_≡_, refl, sym, ap, _∙_, subst, subst⁻¹}
-use mathlib.Core.List.{List, [], _∷_, _++_, append-nil, append-assoc}
+use mathlib.Core.List.{List, [], _∷_, _++_, append-nil}
 use mathlib.Core.Bool.{Bool, cond}
 use mathlib.Core.Logic.{inl, inr, ⊎-elim}
-use Prim.Native.Nat.{ℕ, suc, _≤_, _<_}
+use Prim.Native.Nat.{ℕ, suc, _+_, _≤_, _<_}
+use native.Mathlib.Numerals.{add-one}
 use native.Mathlib.Omega.{arith}
 use lib.Dec.{eqb}
-use lib.ListN.{length, length-append}
+use lib.ListN.{length, take, getD, length-append, length-take}
+use lib.Seq.{take-suc, take-all}
 use borrow.Author.Tests.{eq-eqb, ne-eqb}
-use Rattle.busset.specs.Sets.{Bus, In, Out, With, add, setOf}
-use Rattle.busset.proofs.Members.{in-or, with-add, add-of, add-again}
-use Rattle.busset.proofs.Sizes.{size-add, size-most}
+use Rattle.busset.specs.Sets.{In, Out, With, add, setOf}
+use Rattle.busset.proofs.Members.{in-or, with-add, add-again}
+use Rattle.step.specs.Records.{noStep}
 use Rattle.step.specs.declared.Step.{Step}
 use Rattle.rules.specs.Steps.{reached}
-use Rattle.rules.specs.Weaving.{unlessSeen, woven}
 use Rattle.grid.specs.declared.Case.{Case}
 use Rattle.grid.specs.Limits.{mostSteps, mostBuses}
+use Rattle.grid.specs.Cases.{gridOf}
 use Rattle.refusals.specs.declared.Refusal.{Refusal}
 use Rattle.refusals.specs.Refusals.{numberOf, Check, Passed, Failed}
 use Rattle.refusals.proofs.Orders.{failed-sooner}
 use Rattle.observe.specs.Testing.{stepChecksAt}
-use Rattle.list_value.specs.Lists.{listOf, pushed}
-use Rattle.list_value.specs.declared.StepList.{StepList}
-use Rattle.list_value.proofs.Listing.{pushed-list}
 use Rattle.list_follow.specs.Following.{checksFrom, listChecks, StandingBy, Carries, StandsAfter, Follows, afterRefusal}
 use Rattle.list_follow.specs.declared.Task.{Task}
 use Rattle.list_follow.specs.declared.Task.the-variants.{Replay, Weave}
 use Rattle.list_follow.specs.declared.Standing.{Standing}
 use Rattle.list_follow.specs.declared.Standing.the-variants.{Good, Bad}
 use Rattle.list_follow.specs.declared.Following.{Following}
-use Rattle.list_follow.proofs.Joining.{standing-then, list-checks-append, reached-append, all-within, woven-append, woven-size}
+use Rattle.list_follow.proofs.Joining.{standing-then, list-checks-append, reached-append}
 
 -- ---- a step that the test refuses
 
@@ -49,15 +48,18 @@ other-refuses Weave q n = ap (λ (b : Bool). cond b Good (Bad q)) (sym (ne-eqb (
 pub follows-none : (c : Case) (st : Following) → Follows c st [] st
 follows-none c st = record { leads = λ task count ys l s. subst⁻¹ (λ (zs : List Step). StandsAfter c task count zs st) (append-nil ys) s }
 
-pub follows-next : {c : Case} {st r last : Following} {x : Step} {xs : List Step} → Follows c st (x ∷ []) r → Follows c r xs last
-    → Follows c st (x ∷ xs) last
-follows-next {c} {st} {r} {last} {x} {xs} f g = record {
-  leads = λ task count ys l s.
-      let e = append-assoc ys (x ∷ []) xs in
-      subst (λ (zs : List Step). StandsAfter c task count zs last) e
-      (g .leads task count (ys ++ (x ∷ [])) (subst⁻¹ (λ (zs : List Step). length zs ≤ count) e l)
-      (f .leads task count ys (omega (arith, l, length-append ys (x ∷ xs), length-append ys (x ∷ []))) s));
-}
+-- the steps xs, one after another: i of them are followed
+pub stands-more : {c : Case} {task : Task} (xs : List Step) (i : ℕ) {st r : Following} → StandsAfter c task (length xs) (take i xs) st
+    → i < length xs → Follows c st (getD xs i noStep ∷ []) r → StandsAfter c task (length xs) (take (i + 1) xs) r
+stands-more {c} {task} xs i {st} {r} s l f =
+    let taken : take i xs ++ (getD xs i noStep ∷ []) ≡ take (i + 1) xs =
+    sym (take-suc xs i noStep l) ∙ ap (λ (k : ℕ). take k xs) (sym (add-one i)) in
+    subst (λ (ys : List Step). StandsAfter c task (length xs) ys r) taken
+    (f .leads task (length xs) (take i xs) (omega (arith, ap length taken, length-take (i + 1) xs)) s)
+
+pub stands-all : {c : Case} {task : Task} (xs : List Step) (i : ℕ) {st : Following} → StandsAfter c task (length xs) (take i xs) st
+    → length xs ≤ i → StandsAfter c task (length xs) xs st
+stands-all {c} {task} xs i {st} s l = subst (λ (ys : List Step). StandsAfter c task (length xs) ys st) (take-all i xs l) s
 
 good-or-bad : {q : Refusal} {w : Standing} → w ≡ Bad q → w ≡ Good → ⊥
 good-or-bad {q} {w} b g = let z : _≡_ {A = ℕ} 0 1 = cc in omega arith
@@ -126,45 +128,22 @@ module _ (c : Case) (st : Following) (x : Step) (k : ℕ) (good : st .standing �
 
   -- ---- the step is allowed
 
-  module _ (ok : Passed (stepChecksAt c k (setOf (st .set)) x)) where
-    new : (ys : List Step) → Carries ys st → Out (reached ys) (x .bus)
-    new ys h = subst (λ (s : ℕ). Out s (x .bus)) (h .set) (ok .1 .0)
-
-    -- the list has as many steps as buses are reached, and one of the grid's is not
-    few : (task : Task) (count : ℕ) (ys : List Step) → Here c st task count ys → length (woven ys) < mostBuses
-    few task count ys h =
-        omega (
-          arith,
-          woven-size ys,
-          size-add (reached ys) (x .bus) (new ys (h .carries)),
-          size-most (c .n) (add (reached ys) (x .bus))
-              (add-of {P = Bus (c .n)} (reached ys) (x .bus) (ok .0 .bus) (all-within task c count ys (h .passed))),
-          h .passed .0 .buses .most,
-        )
-
-    pub room-left : {r : Following} → mostBuses ≤ st .list .n → Follows c st (x ∷ []) r
-    room-left {r} l =
-        one-further good
-        (λ task count ys h. absurd (omega (arith, few task count ys h, ap (λ (m : StepList). m .n) (h .carries .list))))
-
+  module _ (ok : Passed (stepChecksAt (gridOf c) k (setOf (st .set)) x)) where
     allowed-passes : (task : Task) → Passed (checksFrom task c k (setOf (st .set)) (x ∷ []))
     allowed-passes Replay = ok
     allowed-passes Weave = (ok .0, (λ o. ok .1 .1 .0, tt))
 
-    pub taken : {set : ℕ} {list : StepList} → With (setOf (st .set)) (x .bus) (setOf set) → list ≡ pushed (st .list) x
-        → Follows c st (x ∷ []) (record { task = st .task; set = set; read = k; standing = Good; list = list })
-    taken {set} {list} with-x pushed-x = one-further good (λ task count ys h.
+    pub taken : {set : ℕ} → With (setOf (st .set)) (x .bus) (setOf set)
+        → Follows c st (x ∷ []) (record { task = st .task; set = set; read = k; standing = Good })
+    taken {set} with-x = one-further good (λ task count ys h.
         goes task count ys _ h refl (allowed-passes task) (λ e. record {
           set = with-add with-x ∙ ap (λ (s : ℕ). add s (x .bus)) (h .carries .set) ∙ sym (reached-append _ ys (x ∷ []));
           read = counted task count ys h;
-          list =
-              pushed-list (woven ys) x (h .carries .list) (few task count ys h) pushed-x
-              ∙ ap listOf (ap (λ (d : ℕ). woven ys ++ unlessSeen d x []) (sym (new ys (h .carries))) ∙ sym (woven-append _ ys (x ∷ [])));
         }))
 
   -- ---- the test refuses the step
 
-  module _ (q : Refusal) (refused : Failed (stepChecksAt c k (setOf (st .set)) x) q) where
+  module _ (q : Refusal) (refused : Failed (stepChecksAt (gridOf c) k (setOf (st .set)) x) q) where
     -- where the standing after x is w: x passes the task's checks and its bus is observed, or x is refused
     abbrev Leaves : Task → Standing → Type 0
     Leaves task w = StandingBy (checksFrom task c k (setOf (st .set)) (x ∷ [])) w × (w ≡ Good → In (setOf (st .set)) (x .bus))
@@ -180,7 +159,7 @@ module _ (c : Case) (st : Following) (x : Step) (k : ℕ) (good : st .standing �
         numbered : (n : ℕ) → numberOf q ≡ n → Leaves Weave (cond (eqb n 8) Good (Bad q)) → Leaves Weave (afterRefusal Weave q)
         numbered n e h = subst⁻¹ (λ (m : ℕ). Leaves Weave (cond (eqb m 8) Good (Bad q))) e h
 
-        go : Failed (stepChecksAt c k (setOf (st .set)) x) q → Leaves Weave (afterRefusal Weave q)
+        go : Failed (stepChecksAt (gridOf c) k (setOf (st .set)) x) q → Leaves Weave (afterRefusal Weave q)
         go (inl a) = numbered 7 (a .1 .numbered) (bad Weave (inl a))
         go (inr (n, inl a)) =
             let seen : In (setOf (st .set)) (x .bus) = ⊎-elim (λ i. i) (λ o. absurd (a .0 o)) (in-or (setOf (st .set)) (x .bus)) in
@@ -189,7 +168,7 @@ module _ (c : Case) (st : Following) (x : Step) (k : ℕ) (good : st .standing �
         go (inr (n, inr (o, inr z))) = absurd (z .1)
 
     pub kept : {w : Standing} → w ≡ afterRefusal (st .task) q
-        → Follows c st (x ∷ []) (record { task = st .task; set = st .set; read = k; standing = w; list = st .list })
+        → Follows c st (x ∷ []) (record { task = st .task; set = st .set; read = k; standing = w })
     kept {w} e = one-further good (λ task count ys h.
         let s : Leaves task w = subst⁻¹ (Leaves task) (e ∙ ap (λ (t : Task). afterRefusal t q) (h .is-task)) (left-after task) in
         goes task count ys _ h refl (s .0) (λ g.
@@ -197,8 +176,4 @@ module _ (c : Case) (st : Following) (x : Step) (k : ℕ) (good : st .standing �
         record {
           set = h .carries .set ∙ sym (add-again (reached ys) (x .bus) seen) ∙ sym (reached-append _ ys (x ∷ []));
           read = counted task count ys h;
-          list =
-              h .carries .list
-              ∙ ap listOf
-              (sym (append-nil (woven ys)) ∙ ap (λ (d : ℕ). woven ys ++ unlessSeen d x []) (sym seen) ∙ sym (woven-append _ ys (x ∷ [])));
         }))

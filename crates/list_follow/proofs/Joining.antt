@@ -1,16 +1,17 @@
 -- One list of steps after another: their checks, the set that they reach and what weaving writes of them.
 use mathlib.Core.Path.{_≡_, refl, sym, ap, _∙_}
 use mathlib.Core.List.{List, [], _∷_, _++_, append-assoc}
-use Prim.Native.Nat.{ℕ, zero, suc, _+_}
+use Prim.Native.Nat.{ℕ, zero, suc, _+_, _≤_}
 use native.Mathlib.Omega.{arith}
 use lib.ListN.{length}
-use Rattle.busset.specs.Sets.{Bus, bit, Within, empty, add, size}
-use Rattle.busset.proofs.Digits.{bit-zero}
-use Rattle.busset.proofs.Members.{add-of, add-again}
+use Rattle.basics.specs.Lists.{Each}
+use Rattle.busset.specs.Sets.{Bus, bit, width, empty, add, size}
+use Rattle.busset.proofs.Members.{add-again}
 use Rattle.busset.proofs.Sizes.{size-add, size-empty}
 use Rattle.step.specs.declared.Step.{Step}
 use Rattle.rules.specs.Steps.{Names, reachedFrom, reached}
 use Rattle.rules.specs.Weaving.{unlessSeen, wovenFrom, woven}
+use Rattle.rules.proofs.Reasons.{names-more}
 use Rattle.grid.specs.declared.Case.{Case}
 use Rattle.refusals.specs.Refusals.{Check, Passed}
 use Rattle.refusals.proofs.Orders.{passed-then, failed-later}
@@ -57,15 +58,13 @@ names-and : (task : Task) (c : Case) (k s : ℕ) (x : Step) (rest : List Check) 
 names-and Replay c k s x rest p = (p .0, p .1 .1 .1)
 names-and Weave c k s x rest p = (p .0, p .1 .1)
 
-reached-within : (task : Task) (c : Case) (k s : ℕ) (xs : List Step) → Within (c .n) s → Passed (checksFrom task c k s xs)
-    → Within (c .n) (reachedFrom s xs)
-reached-within task c k s [] w p = w
-reached-within task c k s (x ∷ xs) w p =
+-- so every bus of a list that passes is one of the set's
+pub each-bus : (task : Task) (c : Case) (k s : ℕ) (xs : List Step) → c .n ≤ width → Passed (checksFrom task c k s xs)
+    → Each (λ x. Bus width (x .bus)) xs
+each-bus task c k s [] l p = tt
+each-bus task c k s (x ∷ xs) l p =
     let h = names-and task c k s x (checksFrom task c (suc k) (add s (x .bus)) xs) p in
-    reached-within task c (suc k) (add s (x .bus)) xs (add-of {P = Bus (c .n)} s (x .bus) (h .0 .bus) w) (h .1)
-
-pub all-within : (task : Task) (c : Case) (count : ℕ) (xs : List Step) → Passed (listChecks task c count xs) → Within (c .n) (reached xs)
-all-within task c count xs p = reached-within task c 1 empty xs (λ b h. absurd (omega (arith, bit-zero b))) (p .1 .1)
+    (names-more (h .0) l .bus, each-bus task c (suc k) (add s (x .bus)) xs l (h .1))
 
 -- ---- what weaving writes
 

@@ -1,4 +1,5 @@
 pub mod Joining
 pub mod Going
 pub mod Ends
+pub mod Putting
 pub mod Refusing

@@ -8,14 +8,12 @@ use lib.ListN.{length}
 use Rattle.busset.specs.Sets.{Out, empty, add, setOf}
 use Rattle.step.specs.declared.Step.{Step}
 use Rattle.rules.specs.Steps.{Holds, Names, reached}
-use Rattle.rules.specs.Weaving.{woven}
 use Rattle.grid.specs.declared.Case.{Case}
 use Rattle.grid.specs.Limits.{mostSteps}
 use Rattle.grid.specs.Cases.{gridOf, Valid}
 use Rattle.refusals.specs.declared.Refusal.{Refusal}
 use Rattle.refusals.specs.Refusals.{numberOf, Check, checkThat, Passed, Failed}
 use Rattle.observe.specs.Testing.{stepChecksAt}
-use Rattle.list_value.specs.Lists.{listOf}
 use Rattle.list_follow.specs.declared.Task.{Task}
 use Rattle.list_follow.specs.declared.Task.the-variants.{Replay, Weave}
 use Rattle.list_follow.specs.declared.Standing.{Standing}
@@ -26,7 +24,7 @@ use Rattle.list_follow.specs.declared.Following.{Following}
 
 -- of step k, where s is observed: replay asks the single-step test; weaving passes over an observed bus, with 7 alone
 abbrev pub checksAt : Task → Case → ℕ → ℕ → Step → List Check
-checksAt Replay c k s x = stepChecksAt c k s x
+checksAt Replay c k s x = stepChecksAt (gridOf c) k s x
 checksAt Weave c k s x = checkThat (Names (c .n) x) 7 k ∷ checkThat (Out s (x .bus) → Holds (gridOf c) s (x .bus) (x .reason)) 9 k ∷ []
 
 -- of the steps from step k on, each where those before it lead
@@ -49,11 +47,10 @@ abbrev pub StandingBy : List Check → Standing → Type 0
 StandingBy qs Good = Passed qs
 StandingBy qs (Bad q) = Failed qs q
 
--- what st carries of the steps xs, if none was bad: the set that they reach, their number, and those that weaving writes
+-- what st carries of the steps xs, if none was bad: the set that they reach and their number
 pub record Carries (xs : List Step) (st : Following) : Type 0 where
   pub set : setOf (st .set) ≡ reached xs
   pub read : st .read ≡ length xs
-  pub list : st .list ≡ listOf (woven xs)
 
 -- st is where a list of `count` steps is after its steps xs
 pub record StandsAfter (c : Case) (task : Task) (count : ℕ) (xs : List Step) (st : Following) : Type 0 where

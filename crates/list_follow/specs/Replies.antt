@@ -2,12 +2,13 @@
 use mathlib.Core.Path.{_≡_}
 use mathlib.Core.List.{List, [], _∷_, _++_}
 use mathlib.Core.Bool.{cond}
-use Prim.Native.Nat.{ℕ, _≤_}
+use Prim.Native.Nat.{ℕ, _≤_, _<_}
 use lib.Dec.{leb}
-use lib.ListN.{length}
+use lib.ListN.{length, take}
 use Rattle.basics.specs.Deciding.{Decides}
-use Rattle.busset.specs.Sets.{setOf}
-use Rattle.step.specs.Records.{writtenInto, putFirst}
+use Rattle.basics.specs.Lists.{Each}
+use Rattle.busset.specs.Sets.{Bus, width, size, setOf}
+use Rattle.step.specs.Records.{writtenInto}
 use Rattle.step.specs.declared.Step.{Step}
 use Rattle.rules.specs.Steps.{reached, Finished}
 use Rattle.rules.specs.Weaving.{woven}
@@ -15,7 +16,6 @@ use Rattle.grid.specs.declared.Case.{Case}
 use Rattle.grid.specs.Cases.{gridOf}
 use Rattle.refusals.specs.declared.Refusal.the-variants.{NoRoom}
 use Rattle.refusals.specs.Refusals.{Check, checkThat, Passed, Failed}
-use Rattle.list_value.specs.Lists.{nthOf}
 use Rattle.list_follow.specs.Following.{listChecks, StandsAfter}
 use Rattle.list_follow.specs.declared.Task.the-variants.{Replay, Weave}
 use Rattle.list_follow.specs.declared.Standing.{Standing}
@@ -57,9 +57,11 @@ WeaveReply c xs before after (wove.Refused r) = Failed (weaveChecks c xs (length
 abbrev pub AnswersReplay : Case → Following → Replayed → Type 0
 AnswersReplay c st r = (xs : List Step) → StandsAfter c Replay (length xs) xs st → ReplayReply c xs r
 
--- weaving's answer where a list ended so and there are `room` records: its steps are written where they fit
+-- weaving's answer where a list ended so and there are `room` records: one step for each bus reached is written, where they fit
 abbrev pub woveAt : Following → ℕ → Standing → Wove
-woveAt st room Good = cond (leb (st .list .n) room) (wove.Written (st .list .n) (st .set)) (wove.Refused NoRoom)
+woveAt st room Good =
+    let count = size (setOf (st .set)) in
+    cond (leb count room) (wove.Written count (st .set)) (wove.Refused NoRoom)
 woveAt st room (Bad q) = wove.Refused q
 
 -- how many records are written
@@ -67,7 +69,12 @@ abbrev pub countWritten : Wove → ℕ
 countWritten (wove.Written count s) = count
 countWritten (wove.Refused r) = 0
 
--- what is put into the records: as many steps as the answer says
-pub record PutSteps (st : Following) (before after : List Step) (r : Wove) : Type 0 where
-  pub settled : r ≡ woveAt st (length before) (st .standing)
-  pub records : after ≡ putFirst (countWritten r) (nthOf (st .list)) before
+-- the first m of the steps that weaving writes of xs can be put into the records that hold `before`
+pub record CanPut (m : ℕ) (xs before : List Step) : Type 0 where
+  pub buses : 0 < m → Each (λ x. Bus width (x .bus)) xs
+  pub some : m ≤ length (woven xs)
+  pub room : m ≤ length before
+
+-- the records with the first m of the steps that weaving writes of xs
+abbrev pub putWoven : ℕ → List Step → List Step → List Step
+putWoven m xs before = writtenInto (take m (woven xs)) before

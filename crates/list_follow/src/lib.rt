@@ -1,21 +1,19 @@
 // Following a desk's list step by step: where it begins, where it is after each step, and how it ends.
 ghost use mathlib.Core.Path.{_≡_};
 ghost use mathlib.Core.List.{[], _∷_};
-ghost use Prim.Native.Nat.{suc, _<_};
-ghost use Rattle.grid.specs.Limits.{mostSteps};
+ghost use Prim.Native.Nat.{ℕ, suc, _<_};
+ghost use lib.ListN.{length};
+ghost use Rattle.grid.specs.Limits.{mostBuses, mostSteps};
 ghost use Rattle.basics.specs.Deciding.{Decides};
 ghost use Rattle.busset.specs.Sets.{setOf};
 ghost use Rattle.rules.specs.Steps.{Finished};
-ghost use Rattle.grid.specs.Cases.{gridOf};
+ghost use Rattle.grid.specs.Cases.{gridWith, caseOf};
 ghost use Rattle.list_follow.specs.Following.{beginChecks, StandingBy, StandsAfter, Follows, afterRefusal};
 ghost use Rattle.list_follow.specs.Replies.{AnswersReplay, woveAt, countWritten};
 use busset::BusSet;
-use grid::Case;
+use grid::Rows;
 use grid::limits::MOST_BUSES;
 use grid::limits::MOST_STEPS;
-use list_value::StepList;
-use list_value::no_steps;
-use list_value::push;
 use observe::test::Tested;
 use observe::test::tested_at;
 use refusals::Refusal;
@@ -33,13 +31,12 @@ pub enum Standing {
     Bad(Refusal),
 }
 
-// The set reached, how many steps were read, whether one of them was bad, and the steps that were allowed.
+// The set reached, how many steps were read, and whether one of them was bad.
 pub struct Following {
     pub task: Task,
     pub set: BusSet,
     pub read: usize,
     pub standing: Standing,
-    pub list: StepList,
 }
 
 // What replay answers: the set reached and whether the list is finished.
@@ -55,10 +52,18 @@ pub enum Wove {
 }
 
 // The standing of a list of `count` steps before its first.
-fn opening(case: Case, count: usize) -> Standing
-    ensures { λ r. ⌜ StandingBy (beginChecks case count) r ⌝ }
+fn opening(
+    n: usize,
+    nbr: &Rows,
+    zero: BusSet,
+    site: BusSet,
+    units: BusSet,
+    count: usize,
+) -> Standing
+    requires { ⌜ length (now nbr) ≡ mostBuses ⌝ }
+    ensures { λ r. ⌜ StandingBy (beginChecks (caseOf n (now (nbr .entry)) zero site units) count) r ⌝ }
 {
-    if !grid::validity::is_valid(case) {
+    if !grid::validity::is_valid(n, nbr, zero, site, units) {
         return Standing::Bad(Refusal::InvalidCase);
     }
     if MOST_STEPS < count {
@@ -68,17 +73,24 @@ fn opening(case: Case, count: usize) -> Standing
 }
 
 // A list of `count` steps, begun.
-pub fn begin(case: Case, task: Task, count: usize) -> Following
-    ensures { λ r. ⌜ StandsAfter case task count [] r ⌝ }
+pub fn begin(
+    n: usize,
+    nbr: &Rows,
+    zero: BusSet,
+    site: BusSet,
+    units: BusSet,
+    task: Task,
+    count: usize,
+) -> Following
+    requires { ⌜ length (now nbr) ≡ mostBuses ⌝ }
+    ensures { λ r. ⌜ StandsAfter (caseOf n (now (nbr .entry)) zero site units) task count [] r ⌝ }
 {
-    let standing = opening(case, count);
-    let list = no_steps();
+    let standing = opening(n, nbr, zero, site, units, count);
     Following {
         task,
         set: busset::none(),
         read: 0,
         standing,
-        list,
     }
 }
 
@@ -106,12 +118,10 @@ fn after_refusal(task: Task, q: Refusal) -> Standing
 }
 
 // The list after one step more, by the single-step test. The first bad step stays.
-pub fn apply(case: Case, st: Following, x: Step) -> Following
-    ensures { λ r. ⌜ Follows case st (x ∷ []) r ⌝ }
+pub fn apply(n: usize, nbr: &Rows, zero: BusSet, units: BusSet, st: Following, x: Step) -> Following
+    ensures { λ r. ⌜ ((sites : ℕ) → Follows (caseOf n (now (nbr .entry)) zero sites units) st (x ∷ []) r) ⌝ }
 {
-    let n = case.n;
     let task = st.task;
-    let list = st.list;
     let standing = st.standing;
     let Standing::Good = standing else {
         return st;
@@ -120,59 +130,49 @@ pub fn apply(case: Case, st: Following, x: Step) -> Following
         return st;
     }
     let k = next_number(st.read);
-    match tested_at(case, st.set, x, k) {
-        Tested::Allowed => {
-            if MOST_BUSES <= list.n {
-                return st;
-            }
-            let more = push(list, x);
-            Following {
-                task,
-                set: busset::with(st.set, x.bus),
-                read: k,
-                standing: Standing::Good,
-                list: more,
-            }
-        }
+    match tested_at(n, nbr, zero, units, st.set, x, k) {
+        Tested::Allowed => Following {
+            task,
+            set: busset::with(st.set, x.bus),
+            read: k,
+            standing: Standing::Good,
+        },
         Tested::Refused(q) => Following {
             task,
             set: st.set,
             read: k,
             standing: after_refusal(task, q),
-            list,
         },
     }
 }
 
-// Whether no step is allowed where s is observed.
-pub fn is_finished(case: Case, s: BusSet) -> bool
-    ensures { λ r. ⌜ Decides (Finished (gridOf case) (setOf s)) r ⌝ }
+// Whether no step is allowed where s is observed, whatever n and the sites are.
+pub fn is_finished(nbr: &Rows, zero: BusSet, units: BusSet, s: BusSet) -> bool
+    ensures { λ r. ⌜ ((n sites : ℕ) → Decides (Finished (gridWith n (now (nbr .entry)) zero sites units) (setOf s)) r) ⌝ }
 {
-    let nbr = case.nbr;
-    if !busset::is_subset(grid::with_neighbours(&nbr, case.units), s) {
+    if !busset::is_subset(grid::with_neighbours(nbr, units), s) {
         return false;
     }
-    busset::same(observe::set::sweep(&nbr, case.zero, s), s)
+    busset::same(observe::set::sweep(nbr, zero, s), s)
 }
 
 // Replay's answer for the list that ends so.
-pub fn ended(case: Case, st: Following) -> Replayed
-    ensures { λ r. ⌜ AnswersReplay case st r ⌝ }
+pub fn ended(nbr: &Rows, zero: BusSet, units: BusSet, st: Following) -> Replayed
+    ensures { λ r. ⌜ ((n sites : ℕ) → AnswersReplay (caseOf n (now (nbr .entry)) zero sites units) st r) ⌝ }
 {
     let standing = st.standing;
     match standing {
-        Standing::Good => Replayed::Reached(st.set, is_finished(case, st.set)),
+        Standing::Good => Replayed::Reached(st.set, is_finished(nbr, zero, units, st.set)),
         Standing::Bad(refusal) => Replayed::Refused(refusal),
     }
 }
 
-// Weaving's answer, where there is room for so many records.
+// Weaving's answer, where there is room for `room` records: it writes one step for each bus reached.
 pub fn settled(st: Following, room: usize) -> Wove
     ensures { λ r. ⌜ r ≡ woveAt st room (st .standing) ⌝ }
 {
     let standing = st.standing;
-    let list = st.list;
-    let n = list.n;
+    let n = busset::count(st.set);
     match standing {
         Standing::Good => {
             if n <= room {

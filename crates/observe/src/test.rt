@@ -1,13 +1,12 @@
 // The test of one step: the buses that it names, whether its bus is observed, and whether its reason holds.
-ghost use Prim.Native.Nat.{_≤_};
+ghost use Prim.Native.Nat.{ℕ, _≤_};
 ghost use Rattle.basics.specs.Deciding.{Decides};
 ghost use Rattle.busset.specs.Sets.{Bus, width, setOf};
 ghost use Rattle.rules.specs.Steps.{ByUnit, ByZero, Holds, Names};
 ghost use Rattle.grid.specs.Rows.{neighbours};
-ghost use Rattle.grid.specs.Cases.{gridOf};
+ghost use Rattle.grid.specs.Cases.{gridWith};
 ghost use Rattle.observe.specs.Testing.{stepChecksAt, TestedBy};
 use busset::BusSet;
-use grid::Case;
 use grid::Rows;
 use refusals::Refusal;
 use step::NamedBus;
@@ -64,27 +63,34 @@ pub fn by_zero(nbr: &Rows, zero: BusSet, s: BusSet, b: usize, w: usize) -> bool
     busset::is_subset(m, busset::with(s, b))
 }
 
-// Whether the reason of the step holds where s is observed.
-pub fn holds(case: Case, s: BusSet, x: Step) -> bool
+// Whether the reason of the step holds where s is observed, whatever n and the sites are.
+pub fn holds(nbr: &Rows, zero: BusSet, units: BusSet, s: BusSet, x: Step) -> bool
     requires { ⌜ Names width x ⌝ }
-    ensures { λ r. ⌜ Decides (Holds (gridOf case) (setOf s) (x .bus) (x .reason)) r ⌝ }
+    ensures { λ r. ⌜ ((n sites : ℕ) →
+        Decides (Holds (gridWith n (now (nbr .entry)) zero sites units) (setOf s) (x .bus) (x .reason)) r) ⌝ }
 {
     let b = x.bus;
     let reason = x.reason;
-    let nbr = case.nbr;
     match reason {
-        Reason::OwnUnit => busset::has(case.units, b),
-        Reason::NeighbourOf(p) => by_unit(&nbr, case.units, b, p),
-        Reason::ZeroInjection(w) => by_zero(&nbr, case.zero, s, b, w),
+        Reason::OwnUnit => busset::has(units, b),
+        Reason::NeighbourOf(p) => by_unit(nbr, units, b, p),
+        Reason::ZeroInjection(w) => by_zero(nbr, zero, s, b, w),
     }
 }
 
-// Whether the step, which is step k, is allowed where s is observed.
-pub fn tested_at(case: Case, s: BusSet, x: Step, k: usize) -> Tested
-    requires { ⌜ case .n ≤ width ⌝ }
-    ensures { λ r. ⌜ TestedBy (stepChecksAt case k (setOf s) x) r ⌝ }
+// Whether the step, which is step k, is allowed where s is observed, whatever the sites are.
+pub fn tested_at(
+    n: usize,
+    nbr: &Rows,
+    zero: BusSet,
+    units: BusSet,
+    s: BusSet,
+    x: Step,
+    k: usize,
+) -> Tested
+    requires { ⌜ n ≤ width ⌝ }
+    ensures { λ r. ⌜ ((sites : ℕ) → TestedBy (stepChecksAt (gridWith n (now (nbr .entry)) zero sites units) k (setOf s) x) r) ⌝ }
 {
-    let n = case.n;
     let b = x.bus;
     if !names(n, x) {
         return Tested::Refused(Refusal::NoSuchBus(k));
@@ -92,7 +98,7 @@ pub fn tested_at(case: Case, s: BusSet, x: Step, k: usize) -> Tested
     if busset::has(s, b) {
         return Tested::Refused(Refusal::AlreadyObserved(k));
     }
-    if !holds(case, s, x) {
+    if !holds(nbr, zero, units, s, x) {
         return Tested::Refused(Refusal::ReasonFails(k));
     }
     Tested::Allowed

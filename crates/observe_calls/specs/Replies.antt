@@ -47,7 +47,7 @@ FigureReply c s i j (figured.Refused r) = Failed (figureChecks c i j) r
 
 -- 5, then 7, 8, 9 in the stated set
 abbrev pub stepChecks : Case → ℕ → Step → List Check
-stepChecks c s x = checkThat (Valid c) 5 0 ∷ stepChecksAt c 1 (stated c s) x
+stepChecks c s x = checkThat (Valid c) 5 0 ∷ stepChecksAt (gridOf c) 1 (stated c s) x
 
 -- the step is allowed, or refused
 abbrev pub StepReply : Case → ℕ → Step → Tested → Type 0

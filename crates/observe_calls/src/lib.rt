@@ -21,7 +21,7 @@ pub enum Figured {
 pub fn observed_set(case: Case) -> Observed
     ensures { λ r. ⌜ ObservedReply case r ⌝ }
 {
-    if !grid::validity::is_valid(case) {
+    if !grid::validity::is_valid(case.n, &case.nbr, case.zero, case.site, case.units) {
         return Observed::Refused(Refusal::InvalidCase);
     }
     let nbr = case.nbr;
@@ -33,7 +33,7 @@ pub fn firing_figure(case: Case, s: BusSet, i: usize, j: usize) -> Figured
     ensures { λ r. ⌜ FigureReply case s i j r ⌝ }
 {
     let n = case.n;
-    if !grid::validity::is_valid(case) {
+    if !grid::validity::is_valid(case.n, &case.nbr, case.zero, case.site, case.units) {
         return Figured::Refused(Refusal::InvalidCase);
     }
     if !busset::is_bus(n, i) {
@@ -54,8 +54,16 @@ pub fn test_step(case: Case, s: BusSet, x: Step) -> Tested
     ensures { λ r. ⌜ StepReply case s x r ⌝ }
 {
     let n = case.n;
-    if !grid::validity::is_valid(case) {
+    if !grid::validity::is_valid(case.n, &case.nbr, case.zero, case.site, case.units) {
         return Tested::Refused(Refusal::InvalidCase);
     }
-    tested_at(case, busset::up_to(s, n), x, 1)
+    tested_at(
+        n,
+        &case.nbr,
+        case.zero,
+        case.units,
+        busset::up_to(s, n),
+        x,
+        1,
+    )
 }

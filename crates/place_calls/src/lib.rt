@@ -25,7 +25,7 @@ pub enum Fewest {
 pub fn cross_validate(case: Case) -> Verdict
     ensures { λ r. ⌜ VerdictReply case r ⌝ }
 {
-    if !grid::validity::is_valid(case) {
+    if !grid::validity::is_valid(case.n, &case.nbr, case.zero, case.site, case.units) {
         return Verdict::Refused(Refusal::InvalidCase);
     }
     let nbr = case.nbr;
@@ -36,7 +36,7 @@ pub fn cross_validate(case: Case) -> Verdict
 pub fn place_greedy(case: Case, budget: usize, room: &mut [usize]) -> Greedy
     ensures { λ r. ⌜ GreedyReply case budget (now (room .entry)) (now (room .exit)) r ⌝ }
 {
-    if !grid::validity::is_valid(case) {
+    if !grid::validity::is_valid(case.n, &case.nbr, case.zero, case.site, case.units) {
         return Greedy::Refused(Refusal::InvalidCase);
     }
     if MOST_GREEDY_BUDGET < budget {
@@ -55,7 +55,7 @@ pub fn place_greedy(case: Case, budget: usize, room: &mut [usize]) -> Greedy
 pub fn place_fewest(case: Case, budget: usize) -> Fewest
     ensures { λ r. ⌜ FewestReply case budget r ⌝ }
 {
-    if !grid::validity::is_valid(case) {
+    if !grid::validity::is_valid(case.n, &case.nbr, case.zero, case.site, case.units) {
         return Fewest::Refused(Refusal::InvalidCase);
     }
     if most_budget(case.n) < budget {

@@ -1,12 +1,15 @@
 // A step text replayed straight from the text: no list is stored.
 ghost use mathlib.Core.Path.{_≡_};
 ghost use lib.ListN.{length};
+ghost use Rattle.grid.specs.Limits.{mostBuses};
+ghost use Rattle.grid.specs.Cases.{caseOf};
 ghost use Rattle.step_text.specs.Steps.{stepsOf};
 ghost use Rattle.list_follow.specs.Following.{StandsAfter};
 ghost use Rattle.list_follow.specs.declared.Task.the-variants.{Replay};
 ghost use Rattle.step_replay.specs.Replying.{TextReplayReply};
 use busset::BusSet;
 use grid::Case;
+use grid::Rows;
 use list_follow::Following;
 use list_follow::Replayed;
 use list_follow::Standing;
@@ -27,12 +30,20 @@ pub enum TextReplayed {
     Unread(Refusal),
 }
 
-// The n steps of a text, followed one after another up to the first bad one.
-fn follow_text(case: Case, text: &[u8], n: usize) -> Following
-    requires { ⌜ length (stepsOf (now text)) ≡ n ⌝ }
-    ensures { λ r. ⌜ StandsAfter case Replay n (stepsOf (now (text .entry))) r ⌝ }
+// The `count` steps of a text, followed one after another up to the first bad one.
+fn follow_text(
+    n: usize,
+    nbr: &Rows,
+    zero: BusSet,
+    site: BusSet,
+    units: BusSet,
+    text: &[u8],
+    count: usize,
+) -> Following
+    requires { ⌜ (length (now nbr) ≡ mostBuses) × (length (stepsOf (now text)) ≡ count) ⌝ }
+    ensures { λ r. ⌜ StandsAfter (caseOf n (now (nbr .entry)) zero site units) Replay count (stepsOf (now (text .entry))) r ⌝ }
 {
-    let mut st = begin(case, Task::Replay, n);
+    let mut st = begin(n, nbr, zero, site, units, Task::Replay, count);
     let mut at: usize = 0;
     loop {
         let standing = st.standing;
@@ -41,7 +52,7 @@ fn follow_text(case: Case, text: &[u8], n: usize) -> Following
         };
         match step_at(text, at) {
             NextStep::At(x, e) => {
-                st = apply(case, st, x);
+                st = apply(n, nbr, zero, units, st, x);
                 at = e;
             }
             NextStep::Nothing => {
@@ -56,9 +67,17 @@ pub fn replay_text(case: Case, text: &[u8]) -> TextReplayed
     ensures { λ r. ⌜ TextReplayReply case (now (text .entry)) r ⌝ }
 {
     match check_steps(text) {
-        StepsRead::Steps(n) => {
-            let st = follow_text(case, text, n);
-            match ended(case, st) {
+        StepsRead::Steps(count) => {
+            let st = follow_text(
+                case.n,
+                &case.nbr,
+                case.zero,
+                case.site,
+                case.units,
+                text,
+                count,
+            );
+            match ended(&case.nbr, case.zero, case.units, st) {
                 Replayed::Reached(s, finished) => TextReplayed::Reached(s, finished),
                 Replayed::Refused(q) => TextReplayed::Refused(q),
             }

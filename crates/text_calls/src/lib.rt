@@ -16,7 +16,7 @@ pub use step_text::check_steps;
 pub fn write_case(case: Case, out: &mut [u8]) -> Written
     ensures { λ r. ⌜ CaseWrittenReply case (now (out .entry)) r (now (out .exit)) ⌝ }
 {
-    if !grid::validity::is_valid(case) {
+    if !grid::validity::is_valid(case.n, &case.nbr, case.zero, case.site, case.units) {
         return Written::Refused(Refusal::InvalidCase);
     }
     if out.len() < count_bytes(case.n, &case.nbr, case.zero, case.site, case.units) {

@@ -9,7 +9,7 @@ use Rattle.list_derive.proofs.derivation.Statement.{statement}
 use Rattle.list_derive.proofs.derivation.Tie as tie
 
 -- `t1` is the case
-valid : (c : tie.Else1) → Valid (c .before .before .args .t1)
+valid : (c : tie.Else1) → Valid (c .before .before .before .before .args .t1)
 valid c = c .before .is-valid .ensures .yes (not-false _ (c .if1 .left))
 
 is-valid-requires : tie.Need-is-valid-requires

@@ -1,4 +1,4 @@
--- Before its first step a list reaches the empty set, and weaving has written nothing.
+-- Before its first step a list reaches the empty set.
 use mathlib.Core.Path.{refl}
 use borrow.Author.Needs.{needs}
 use Rattle.busset.proofs.Words.{empty-set}
@@ -8,18 +8,15 @@ use Rattle.list_follow.proofs.begin.Tie as tie
 opening-requires : tie.Need-opening-requires
 opening-requires c κs = search needs
 
-no-steps-requires : tie.Need-no-steps-requires
-no-steps-requires c κs = search needs
-
 none-requires : tie.Need-none-requires
 none-requires c κs = search needs
 
 returns : tie.Need-returns
 returns c = record {
   is-task = refl;
-  standing = c .before .before .opening .ensures;
-  carries = λ e. record { set = empty-set (c .none .ensures); read = refl; list = c .before .no-steps .ensures };
+  standing = c .before .opening .ensures;
+  carries = λ e. record { set = empty-set (c .none .ensures); read = refl };
 }
 
 pub begin-spec : {M : Type 1} → statement M
-begin-spec = tie.close (tie.spec opening-requires no-steps-requires none-requires returns)
+begin-spec = tie.close (tie.spec opening-requires none-requires returns)

@@ -14,10 +14,10 @@ enum-known-standing : tie.Need-enum-known-standing
 enum-known-standing c = search needs
 
 returns : tie.Need-returns
-returns c = ended-good (c .before .enum-told .given .1) (c .is-finished .ensures)
+returns c n sites = ended-good (c .before .enum-told .given .1) (c .is-finished .ensures n sites)
 
 returns-2 : tie.Need-returns-2
-returns-2 c = ended-bad (c .before .standing .given .1)
+returns-2 c n sites = ended-bad (c .before .standing .given .1)
 
 pub ended-spec : {M : Type 1} → statement M
 ended-spec = tie.close (tie.spec enum-told is-finished-requires enum-known-standing returns returns-2)

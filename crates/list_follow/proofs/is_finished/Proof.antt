@@ -13,7 +13,7 @@ is-subset-requires : tie.Need-is-subset-requires
 is-subset-requires c κs = search needs
 
 returns : tie.Need-returns
-returns c =
+returns c n sites =
     finished-unless-started (c .before .before .with-neighbours .ensures)
     (refutes (c .before .is-subset .ensures) (not-true _ (c .if1 .taken)))
 
@@ -24,9 +24,9 @@ same-requires : tie.Need-same-requires
 same-requires c κs = search needs
 
 returns-2 : tie.Need-returns-2
-returns-2 c =
+returns-2 c n sites =
     let swept = c .before in
-    let first = swept .before .before in
+    let first = swept .before in
     finished-test (first .before .before .with-neighbours .ensures)
     (first .before .is-subset .ensures .yes (not-false _ (first .if1 .left)))
     (swept .sweep .ensures) (c .same .ensures)

@@ -3,13 +3,14 @@ use mathlib.Core.Logic.{inl, inr}
 use native.Mathlib.Omega.{arith}
 use borrow.Author.Tests.{not-true, not-false}
 use Rattle.basics.proofs.Tests.{refutes}
-use Rattle.grid.specs.Cases.{Valid}
+use Rattle.grid.specs.Cases.{caseOf, Valid}
 use Rattle.refusals.proofs.Orders.{itself}
 use borrow.Author.Needs.{needs}
 use Rattle.list_follow.proofs.opening.Statement.{statement}
 use Rattle.list_follow.proofs.opening.Tie as tie
 
-valid : (c : tie.Else1) → Valid (c .before .before .args .case)
+valid : (c : tie.Else1) →
+    let asked = c .before .before .args in Valid (caseOf (asked .n) (asked .nbr .now) (asked .zero) (asked .site) (asked .units))
 valid c = c .before .is-valid .ensures .yes (not-false _ (c .if1 .left))
 
 is-valid-requires : tie.Need-is-valid-requires

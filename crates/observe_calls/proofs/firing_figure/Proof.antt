@@ -20,26 +20,26 @@ use Rattle.observe_calls.proofs.firing_figure.Statement.{statement}
 use Rattle.observe_calls.proofs.firing_figure.Tie as tie
 
 abbrev start : tie.After-has → tie.Start
-start c = c .before .before .before .before .before .before .before .before .before .before
+start c = c .before .before .before .before .before .before .before .before .before .before .before .before
 
-valid : (c : tie.Else1) → Valid (c .before .before .args .case)
+valid : (c : tie.Else1) → Valid (c .before .before .before .before .args .t1)
 valid c = c .before .is-valid .ensures .yes (not-false _ (c .if1 .left))
 
-from : (c : tie.Else2) → Bus (c .before .before .before .before .args .case .n) (c .before .before .before .before .args .i)
+from : (c : tie.Else2) → Bus (c .before .before .before .before .before .before .args .t1 .n) (c .before .before .before .before .before .before .args .i)
 from c = c .before .is-bus .ensures .yes (not-false _ (c .if2 .left))
 
 to : (c : tie.Else3)
-    → Bus (c .before .before .before .before .before .before .args .case .n) (c .before .before .before .before .before .before .args .j)
+    → Bus (c .before .before .before .before .before .before .before .before .args .t1 .n) (c .before .before .before .before .before .before .before .before .args .j)
 to c = c .before .is-bus2 .ensures .yes (not-false _ (c .if3 .left))
 
 at-width : (c : tie.Else3)
-    → Bus width (c .before .before .before .before .before .before .args .i)
-    × Bus width (c .before .before .before .before .before .before .args .j)
+    → Bus width (c .before .before .before .before .before .before .before .before .args .i)
+    × Bus width (c .before .before .before .before .before .before .before .before .args .j)
 at-width c =
     let most = valid (c .before .before .before .before) .buses .most in
     (bus-more (from (c .before .before)) most, bus-more (to c) most)
 
-joined : (c : tie.After-has) → Decides (In (neighbours (start c .args .case .nbr) (start c .args .i)) (start c .args .j)) (c .has .result)
+joined : (c : tie.After-has) → Decides (In (neighbours (start c .args .t1 .nbr) (start c .args .i)) (start c .args .j)) (c .has .result)
 joined c = decides-in (start c .args .j) (c .before .row .ensures) (c .has .ensures)
 
 is-valid-requires : tie.Need-is-valid-requires
@@ -97,7 +97,7 @@ returns-5 c =
         valid (third .before .before .before .before),
         ((from (third .before .before), to third), (joined (lines .before) .yes (not-false _ (lines .if4 .left)), tt)),
       ),
-      toZ-ofZ fits ∙ c .figure-of .ensures ∙ ap (λ (s : ℕ). figure (neighbours (asked .case .nbr)) s (asked .i) (asked .j))
+      toZ-ofZ fits ∙ c .figure-of .ensures ∙ ap (λ (s : ℕ). figure (neighbours (asked .t1 .nbr)) s (asked .i) (asked .j))
           (c .before .up-to .ensures),
     )
 

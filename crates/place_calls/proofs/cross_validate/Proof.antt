@@ -8,7 +8,7 @@ use borrow.Author.Needs.{needs}
 use Rattle.place_calls.proofs.cross_validate.Statement.{statement}
 use Rattle.place_calls.proofs.cross_validate.Tie as tie
 
-valid : (c : tie.Else1) → Valid (c .before .before .args .case)
+valid : (c : tie.Else1) → Valid (c .before .before .before .before .args .t1)
 valid c = c .before .is-valid .ensures .yes (not-false _ (c .if1 .left))
 
 is-valid-requires : tie.Need-is-valid-requires

@@ -15,15 +15,15 @@ use borrow.Author.Needs.{needs}
 use Rattle.place_calls.proofs.place_fewest.Statement.{statement}
 use Rattle.place_calls.proofs.place_fewest.Tie as tie
 
-valid : (c : tie.Else1) → Valid (c .before .before .args .case)
+valid : (c : tie.Else1) → Valid (c .before .before .before .before .args .t1)
 valid c = c .before .is-valid .ensures .yes (not-false _ (c .if1 .left))
 
 -- what the search says, as an answer known by its variant
 answer : (c : tie.After-fewest) (r : Found) → c .fewest .result ≡ r
-    → let s = c .before .before .before .before .before .before .before in FewestIs (gridOf (s .args .case)) (s .args .budget) r
+    → let s = c .before .before .before .before .before .before .before .before .before in FewestIs (gridOf (s .args .t1)) (s .args .budget) r
 answer c r e =
-    let s = c .before .before .before .before .before .before .before in
-    subst (FewestIs (gridOf (s .args .case)) (s .args .budget)) e (c .fewest .ensures)
+    let s = c .before .before .before .before .before .before .before .before .before in
+    subst (FewestIs (gridOf (s .args .t1)) (s .args .budget)) e (c .fewest .ensures)
 
 is-valid-requires : tie.Need-is-valid-requires
 is-valid-requires c κs = search needs
@@ -32,7 +32,7 @@ most-budget-requires : tie.Need-most-budget-requires
 most-budget-requires c κs = search needs
 
 -- the budget is within the grid's limit
-within : (c : tie.Else2) → c .before .before .before .before .args .budget ≤ mostBudget (c .before .before .before .before .args .case .n)
+within : (c : tie.Else2) → let s = c .before .before .before .before .before .before in s .args .budget ≤ mostBudget (s .args .t1 .n)
 within c = let few = c .if2 .left in omega (arith, c .before .most-budget .ensures)
 
 returns : tie.Need-returns

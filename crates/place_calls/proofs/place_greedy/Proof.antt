@@ -13,13 +13,13 @@ use borrow.Author.Needs.{needs}
 use Rattle.place_calls.proofs.place_greedy.Statement.{statement}
 use Rattle.place_calls.proofs.place_greedy.Tie as tie
 
-valid : (c : tie.Else1) → Valid (c .before .before .before .args .case)
+valid : (c : tie.Else1) → Valid (c .before .before .before .before .before .args .t1)
 valid c = c .before .is-valid .ensures .yes (not-false _ (c .if1 .left))
 
 -- what greedy adds
 listed : (c : tie.After-greedy)
-    → let s = c .before .before .before .before .before .before .before in
-    AddedSites (gridOf (s .args .case)) (s .args .budget) (c .greedy .result .count) (c .greedy .result .sites)
+    → let s = c .before .before .before .before .before .before .before .before .before in
+    AddedSites (gridOf (s .args .t1)) (s .args .budget) (c .greedy .result .count) (c .greedy .result .sites)
 listed c = c .greedy .ensures _
 
 is-valid-requires : tie.Need-is-valid-requires

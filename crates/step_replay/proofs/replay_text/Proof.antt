@@ -11,26 +11,26 @@ use Rattle.step_replay.proofs.replay_text.Statement.{statement}
 use Rattle.step_replay.proofs.replay_text.Tie as tie
 
 -- reading the text counts its steps
-counted : (c : tie.After-n) → length (stepsOf (c .before .before .before .before .args .text .now)) ≡ c .n .given .0 .0
-counted c = steps-count _ _ (sym (c .before .before .check-steps .ensures) ∙ c .n .given .1)
+counted : (c : tie.After-count) → length (stepsOf (c .before .before .before .before .args .text .now)) ≡ c .count .given .0 .0
+counted c = steps-count _ _ (sym (c .before .before .check-steps .ensures) ∙ c .count .given .1)
 
 -- replay's answer is the text's
 answered : (c : tie.After-ended) {w : Replayed} → c .ended .result ≡ w
-    → let asked = c .before .before .before .before .before .before .before .args in
-    TextReplayReply (asked .case) (asked .text .now) (textAnswer w)
+    → let asked = c .before .before .before .before .before .before .before .before .before .before .before .args in
+    TextReplayReply (asked .t1) (asked .text .now) (textAnswer w)
 answered c e =
-    let at-n = c .before .before .before in
-    replied _ _ (at-n .before .before .check-steps .ensures) (counted at-n) (at-n .n .given .1) (c .before .follow-text .ensures)
-    (c .ended .ensures) e
+    let at-count = c .before .before .before .before .before .before .before in
+    replied _ _ (at-count .before .before .check-steps .ensures) (counted at-count) (at-count .count .given .1) (c .before .before .before .follow-text .ensures)
+    (c .ended .ensures _ _) e
 
 check-steps-requires : tie.Need-check-steps-requires
 check-steps-requires c κs = search needs
 
-enum-known-n : tie.Need-enum-known-n
-enum-known-n c = search needs
+enum-known-count : tie.Need-enum-known-count
+enum-known-count c = search needs
 
 follow-text-requires : tie.Need-follow-text-requires
-follow-text-requires c κs = counted (c .before)
+follow-text-requires c κs = (search needs, counted (c .before .before .before))
 
 ended-requires : tie.Need-ended-requires
 ended-requires c κs = search needs
@@ -61,7 +61,7 @@ replay-text-spec =
     tie.close
     (tie.spec
     check-steps-requires
-    enum-known-n
+    enum-known-count
     follow-text-requires
     ended-requires
     enum-known-s

@@ -42,14 +42,14 @@ count-lines-requires c κs = search needs
 
 returns-7 : tie.Need-returns-7
 returns-7 c =
-    let lines = c .before .before .before in
-    let units = lines .before .before .before .before in
+    let lines = c .before .before in
+    let units = lines .before .before in
     let sites = units .before .before in
     let zeros = sites .before .before in
     valid-test (record { some = omega arith; most = omega arith }) (zeros .is-within .ensures .yes (not-false _ (sites .before .if3 .left)))
     (sites .is-within2 .ensures .yes (not-false _ (units .before .if4 .left)))
-    (units .is-within3 .ensures .yes (not-false _ (lines .before .before .before .if5 .left)))
-    (lines .all-lines .ensures .yes (not-false _ (c .before .before .if6 .left))) (c .count-lines .ensures) (decides-le _ _)
+    (units .is-within3 .ensures .yes (not-false _ (lines .before .if5 .left)))
+    (lines .all-lines .ensures .yes (not-false _ (c .before .if6 .left))) (c .count-lines .ensures) (decides-le _ _)
 
 pub is-valid-spec : {M : Type 1} → statement M
 is-valid-spec =
