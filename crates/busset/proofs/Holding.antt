@@ -4,10 +4,19 @@ use mathlib.Core.Bool.{Bool, true, false, cond}
 use Prim.Native.Nat.{ℕ, _≤_}
 use native.Mathlib.Omega.{arith}
 use Rattle.busset.specs.Sets.{bit, In, Out, add, setOf, With}
-use Rattle.busset.specs.Held.{SetWord, wordOf, hold, holdIf}
+use Rattle.busset.specs.Held.{SetWord, wordOf, IsWord, hold, holdIf}
 use Rattle.busset.proofs.Digits.{bit-low}
 use Rattle.busset.proofs.Members.{add-here, add-there, with-add}
 use Rattle.busset.proofs.Words.{set-zero, set-inj}
+
+-- every word is the word of its set
+pub word-own : (w : SetWord) → IsWord w
+unfolding setOf wordOf
+word-own w = omega arith
+
+-- so a set has one word
+pub same-word : {v w : SetWord} → IsWord v → IsWord w → setOf v ≡ setOf w → v ≡ w
+same-word p q e = p ∙ ap wordOf e ∙ sym q
 
 pub word-set : (s : ℕ) → Out s 0 → setOf (wordOf s) ≡ s
 unfolding setOf wordOf

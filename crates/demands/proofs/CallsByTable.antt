@@ -1,15 +1,11 @@
 -- By the table: each public call on a case value or a list of steps.
 use mathlib.Core.Path.{_≡_, refl}
-use mathlib.Core.List.{List}
 use mathlib.Core.Logic.{_⊎_, inl, inr}
-use Prim.Native.Nat.{ℕ}
 use lib.Dec.{lit<}
 use lib.ListN.{length}
-use Rattle.step.specs.declared.Step.{Step}
-use Rattle.grid.specs.declared.Case.{Case}
 use Rattle.refusals.specs.declared.Refusal.{Refusal}
 use Rattle.refusals.specs.Refusals.{Passed}
-use Rattle.list_follow.specs.Replies.{replayChecks, ReplayReply, weaveChecks, WeaveReply}
+use Rattle.list_follow.specs.Replies.{replayChecks, ReplayReply, replayCall, weaveChecks, WeaveReply, weaveCall}
 use Rattle.list_value.specs.declared.StepList.{StepList}
 use Rattle.list_follow.specs.declared.Replayed.{Replayed}
 use Rattle.list_follow.specs.declared.Replayed.the-variants as replayed
@@ -33,24 +29,26 @@ use Rattle.place_calls.specs.declared.Greedy.the-variants as greedy
 use Rattle.place_calls.specs.declared.Fewest.{Fewest}
 use Rattle.place_calls.specs.declared.Fewest.the-variants as fewest
 use Rattle.observe_calls.specs.Replies.{observedChecks, ObservedReply, figureChecks, FigureReply, stepChecks, StepReply}
-use Rattle.list_derive.specs.Replies.{derivationChecks, DerivationAt, DerivationReply}
+use Rattle.observe_calls.specs.Replies.{observedSetCall, firingFigureCall, testStepCall}
+use Rattle.list_derive.specs.Replies.{derivationChecks, DerivationAt, DerivationReply, noDerivation, derivationCall}
 use Rattle.place_calls.specs.Replies.{verdictChecks, VerdictReply, greedyChecks, GreedyReply, fewestChecks, FewestReply}
-use Rattle.text_calls.specs.Replies.{writeChecks, CaseWrittenReply}
-use Rattle.demands.specs.ByTable.{noDerivation, Refuses, ByTable, NothingLent}
+use Rattle.place_calls.specs.Replies.{crossValidateCall, placeGreedyCall, placeFewestCall}
+use Rattle.text_calls.specs.Replies.{writeChecks, CaseWrittenReply, writeCaseCall}
+use Rattle.demands.specs.ByTable.{AllByTable}
 use Rattle.demands.proofs.Firsts.{reply-meets}
 use Rattle.demands.proofs.Turns.{replay-ordered, weave-ordered}
 
 -- ---- the grid
 
-pub observed-set : (c : Case) (r : Observed) → ObservedReply c r → NothingLent (observedChecks c) observed.Refused r
-observed-set c = reply-meets (ObservedReply c) (observedChecks c) observed.Refused refl (λ q p. (p, refl)) cases
+pub observed-set : AllByTable observedSetCall
+observed-set c before after = reply-meets (ObservedReply c) (observedChecks c) observed.Refused refl (λ q p. (p, refl)) cases
   where
     cases : (r : Observed) → ObservedReply c r → Passed (observedChecks c) ⊎ ((q : Refusal) × (r ≡ observed.Refused q))
     cases (observed.Set s) p = inl (p .0)
     cases (observed.Refused q) p = inr (q, refl)
 
-pub firing-figure : (c : Case) (s i j : ℕ) (r : Figured) → FigureReply c s i j r → NothingLent (figureChecks c i j) figured.Refused r
-firing-figure c s i j =
+pub firing-figure : AllByTable firingFigureCall
+firing-figure (c, s, i, j) before after =
     reply-meets (FigureReply c s i j) (figureChecks c i j) figured.Refused
     (refl, inl (lit< tt), (refl, inl (lit< tt), refl)) (λ q p. (p, refl)) cases
   where
@@ -58,8 +56,8 @@ firing-figure c s i j =
     cases (figured.Figure z) p = inl (p .0)
     cases (figured.Refused q) p = inr (q, refl)
 
-pub test-step : (c : Case) (s : ℕ) (x : Step) (r : Tested) → StepReply c s x r → NothingLent (stepChecks c s x) tested.Refused r
-test-step c s x =
+pub test-step : AllByTable testStepCall
+test-step (c, s, x) before after =
     reply-meets (StepReply c s x) (stepChecks c s x) tested.Refused
     (refl, inl (lit< tt), (refl, inr (refl, inr (refl, lit< tt)), (refl, inr (refl, inr (refl, lit< tt)), refl))) (λ q p. (p, refl)) cases
   where
@@ -69,8 +67,8 @@ test-step c s x =
 
 -- ---- lists of steps
 
-pub derivation : (c : Case) (r : Derived) → DerivationReply c r → NothingLent (derivationChecks c) noDerivation r
-derivation c =
+pub derivation : AllByTable derivationCall
+derivation c before after =
     reply-meets (DerivationReply c) (derivationChecks c) noDerivation refl (λ q p. (p .0, refl)) (λ r p. by-answer (r .answer) (r .list) p)
   where
     by-answer : (a : DerivationAnswer) (l : StepList) → DerivationAt c l a
@@ -78,16 +76,16 @@ derivation c =
     by-answer derived.Found l p = inl (p .0)
     by-answer (derived.Refused q) l p = inr (q, λ i. record { answer = derived.Refused q; list = p .1 i })
 
-pub replay : (c : Case) (xs : List Step) (r : Replayed) → ReplayReply c xs r → NothingLent (replayChecks c xs) replayed.Refused r
-replay c xs = reply-meets (ReplayReply c xs) (replayChecks c xs) replayed.Refused (replay-ordered c xs) (λ q p. (p, refl)) cases
+pub replay : AllByTable replayCall
+replay (c, xs) before after =
+    reply-meets (ReplayReply c xs) (replayChecks c xs) replayed.Refused (replay-ordered c xs) (λ q p. (p, refl)) cases
   where
     cases : (r : Replayed) → ReplayReply c xs r → Passed (replayChecks c xs) ⊎ ((q : Refusal) × (r ≡ replayed.Refused q))
     cases (replayed.Reached s finished) p = inl (p .0)
     cases (replayed.Refused q) p = inr (q, refl)
 
-pub weave : (c : Case) (xs before after : List Step) (r : Wove) → WeaveReply c xs before after r
-    → ByTable (weaveChecks c xs (length before)) (Refuses wove.Refused r) before after
-weave c xs before after =
+pub weave : AllByTable weaveCall
+weave (c, xs) before after =
     reply-meets (WeaveReply c xs before after) (weaveChecks c xs (length before)) wove.Refused
     (weave-ordered c xs (length before)) (λ q p. p) cases
   where
@@ -97,16 +95,15 @@ weave c xs before after =
 
 -- ---- placing units
 
-pub cross-validate : (c : Case) (r : Verdict) → VerdictReply c r → NothingLent (verdictChecks c) verdict.Refused r
-cross-validate c = reply-meets (VerdictReply c) (verdictChecks c) verdict.Refused refl (λ q p. (p, refl)) cases
+pub cross-validate : AllByTable crossValidateCall
+cross-validate c before after = reply-meets (VerdictReply c) (verdictChecks c) verdict.Refused refl (λ q p. (p, refl)) cases
   where
     cases : (r : Verdict) → VerdictReply c r → Passed (verdictChecks c) ⊎ ((q : Refusal) × (r ≡ verdict.Refused q))
     cases (verdict.Unconfirmed s) p = inl (p .0)
     cases (verdict.Refused q) p = inr (q, refl)
 
-pub place-greedy : (c : Case) (budget : ℕ) (entry exit : List ℕ) (r : Greedy) → GreedyReply c budget entry exit r
-    → ByTable (greedyChecks c budget entry) (Refuses greedy.Refused r) entry exit
-place-greedy c budget entry exit =
+pub place-greedy : AllByTable placeGreedyCall
+place-greedy (c, budget) entry exit =
     reply-meets (GreedyReply c budget entry exit) (greedyChecks c budget entry) greedy.Refused
     (refl, inl (lit< tt), (refl, inl (lit< tt), refl)) (λ q p. p) cases
   where
@@ -115,8 +112,8 @@ place-greedy c budget entry exit =
     cases (greedy.Added k) p = inl (p .0)
     cases (greedy.Refused q) p = inr (q, refl)
 
-pub place-fewest : (c : Case) (budget : ℕ) (r : Fewest) → FewestReply c budget r → NothingLent (fewestChecks c budget) fewest.Refused r
-place-fewest c budget =
+pub place-fewest : AllByTable placeFewestCall
+place-fewest (c, budget) before after =
     reply-meets (FewestReply c budget) (fewestChecks c budget) fewest.Refused
     (refl, inl (lit< tt), (refl, inl (lit< tt), refl)) (λ q p. (p, refl)) cases
   where
@@ -126,8 +123,7 @@ place-fewest c budget =
 
 -- ---- a case text written
 
-pub write-case : (c : Case) (lent left : List ℕ) (r : Written) → CaseWrittenReply c lent r left
-    → ByTable (writeChecks c lent) (Refuses written.Refused r) lent left
+pub write-case : AllByTable writeCaseCall
 write-case c lent left =
     reply-meets (λ r. CaseWrittenReply c lent r left) (writeChecks c lent) written.Refused
     (refl, inl (lit< tt), refl) (λ q p. p) cases

@@ -20,6 +20,7 @@ use Rattle.estimator.proofs.wz_unconfirmed.Met as met-wz-unconfirmed
 use Rattle.estimator.proofs.wz_fewest.Met as met-wz-fewest
 use Rattle.estimator.proofs.wz_replay.Met as met-wz-replay
 use Rattle.demands.specs.Demand1.{Demand1}
+use Rattle.demands.proofs.Listing.{_also_}
 use Rattle.demands.proofs.Promised.{every-promise}
 use Rattle.demands.proofs.CallsByTable as calls
 use Rattle.demands.proofs.TextsByTable as texts
@@ -51,26 +52,28 @@ demand-1 = record {
     wz-replay = met-wz-replay.met;
   };
   promised = every-promise;
-  observed-set = calls.observed-set;
-  firing-figure = calls.firing-figure;
-  test-step = calls.test-step;
-  derivation = calls.derivation;
-  replay = calls.replay;
-  weave = calls.weave;
-  cross-validate = calls.cross-validate;
-  place-greedy = calls.place-greedy;
-  place-fewest = calls.place-fewest;
-  read-case = texts.read-case;
-  write-case = calls.write-case;
-  check-steps = texts.check-steps;
-  read-steps = texts.read-steps;
-  replay-text = texts.replay-text;
-  day-report = reports.day-report;
+  by-table =
+      calls.observed-set
+      also calls.firing-figure
+      also calls.test-step
+      also calls.derivation
+      also calls.replay
+      also calls.weave
+      also calls.cross-validate
+      also calls.place-greedy
+      also calls.place-fewest
+      also texts.read-case
+      also calls.write-case
+      also texts.check-steps
+      also texts.read-steps
+      also texts.replay-text
+      also reports.day-report
+      also reports.plan-report
+      also estimator.wz-observed
+      also estimator.wz-unconfirmed
+      also estimator.wz-fewest
+      also estimator.wz-replay
+      also tt;
   day-printed = reports.day-printed;
-  plan-report = reports.plan-report;
   plan-printed = reports.plan-printed;
-  wz-observed = estimator.wz-observed;
-  wz-unconfirmed = estimator.wz-unconfirmed;
-  wz-fewest = estimator.wz-fewest;
-  wz-replay = estimator.wz-replay;
 }

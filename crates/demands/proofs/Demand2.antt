@@ -40,7 +40,7 @@ use Rattle.place_calls.specs.declared.Fewest.the-variants as fewest
 use Rattle.observe_calls.specs.Replies.{observedChecks, ObservedReply}
 use Rattle.place_calls.specs.Replies.{fewestChecks, FewestReply}
 use Rattle.text_calls.specs.Replies.{CaseReadReply, CaseWrittenReply}
-use Rattle.demands.specs.ByTable.{Refuses}
+use Rattle.refusals.specs.Calls.{Refuses}
 use Rattle.demands.specs.Demand2.{AcceptedExactly, TooSmallExactly, Demand2}
 
 -- ---- the observed set

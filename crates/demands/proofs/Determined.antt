@@ -1,32 +1,33 @@
 -- Every promise determines the reply, and all that was lent.
 use Rattle.demands.specs.Determined.{Determined}
-use Rattle.demands.proofs.Uniqueness.{observed-unique, figure-unique, step-unique}
-use Rattle.demands.proofs.ListUniqueness.{derivation-unique, replay-unique, weave-unique, text-replay-unique}
-use Rattle.demands.proofs.SitingUniqueness.{verdict-unique, greedy-reply-unique, fewest-unique}
-use Rattle.demands.proofs.TextUniqueness.{case-read-unique, case-written-unique, steps-checked-unique, steps-read-unique}
-use Rattle.demands.proofs.ReportUniqueness.{day-report-unique, plan-report-unique}
-use Rattle.demands.proofs.EstimatorUniqueness.{wz-observed-unique, wz-unconfirmed-unique, wz-fewest-unique, wz-replay-unique}
+use Rattle.demands.proofs.Listing.{_also_}
+use Rattle.demands.proofs.Uniqueness as grid
+use Rattle.demands.proofs.ListUniqueness as lists
+use Rattle.demands.proofs.SitingUniqueness as sites
+use Rattle.demands.proofs.TextUniqueness as texts
+use Rattle.demands.proofs.ReportUniqueness as reports
+use Rattle.demands.proofs.EstimatorUniqueness as estimator
 
 pub determined : Determined
-determined = record {
-  observed-set = observed-unique;
-  firing-figure = figure-unique;
-  test-step = step-unique;
-  derivation = derivation-unique;
-  replay = replay-unique;
-  weave = weave-unique;
-  cross-validate = verdict-unique;
-  place-greedy = greedy-reply-unique;
-  place-fewest = fewest-unique;
-  read-case = case-read-unique;
-  write-case = case-written-unique;
-  check-steps = steps-checked-unique;
-  read-steps = steps-read-unique;
-  replay-text = text-replay-unique;
-  day-report = day-report-unique;
-  plan-report = plan-report-unique;
-  wz-observed = wz-observed-unique;
-  wz-unconfirmed = wz-unconfirmed-unique;
-  wz-fewest = wz-fewest-unique;
-  wz-replay = wz-replay-unique;
-}
+determined =
+    grid.observed-set
+    also grid.firing-figure
+    also grid.test-step
+    also lists.derivation
+    also lists.replay
+    also lists.weave
+    also sites.cross-validate
+    also sites.place-greedy
+    also sites.place-fewest
+    also texts.read-case
+    also texts.write-case
+    also texts.check-steps
+    also texts.read-steps
+    also lists.replay-text
+    also reports.day-report
+    also reports.plan-report
+    also estimator.wz-observed
+    also estimator.wz-unconfirmed
+    also estimator.wz-fewest
+    also estimator.wz-replay
+    also tt

@@ -30,17 +30,19 @@ use Rattle.place_calls.specs.declared.Fewest.the-variants as fewest
 use Rattle.estimator_reply.specs.declared.Answer.{Answer}
 use Rattle.estimator_reply.specs.declared.Answer.the-variants.{Set, Refused, Unread}
 use Rattle.estimator.specs.Answers.{ofObserved, ofVerdict, ofFewest, ofReplay, Said, ObservedFor}
-use Rattle.estimator.specs.Answers.{UnconfirmedFor, FewestFor, ReplayFor, OfRead, OfText}
-use Rattle.estimator_reply.specs.Results.{Replied, Answered}
+use Rattle.estimator.specs.Answers.{UnconfirmedFor, FewestFor, ReplayFor, OfRead, OfText, estimatorChecks}
+use Rattle.estimator.specs.Answers.{wzObservedCall, wzUnconfirmedCall, wzFewestCall, wzReplayCall}
+use Rattle.estimator_reply.specs.Results.{Replied, Answered, roomForSet, Coded}
+use Rattle.text_calls.specs.TextChecks.{caseChecks, stepTextChecks, withFifty, textReplayChecks}
+use Rattle.text_calls.specs.Replies as text
+use Rattle.text_calls.specs.Replies.{TextRefuses}
+use Rattle.text_calls.proofs.Judging.{SaidBy, good, bad}
+use Rattle.text_calls.proofs.CaseTexts.{IsCase, case-judged}
 use Rattle.demands.specs.Order.{InTableOrder, FirstFails}
-use Rattle.demands.specs.TextChecks.{caseChecks, stepTextChecks, withFifty, textReplayChecks, roomForSet, estimatorChecks}
-use Rattle.demands.specs.ByTable as asked
-use Rattle.demands.specs.ByTable.{Coded, TextRefuses, ByTable}
+use Rattle.demands.specs.ByTable.{ByTable, AllByTable}
 use Rattle.demands.proofs.Firsts.{failed-first, Ends, met, ends-later, ends-sooner}
 use Rattle.demands.proofs.Turns.{TurnsBy, ComesAfter, later-follows, then-ordered, then-turn, turn-more, then-follows, replay-turn}
 use Rattle.demands.proofs.TextTurns.{case-ordered, case-turn, fifty-text-turn}
-use Rattle.demands.proofs.Judging.{SaidBy, good, bad}
-use Rattle.demands.proofs.CaseTexts.{IsCase, case-judged}
 use Rattle.demands.proofs.TextsByTable.{text-replay-ends, text-replay-follows}
 
 -- ---- an answer that refuses
@@ -49,7 +51,7 @@ use Rattle.demands.proofs.TextsByTable.{text-replay-ends, text-replay-f
 abbrev AnswerRefuses : Answer → ℕ → ℕ → Type 0
 AnswerRefuses (Set s) number place = ⊥
 AnswerRefuses (Refused q) number place = Is number place q
-AnswerRefuses (Unread q) number place = asked.Unread q number place
+AnswerRefuses (Unread q) number place = text.Unread q number place
 
 -- where the first check that fails gives this refusal
 refused-ends : (checks : List Check) (q : Refusal) → Failed checks q → Ends checks (AnswerRefuses (Refused q))
@@ -161,8 +163,7 @@ observed-ends c = said (ObservedReply c) ofObserved (observedChecks c) go
     go (observed.Set s) h = inl (h .0, λ n k x. x)
     go (observed.Refused q) h = refused-ends (observedChecks c) q h
 
-pub wz-observed : (text lent left : List ℕ) (r : ℕ) → Answered (OfText text ObservedFor) lent left r
-    → ByTable (estimatorChecks text observedChecks lent) (Coded r) lent left
+pub wz-observed : AllByTable wzObservedCall
 wz-observed text =
     answered text ObservedFor observedChecks (λ c. (later-follows 1 (observedChecks c) (lit≤ tt) (lit< tt) refl, (lit≤ tt, tt)))
     observed-ends
@@ -174,8 +175,7 @@ unconfirmed-ends c = said (VerdictReply c) ofVerdict (verdictChecks c) go
     go (verdict.Unconfirmed s) h = inl (h .0, λ n k x. x)
     go (verdict.Refused q) h = refused-ends (verdictChecks c) q h
 
-pub wz-unconfirmed : (text lent left : List ℕ) (r : ℕ) → Answered (OfText text UnconfirmedFor) lent left r
-    → ByTable (estimatorChecks text verdictChecks lent) (Coded r) lent left
+pub wz-unconfirmed : AllByTable wzUnconfirmedCall
 wz-unconfirmed text =
     answered text UnconfirmedFor verdictChecks (λ c. (later-follows 1 (verdictChecks c) (lit≤ tt) (lit< tt) refl, (lit≤ tt, tt)))
     unconfirmed-ends
@@ -191,9 +191,8 @@ fewest-ends budget c = said (FewestReply c budget) ofFewest (fewestAt budget c) 
     go (fewest.Sites s) h = inl (h .0, λ n k x. x)
     go (fewest.Refused q) h = refused-ends (fewestAt budget c) q h
 
-pub wz-fewest : (text : List ℕ) (budget : ℕ) (lent left : List ℕ) (r : ℕ) → Answered (OfText text (FewestFor budget)) lent left r
-    → ByTable (estimatorChecks text (λ c. fewestChecks c budget) lent) (Coded r) lent left
-wz-fewest text budget =
+pub wz-fewest : AllByTable wzFewestCall
+wz-fewest (text, budget) =
     answered text (FewestFor budget) (fewestAt budget) (λ c. (o c, (lit≤ tt, (lit≤ tt, (lit≤ tt, tt))))) (fewest-ends budget)
   where
     o : (c : Case) → ComesAfter 1 (fewestAt budget c)
@@ -211,9 +210,8 @@ replay-ends steps c = said (TextReplayReply c steps) ofReplay (replayOf steps c)
     go (told.Refused q) h = h
     go (told.Unread q) h = h
 
-pub wz-replay : (text steps lent left : List ℕ) (r : ℕ) → Answered (OfText text (ReplayFor steps)) lent left r
-    → ByTable (estimatorChecks text (λ c. textReplayChecks c steps) lent) (Coded r) lent left
-wz-replay text steps =
+pub wz-replay : AllByTable wzReplayCall
+wz-replay (text, steps) =
     answered text (ReplayFor steps) (replayOf steps)
     (λ c. (
       text-replay-follows c steps,

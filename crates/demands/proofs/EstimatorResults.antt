@@ -20,18 +20,18 @@ use Rattle.step_text.proofs.Found.{steps-count, steps-found}
 use Rattle.list_follow.specs.Replies.{replayChecks}
 use Rattle.observe_calls.specs.Replies.{observedChecks}
 use Rattle.place_calls.specs.Replies.{verdictChecks, fewestChecks}
-use Rattle.estimator.specs.Answers.{ObservedFor, UnconfirmedFor, FewestFor, ReplayFor, OfText}
-use Rattle.estimator_reply.specs.Results.{Answered}
+use Rattle.estimator.specs.Answers.{ObservedFor, UnconfirmedFor, FewestFor, ReplayFor, OfText, estimatorChecks}
+use Rattle.estimator_reply.specs.Results.{Answered, roomForSet, Coded}
+use Rattle.text_calls.specs.TextChecks.{caseChecks, stepTextChecks, withFifty, textReplayChecks}
+use Rattle.text_calls.proofs.Judging.{SaidBy, good, bad}
+use Rattle.text_calls.proofs.CaseTexts.{IsCase, case-judged}
+use Rattle.text_calls.proofs.StepTexts.{IsCount, steps-judged}
 use Rattle.demands.specs.Order.{turn, Precedes, InTableOrder, FirstFails}
-use Rattle.demands.specs.TextChecks.{caseChecks, stepTextChecks, withFifty, textReplayChecks, roomForSet, estimatorChecks}
-use Rattle.demands.specs.ByTable.{Coded, ByTable}
+use Rattle.demands.specs.ByTable.{ByTable}
 use Rattle.demands.specs.Document01.{NoFiveOrTwelve}
 use Rattle.demands.proofs.Firsts.{first-in}
 use Rattle.demands.proofs.Turns.{first-turn, first-after, replay-ordered}
 use Rattle.demands.proofs.TextTurns.{case-turn, fifty-text-turn}
-use Rattle.demands.proofs.Judging.{SaidBy, good, bad}
-use Rattle.demands.proofs.CaseTexts.{IsCase, case-judged}
-use Rattle.demands.proofs.StepTexts.{IsCount, steps-judged}
 use Rattle.demands.proofs.EstimatorByTable as by-table
 
 -- 5 at some place, or 12 at place 0
@@ -140,7 +140,7 @@ fewest-never budget c lent n k v h (inr (_, inr (_, inr f))) = never-room lent h
 pub wz-fewest : (text : List ℕ) (budget : ℕ) (lent left : List ℕ) (r : ℕ) → Answered (OfText text (FewestFor budget)) lent left r
     → NoFiveOrTwelve r
 wz-fewest text budget lent left r p =
-    no-five-or-twelve text (λ c. fewestChecks c budget) (fewest-never budget) lent left r (by-table.wz-fewest text budget lent left r p)
+    no-five-or-twelve text (λ c. fewestChecks c budget) (fewest-never budget) lent left r (by-table.wz-fewest (text, budget) lent left r p)
 
 -- the step text, with 50 added; then 5, 12, and the steps
 replay-never : (steps : List ℕ) → OwnNever (λ c. textReplayChecks c steps)
@@ -169,4 +169,4 @@ replay-never steps c lent n k v h f = go (first-in (fifty ++ replay) (roomForSet
 
 pub wz-replay : (text steps lent left : List ℕ) (r : ℕ) → Answered (OfText text (ReplayFor steps)) lent left r → NoFiveOrTwelve r
 wz-replay text steps lent left r p =
-    no-five-or-twelve text (λ c. textReplayChecks c steps) (replay-never steps) lent left r (by-table.wz-replay text steps lent left r p)
+    no-five-or-twelve text (λ c. textReplayChecks c steps) (replay-never steps) lent left r (by-table.wz-replay (text, steps) lent left r p)

@@ -1,4 +1,4 @@
--- For each C function: two results that meet its promise on one input are equal, and so are the bytes that they leave.
+-- For each C function: its promise determines the result, and the bytes that it leaves.
 use mathlib.Core.Path.{_≡_, sym, ap, _∙_}
 use mathlib.Core.List.{List}
 use Prim.Native.Nat.{ℕ}
@@ -10,13 +10,15 @@ use Rattle.case_read.specs.declared.ReadAnswer.the-variants as read
 use Rattle.step_replay.specs.Replying.{TextReplayReply}
 use Rattle.observe_calls.specs.Replies.{ObservedReply}
 use Rattle.place_calls.specs.Replies.{VerdictReply, FewestReply}
-use Rattle.demands.proofs.Uniqueness.{observed-unique}
-use Rattle.demands.proofs.SitingUniqueness.{verdict-unique, fewest-unique}
-use Rattle.demands.proofs.ListUniqueness.{text-replay-unique}
 use Rattle.estimator.specs.Answers.{ofObserved, ofVerdict, ofFewest, ofReplay, Said, ObservedFor}
 use Rattle.estimator.specs.Answers.{UnconfirmedFor, FewestFor, ReplayFor, OfRead, OfText}
+use Rattle.estimator.specs.Answers.{wzObservedCall, wzUnconfirmedCall, wzFewestCall, wzReplayCall}
 use Rattle.estimator_reply.specs.Results.{resultOf, leftBy, Answered}
 use Rattle.estimator_reply.specs.declared.Answer.{Answer}
+use Rattle.demands.specs.Determined.{OneReply}
+use Rattle.demands.proofs.Uniqueness.{observed-set}
+use Rattle.demands.proofs.SitingUniqueness.{cross-validate, place-fewest}
+use Rattle.demands.proofs.ListUniqueness.{replay-text}
 
 -- P says one answer
 abbrev Unique : (Answer → Type 0) → Type 0
@@ -33,10 +35,8 @@ text-unique text P u a b p q = go (readCase text .answer) p q
     go (read.Refused k) p q = p ∙ sym q
 
 -- where P says the answer, the result and every byte are fixed
-abbrev pub Fixed : (Answer → Type 0) → Type 0
-Fixed P = (lent : List ℕ) (a b : ℕ) (left right : List ℕ) → Answered P lent left a → Answered P lent right b → (a ≡ b) × (left ≡ right)
-
-fixed : (P : Answer → Type 0) → Unique P → Fixed P
+fixed : (P : Answer → Type 0) → Unique P → (lent : List ℕ) (a b : ℕ) (left right : List ℕ) → Answered P lent left a
+    → Answered P lent right b → (a ≡ b) × (left ≡ right)
 fixed P u lent a b left right p q =
     let e = u (p .answer) (q .answer) (p .is) (q .is) in (
       p .replied .result ∙ ap (λ (a : Answer). resultOf a (length lent)) e ∙ sym (q .replied .result),
@@ -45,20 +45,24 @@ fixed P u lent a b left right p q =
 
 -- ---- the four
 
-pub wz-observed-unique : (text : List ℕ) → Fixed (OfText text ObservedFor)
-wz-observed-unique text =
-    fixed (OfText text ObservedFor) (text-unique text ObservedFor (λ c. said-unique (ObservedReply c) ofObserved (observed-unique c)))
+pub wz-observed : OneReply wzObservedCall
+wz-observed text =
+    fixed (OfText text ObservedFor)
+    (text-unique text ObservedFor (λ c. said-unique (ObservedReply c) ofObserved (λ a b p q. observed-set c tt a b tt tt p q .0)))
 
-pub wz-unconfirmed-unique : (text : List ℕ) → Fixed (OfText text UnconfirmedFor)
-wz-unconfirmed-unique text =
-    fixed (OfText text UnconfirmedFor) (text-unique text UnconfirmedFor (λ c. said-unique (VerdictReply c) ofVerdict (verdict-unique c)))
+pub wz-unconfirmed : OneReply wzUnconfirmedCall
+wz-unconfirmed text =
+    fixed (OfText text UnconfirmedFor)
+    (text-unique text UnconfirmedFor (λ c. said-unique (VerdictReply c) ofVerdict (λ a b p q. cross-validate c tt a b tt tt p q .0)))
 
-pub wz-fewest-unique : (text : List ℕ) (budget : ℕ) → Fixed (OfText text (FewestFor budget))
-wz-fewest-unique text budget =
+pub wz-fewest : OneReply wzFewestCall
+wz-fewest (text, budget) =
     fixed (OfText text (FewestFor budget))
-    (text-unique text (FewestFor budget) (λ c. said-unique (FewestReply c budget) ofFewest (fewest-unique c budget)))
+    (text-unique text (FewestFor budget)
+    (λ c. said-unique (FewestReply c budget) ofFewest (λ a b p q. place-fewest (c, budget) tt a b tt tt p q .0)))
 
-pub wz-replay-unique : (text steps : List ℕ) → Fixed (OfText text (ReplayFor steps))
-wz-replay-unique text steps =
+pub wz-replay : OneReply wzReplayCall
+wz-replay (text, steps) =
     fixed (OfText text (ReplayFor steps))
-    (text-unique text (ReplayFor steps) (λ c. said-unique (TextReplayReply c steps) ofReplay (text-replay-unique c steps)))
+    (text-unique text (ReplayFor steps)
+    (λ c. said-unique (TextReplayReply c steps) ofReplay (λ a b p q. replay-text (c, steps) tt a b tt tt p q .0)))

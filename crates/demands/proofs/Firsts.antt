@@ -4,10 +4,11 @@ use mathlib.Core.List.{List, [], _∷_, _++_}
 use mathlib.Core.Logic.{_⊎_, inl, inr}
 use Prim.Native.Nat.{ℕ}
 use Rattle.refusals.specs.Refusals.{numberOf, placeOf, Check, Passed, Failed}
+use Rattle.refusals.specs.Calls.{Refuses}
 use Rattle.refusals.specs.declared.Refusal.{Refusal}
 use Rattle.refusals.proofs.Orders.{itself, passed-then}
 use Rattle.demands.specs.Order.{InTableOrder, FirstFails}
-use Rattle.demands.specs.ByTable.{Refuses, ByTable}
+use Rattle.demands.specs.ByTable.{ByTable}
 
 -- ---- the first check that fails
 

@@ -1,3 +1,4 @@
+pub mod Listing
 pub mod Uniqueness
 pub mod ListUniqueness
 pub mod SitingUniqueness
@@ -8,9 +9,6 @@ pub mod Determined
 pub mod Firsts
 pub mod Turns
 pub mod TextTurns
-pub mod Judging
-pub mod CaseTexts
-pub mod StepTexts
 pub mod CallsByTable
 pub mod TextsByTable
 pub mod EstimatorByTable

@@ -18,42 +18,41 @@ use Rattle.refusals.proofs.Orders.{itself, failed-unique, failed-or-passed, pas
 use Rattle.grid.specs.Limits.{mostBytes}
 use Rattle.case_read.specs.Reading.{start, refused, readLines, readCase}
 use Rattle.case_read.specs.declared.CaseRead.{CaseRead}
-use Rattle.report_lines.specs.Printing.{IsRefusedText, PrintedReply}
+use Rattle.report_lines.specs.Printing.{IsRefusedText, PrintedReply, printChecks, printingCall}
 use Rattle.refusals.specs.declared.Written.{Written}
 use Rattle.refusals.specs.declared.Written.the-variants as written
-use Rattle.report_day.specs.Day.{DayReport, DayFor, DayPrinted}
+use Rattle.report_day.specs.Day.{DayReport, DayFor, DayPrinted, dayReportCall}
 use Rattle.report_day.proofs.Days.{day-unique}
 use Rattle.plan_input.specs.Asking.{budgetOf, unasked, askedWith, planLines, readPlan}
-use Rattle.report_plan.specs.Plan.{planChecks, PlanReport, found, none, PlanFor, PlanPrinted}
+use Rattle.report_plan.specs.Plan.{planChecks, PlanReport, found, none, PlanFor, PlanPrinted, planReportCall}
 use Rattle.report_plan.proofs.Unique.{plan-unique}
 use Rattle.demands.specs.Order.{InTableOrder}
-use Rattle.demands.specs.TextChecks.{IsNumber, planLineChecks, inputChecks, caseChecks, lineChecks, printChecks}
-use Rattle.demands.specs.ByTable.{Refuses, ByTable, PrintedByTable, FewestPrinted}
+use Rattle.text_calls.specs.TextChecks.{caseChecks, lineChecks}
+use Rattle.text_calls.proofs.Judging.{good, bad, passing, failing}
+use Rattle.text_calls.proofs.CaseTexts.{ReadBy, lines-judged, case-judged}
+use Rattle.demands.specs.ByTable.{AllByTable}
+use Rattle.demands.specs.Printed.{PrintedByTable, FewestPrinted, IsNumber, planLineChecks, inputChecks}
 use Rattle.demands.proofs.Firsts.{reply-meets}
 use Rattle.demands.proofs.Turns.{ComesAfter, later-follows, then-ordered}
 use Rattle.demands.proofs.TextTurns.{case-ordered, input-ordered, input-turn}
-use Rattle.demands.proofs.Judging.{good, bad, passing, failing}
-use Rattle.demands.proofs.CaseTexts.{ReadBy, lines-judged, case-judged}
 
 -- ---- the reply: 6 where what is asked for has no room
 
-print-meets : (P : List ℕ → Type 0) → ((s t : List ℕ) → P s → P t → s ≡ t) → (lent left : List ℕ) (r : Written) → PrintedReply P lent left r
-    → ByTable (printChecks P lent) (Refuses written.Refused r) lent left
-print-meets P one lent left =
-    reply-meets (PrintedReply P lent left) (printChecks P lent) written.Refused refl
+print-meets : (P : List ℕ → List ℕ → Type 0) → ((text s t : List ℕ) → P text s → P text t → s ≡ t) → AllByTable (printingCall P)
+print-meets P one text lent left =
+    reply-meets (PrintedReply (P text) lent left) (printChecks (P text) lent) written.Refused refl
     (λ q p. (inl (λ h. omega (arith, h (p .text) (p .asked), p .more), p .refusal), p .kept)) cases
   where
-    cases : (r : Written) → PrintedReply P lent left r → Passed (printChecks P lent) ⊎ ((q : Refusal) × (r ≡ written.Refused q))
-    cases (written.Bytes k) p = inl (λ t a. omega (arith, p .room, ap length (one t (p .text) a (p .asked))), tt)
+    cases : (r : Written) → PrintedReply (P text) lent left r
+        → Passed (printChecks (P text) lent) ⊎ ((q : Refusal) × (r ≡ written.Refused q))
+    cases (written.Bytes k) p = inl (λ t a. omega (arith, p .room, ap length (one text t (p .text) a (p .asked))), tt)
     cases (written.Refused q) p = inr (q, refl)
 
-pub day-report : (text lent left : List ℕ) (r : Written) → PrintedReply (DayPrinted text) lent left r
-    → ByTable (printChecks (DayPrinted text) lent) (Refuses written.Refused r) lent left
-day-report text = print-meets (DayPrinted text) (day-unique text)
+pub day-report : AllByTable dayReportCall
+day-report = print-meets DayPrinted day-unique
 
-pub plan-report : (input lent left : List ℕ) (r : Written) → PrintedReply (PlanPrinted input) lent left r
-    → ByTable (printChecks (PlanPrinted input) lent) (Refuses written.Refused r) lent left
-plan-report input = print-meets (PlanPrinted input) (plan-unique input)
+pub plan-report : AllByTable planReportCall
+plan-report = print-meets PlanPrinted plan-unique
 
 -- ---- what is printed
 

@@ -7,11 +7,11 @@ use Prim.Native.Nat.{ℕ, _+_, _≤_}
 use native.Mathlib.Omega.{arith}
 use lib.Dec.{T, lit<, lit≤, ltb, ltb→lt, nltb→le}
 use lib.ListN.{length}
-use Rattle.step.specs.declared.Step.{Step}
 use Rattle.grid.specs.declared.Case.{Case}
 use Rattle.refusals.specs.declared.Refusal.{Refusal}
 use Rattle.refusals.specs.declared.Refusal.the-variants.{NoRoom}
 use Rattle.refusals.specs.Refusals.{numberOf, placeOf, Check, checkThat, Passed, Failed}
+use Rattle.refusals.specs.Calls.{Refuses}
 use Rattle.refusals.proofs.Orders.{itself}
 use Rattle.list_follow.specs.Replies.{replayChecks, ReplayReply}
 use Rattle.list_follow.specs.declared.Replayed.{Replayed}
@@ -20,23 +20,23 @@ use Rattle.case_read.specs.Reading.{got, refused}
 use Rattle.case_read.specs.declared.CaseRead.{CaseRead}
 use Rattle.case_read.specs.declared.ReadAnswer.the-variants as read
 use Rattle.step_text.specs.Steps.{readSteps, stepsOf}
-use Rattle.step_text.specs.Taking.{withRoom, leaves, StepsReadReply}
+use Rattle.step_text.specs.Taking.{withRoom, leaves}
 use Rattle.step_text.specs.declared.StepsRead.{StepsRead}
 use Rattle.step_text.specs.declared.StepsRead.the-variants.{Steps, Refused}
 use Rattle.step_text.proofs.Found.{steps-count}
 use Rattle.step_replay.specs.Replying.{textAnswer, TextReplayAt, TextReplayReply}
 use Rattle.step_replay.specs.declared.TextReplayed.{TextReplayed}
 use Rattle.step_replay.specs.declared.TextReplayed.the-variants as told
-use Rattle.text_calls.specs.Replies.{CaseReadReply, StepsCheckedReply}
+use Rattle.text_calls.specs.TextChecks.{caseChecks, stepTextChecks, withFifty, stepsReadChecks, textReplayChecks}
+use Rattle.text_calls.specs.Replies.{readCaseCall, checkStepsCall, readStepsCall, TextRefuses, replayTextCall}
+use Rattle.text_calls.proofs.Judging.{SaidBy, good, bad, failing}
+use Rattle.text_calls.proofs.CaseTexts.{IsCase, case-judged}
+use Rattle.text_calls.proofs.StepTexts.{IsCount, steps-judged}
 use Rattle.demands.specs.Order.{FirstFails}
-use Rattle.demands.specs.TextChecks.{caseChecks, stepTextChecks, withFifty, stepsReadChecks, textReplayChecks}
-use Rattle.demands.specs.ByTable.{Refuses, Unread, TextRefuses, ByTable}
+use Rattle.demands.specs.ByTable.{AllByTable}
 use Rattle.demands.proofs.Firsts.{failed-first, Ends, met, ends-later, ends-sooner}
 use Rattle.demands.proofs.Turns.{ComesAfter, then-ordered, then-follows, later-follows, replay-follows}
 use Rattle.demands.proofs.TextTurns.{case-ordered, step-text-ordered, step-text-turn, fifty-follows, fifty-text-turn}
-use Rattle.demands.proofs.Judging.{SaidBy, good, bad, failing}
-use Rattle.demands.proofs.CaseTexts.{IsCase, case-judged}
-use Rattle.demands.proofs.StepTexts.{IsCount, steps-judged}
 
 -- ---- texts read
 
@@ -74,14 +74,13 @@ steps-apart = record { one = λ q k e. cc; answer = λ q a. absurd-count q (a .0
     absurd-count : (q : Refusal) (n : ℕ) → Refused q ≡ Steps n → ⊥
     absurd-count q n e = let z : _≡_ {A = ℕ} 0 1 = cc in omega arith
 
-pub read-case : (text : List ℕ) (r : CaseRead) → CaseReadReply text r → ByTable {M = Unit {0}} (caseChecks text) (Refuses refused r) tt tt
-read-case text r p =
+pub read-case : AllByTable readCaseCall
+read-case text before after r p =
     met (caseChecks text) (Refuses refused r) (case-ordered text) (λ n k h. refl)
     (said-ends case-apart (caseChecks text) r (subst⁻¹ (SaidBy refused IsCase (caseChecks text)) p (case-judged text)))
 
-pub check-steps : (text : List ℕ) (r : StepsRead) → StepsCheckedReply text r
-    → ByTable {M = Unit {0}} (stepTextChecks text) (Refuses Refused r) tt tt
-check-steps text r p =
+pub check-steps : AllByTable checkStepsCall
+check-steps text before after r p =
     met (stepTextChecks text) (Refuses Refused r) (step-text-ordered text) (λ n k h. refl)
     (said-ends steps-apart (stepTextChecks text) r (subst⁻¹ (SaidBy Refused IsCount (stepTextChecks text)) p (steps-judged text)))
 
@@ -116,8 +115,7 @@ room-judged text room r e (good p (n, d)) =
         said-ends steps-apart (hasRoom text room) (Steps n)
         (good (omega (arith, many, nltb→le room n (subst⁻¹ (λ (b : Bool). T (not b)) h tt)), tt) (n, refl))
 
-pub read-steps : (text : List ℕ) (before after : List Step) (r : StepsRead) → StepsReadReply text before after r
-    → ByTable (stepsReadChecks text (length before)) (Refuses Refused r) before after
+pub read-steps : AllByTable readStepsCall
 read-steps text before after r p =
     met (stepsReadChecks text (length before)) (Refuses Refused r)
     (then-ordered 1 (stepTextChecks text) (hasRoom text (length before)) (step-text-ordered text) (step-text-turn text)
@@ -172,7 +170,6 @@ text-replay-follows c text =
     then-follows 3 1 (withFifty (stepTextChecks text)) (replayChecks c (stepsOf text)) (fifty-follows text) (fifty-text-turn text) (lit≤ tt)
     (replay-follows c (stepsOf text))
 
-pub replay-text : (c : Case) (text : List ℕ) (r : TextReplayed) → TextReplayReply c text r
-    → ByTable {M = Unit {0}} (textReplayChecks c text) (TextRefuses r) tt tt
-replay-text c text r p =
+pub replay-text : AllByTable replayTextCall
+replay-text (c, text) before after r p =
     met (textReplayChecks c text) (TextRefuses r) (text-replay-follows c text .0) (λ n k h. refl) (text-replay-ends c text r p)

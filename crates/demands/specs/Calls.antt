@@ -1,6 +1,14 @@
--- Demand 1's first sentence: every text, case value, list and budget gets a reply, and the call ends.
--- A call's statement is that its own code, on every input that its contract allows, returns and leaves what the contract says;
--- none of these contracts has a requirement.
+-- The public calls, and demand 1's first sentence: every text, case value, list and budget gets a reply, and the call ends.
+use mathlib.Core.List.{List, [], _∷_}
+use Rattle.refusals.specs.Calls.{Call}
+use Rattle.observe_calls.specs.Replies.{observedSetCall, firingFigureCall, testStepCall}
+use Rattle.list_derive.specs.Replies.{derivationCall}
+use Rattle.list_follow.specs.Replies.{replayCall, weaveCall}
+use Rattle.place_calls.specs.Replies.{crossValidateCall, placeGreedyCall, placeFewestCall}
+use Rattle.text_calls.specs.Replies.{readCaseCall, writeCaseCall, checkStepsCall, readStepsCall, replayTextCall}
+use Rattle.report_day.specs.Day.{dayReportCall}
+use Rattle.report_plan.specs.Plan.{planReportCall}
+use Rattle.estimator.specs.Answers.{wzObservedCall, wzUnconfirmedCall, wzFewestCall, wzReplayCall}
 use Rattle.observe_calls.proofs.observed_set.Statement as observed-set
 use Rattle.observe_calls.proofs.firing_figure.Statement as firing-figure
 use Rattle.observe_calls.proofs.test_step.Statement as test-step
@@ -22,7 +30,33 @@ use Rattle.estimator.proofs.wz_unconfirmed.Statement as wz-unconfirmed
 use Rattle.estimator.proofs.wz_fewest.Statement as wz-fewest
 use Rattle.estimator.proofs.wz_replay.Statement as wz-replay
 
--- every public call meets its promise on every input
+-- every public call: what it is given and lent, and what it promises, checks and refuses
+abbrev pub publicCalls : List Call
+publicCalls =
+    observedSetCall
+    ∷ firingFigureCall
+    ∷ testStepCall
+    ∷ derivationCall
+    ∷ replayCall
+    ∷ weaveCall
+    ∷ crossValidateCall
+    ∷ placeGreedyCall
+    ∷ placeFewestCall
+    ∷ readCaseCall
+    ∷ writeCaseCall
+    ∷ checkStepsCall
+    ∷ readStepsCall
+    ∷ replayTextCall
+    ∷ dayReportCall
+    ∷ planReportCall
+    ∷ wzObservedCall
+    ∷ wzUnconfirmedCall
+    ∷ wzFewestCall
+    ∷ wzReplayCall
+    ∷ []
+
+-- the statement of each: its own code, on every input that its contract allows, returns and leaves what the contract says;
+-- none of these contracts has a requirement
 pub record EveryCall (M : Type 1) : Type 2 where
   pub observed-set : observed-set.statement M
   pub firing-figure : firing-figure.statement M

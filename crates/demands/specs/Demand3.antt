@@ -7,6 +7,7 @@ use mathlib.Core.List.{List}
 use Prim.Native.Nat.{ℕ, _≤_}
 use lib.ListN.{length}
 use Rattle.busset.specs.Sets.{In, size, setOf}
+use Rattle.busset.specs.Held.{SetWord}
 use Rattle.step.specs.Records.{writtenInto}
 use Rattle.step.specs.declared.Step.{Step}
 use Rattle.rules.specs.Observation.{ObservedSet}
@@ -35,7 +36,7 @@ pub record Received (c : Case) (desks : List (List Step)) (received before : Lis
 pub record Weaves (c : Case) (desks : List (List Step)) (received before after : List Step) (r : Wove) : Type 0 where
   -- it never refuses
   pub count : ℕ
-  pub set : ℕ
+  pub set : SetWord
   pub answers : r ≡ wove.Written count set
   -- it writes a list that is itself accepted, and leaves the rest of the records
   pub records : after ≡ writtenInto (woven received) before

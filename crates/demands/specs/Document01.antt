@@ -6,6 +6,7 @@ use lib.IntN.{ℤ, pos}
 use lib.ListN.{length}
 use Rattle.basics.specs.Lists.{Each}
 use Rattle.busset.specs.Sets.{In, empty}
+use Rattle.busset.specs.Held.{SetWord}
 use Rattle.rules.specs.Grids.{Grid}
 use Rattle.rules.specs.Observation.{AllBut, ObservedSet}
 use Rattle.rules.specs.Steps.{Names}
@@ -37,9 +38,9 @@ pub record Document01 : Type 0 where
   -- with no units the observed set is empty
   pub least-empty : (g : Grid) → g .units ≡ empty → ObservedSet g empty
   -- the firing figure runs from -62 to 1
-  pub figure-range : (c : Case) (s i j : ℕ) (z : ℤ) → FigureReply c s i j (figured.Figure z) → Runs (mostBuses - 2) z
+  pub figure-range : (c : Case) (s : SetWord) (i j : ℕ) (z : ℤ) → FigureReply c s i j (figured.Figure z) → Runs (mostBuses - 2) z
   -- it is 1 exactly when i and all its other neighbours are observed
-  pub figure-usable : (c : Case) (s i j : ℕ) (z : ℤ) → FigureReply c s i j (figured.Figure z) → OneExactly (gridOf c) (stated c s) i j z
+  pub figure-usable : (c : Case) (s : SetWord) (i j : ℕ) (z : ℤ) → FigureReply c s i j (figured.Figure z) → OneExactly (gridOf c) (stated c s) i j z
   -- two different texts never give the same case
   pub one-text : (x y : List ℕ) (c : Case) → CaseReadReply x (got c) → CaseReadReply y (got c) → x ≡ y
   -- a case that is read is valid: 5 does not refuse it

@@ -1,8 +1,8 @@
+pub mod Calls
 pub mod Determined
 pub mod Order
-pub mod TextChecks
 pub mod ByTable
-pub mod Calls
+pub mod Printed
 pub mod Promised
 pub mod Demand1
 pub mod Demand2

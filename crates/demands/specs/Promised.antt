@@ -1,5 +1,6 @@
 -- Every call's own contract is its promise: it asks nothing of a caller, and what it tells of a reply is what the promise says.
--- `Asked` is what a contract asks for its arguments, and `Learnt` what it tells of the arguments, the reply and the arguments at the end.
+-- `Asked` is what a contract asks of its arguments, and `Learnt` what it tells of the arguments, the reply and the arguments at the end.
+-- `Keeps` says how the call's input, and what it is lent, are found in the arguments.
 use mathlib.Core.List.{List}
 use Prim.Native.Nat.{ℕ}
 use base.Logic.{ent, emp}
@@ -9,31 +10,18 @@ use denote.Ref.{RefT, now}
 use borrow.Fn.World.{World, Pr}
 use Rattle.step.specs.declared.Step.{Step}
 use Rattle.grid.specs.declared.Case.{Case}
-use Rattle.list_follow.specs.Replies.{ReplayReply, WeaveReply}
+use Rattle.refusals.specs.Calls.{Keeps}
+use Rattle.observe_calls.specs.Replies.{observedSetCall, firingFigureCall, testStepCall}
+use Rattle.list_derive.specs.Replies.{derivationCall}
+use Rattle.list_follow.specs.Replies.{replayCall, weaveCall}
 use Rattle.list_follow.specs.declared.Replayed.{Replayed}
 use Rattle.list_follow.specs.declared.Wove.{Wove}
-use Rattle.case_read.specs.declared.CaseRead.{CaseRead}
-use Rattle.step_text.specs.Taking.{StepsReadReply}
+use Rattle.place_calls.specs.Replies.{crossValidateCall, placeGreedyCall, placeFewestCall}
 use Rattle.step_text.specs.declared.StepsRead.{StepsRead}
-use Rattle.step_replay.specs.Replying.{TextReplayReply}
-use Rattle.step_replay.specs.declared.TextReplayed.{TextReplayed}
-use Rattle.report_lines.specs.Printing.{PrintedReply}
-use Rattle.refusals.specs.declared.Written.{Written}
-use Rattle.report_day.specs.Day.{DayPrinted}
-use Rattle.report_plan.specs.Plan.{PlanPrinted}
-use Rattle.observe_calls.specs.declared.Observed.{Observed}
-use Rattle.observe_calls.specs.declared.Figured.{Figured}
-use Rattle.observe.specs.declared.test.Tested.{Tested}
-use Rattle.list_derive.specs.declared.Derived.{Derived}
-use Rattle.place_calls.specs.declared.Verdict.{Verdict}
-use Rattle.place_calls.specs.declared.Greedy.{Greedy}
-use Rattle.place_calls.specs.declared.Fewest.{Fewest}
-use Rattle.observe_calls.specs.Replies.{ObservedReply, FigureReply, StepReply}
-use Rattle.list_derive.specs.Replies.{DerivationReply}
-use Rattle.place_calls.specs.Replies.{VerdictReply, GreedyReply, FewestReply}
-use Rattle.text_calls.specs.Replies.{CaseReadReply, CaseWrittenReply, StepsCheckedReply}
-use Rattle.estimator.specs.Answers.{ObservedFor, UnconfirmedFor, FewestFor, ReplayFor, OfText}
-use Rattle.estimator_reply.specs.Results.{Answered}
+use Rattle.text_calls.specs.Replies.{readCaseCall, writeCaseCall, checkStepsCall, readStepsCall, replayTextCall}
+use Rattle.report_day.specs.Day.{dayReportCall}
+use Rattle.report_plan.specs.Plan.{planReportCall}
+use Rattle.estimator.specs.Answers.{wzObservedCall, wzUnconfirmedCall, wzFewestCall, wzReplayCall}
 use Rattle.observe_calls.proofs.observed_set.Reads as observed-set
 use Rattle.observe_calls.proofs.firing_figure.Reads as firing-figure
 use Rattle.observe_calls.proofs.test_step.Reads as test-step
@@ -69,81 +57,50 @@ Tells w P φ = ent (w .𝓤) P (fact (w .𝓤) φ)
 
 pub record EveryPromise : Type 2 where
   -- the grid
-  pub observed-set : (c : Case) →
-      observed-set.Asked tt (c, tt)
-      × ((r : Observed) → observed-set.Learnt tt (c, tt) r (c, tt) → ObservedReply c r)
-  pub firing-figure : (c : Case) (s i j : ℕ) →
-      firing-figure.Asked tt (c, (s, (i, (j, tt))))
-      × ((r : Figured) → firing-figure.Learnt tt (c, (s, (i, (j, tt)))) r (c, (s, (i, (j, tt)))) → FigureReply c s i j r)
-  pub test-step : (c : Case) (s : ℕ) (x : Step) →
-      test-step.Asked tt (c, (s, (x, tt)))
-      × ((r : Tested) → test-step.Learnt tt (c, (s, (x, tt))) r (c, (s, (x, tt))) → StepReply c s x r)
+  pub observed-set : Keeps observedSetCall (λ (c, _). c) (λ a. tt) (observed-set.Asked tt) (observed-set.Learnt tt)
+  pub firing-figure : Keeps firingFigureCall (λ (c, (s, (i, (j, _)))). (c, s, i, j)) (λ a. tt)
+      (firing-figure.Asked tt) (firing-figure.Learnt tt)
+  pub test-step : Keeps testStepCall (λ (c, (s, (x, _))). (c, s, x)) (λ a. tt) (test-step.Asked tt) (test-step.Learnt tt)
   -- lists of steps
-  pub derivation : (c : Case) →
-      derivation.Asked tt (c, tt)
-      × ((r : Derived) → derivation.Learnt tt (c, tt) r (c, tt) → DerivationReply c r)
+  pub derivation : Keeps derivationCall (λ (c, _). c) (λ a. tt) (derivation.Asked tt) (derivation.Learnt tt)
   pub replay : (w : World) (κs : Lfts 1) (c : Case) (steps : RefT (List Step)) →
       let says = replay.clauses (w .𝓤) (w .H) (w .𝓖 .A) (w .𝓜 .mem) (w .𝓡 .run) κs (c, (steps, tt)) in
       AsksNothing w (says .requires tt)
-      × ((r : Replayed) → Tells w (says .ensures tt r (c, (steps, tt))) (ReplayReply c (now steps) r))
+      × ((r : Replayed) → Tells w (says .ensures tt r (c, (steps, tt))) (replayCall .promise (c, now steps) tt tt r))
   pub weave : (w : World) (κs : Lfts 2) (c : Case) (steps out : RefT (List Step)) →
       let says = weave.clauses (w .𝓤) (w .H) (w .𝓖 .A) (w .𝓜 .mem) (w .𝓡 .run) κs (c, (steps, (out, tt))) in
       AsksNothing w (says .requires tt)
       × ((r : Wove) (left : RefT (List Step)) → Tells w (says .ensures tt r (c, (steps, (left, tt))))
-      (WeaveReply c (now steps) (now out) (now left) r))
+      (weaveCall .promise (c, now steps) (now out) (now left) r))
   -- placing units
-  pub cross-validate : (c : Case) →
-      cross-validate.Asked tt (c, tt)
-      × ((r : Verdict) → cross-validate.Learnt tt (c, tt) r (c, tt) → VerdictReply c r)
-  pub place-greedy : (κs : Lfts 1) (c : Case) (budget : ℕ) (room : RefT (List ℕ)) →
-      place-greedy.Asked κs (c, (budget, (room, tt)))
-      × ((r : Greedy) (left : RefT (List ℕ)) → place-greedy.Learnt κs (c, (budget, (room, tt))) r (c, (budget, (left, tt)))
-      → GreedyReply c budget (now room) (now left) r)
-  pub place-fewest : (c : Case) (budget : ℕ) →
-      place-fewest.Asked tt (c, (budget, tt))
-      × ((r : Fewest) → place-fewest.Learnt tt (c, (budget, tt)) r (c, (budget, tt)) → FewestReply c budget r)
+  pub cross-validate : Keeps crossValidateCall (λ (c, _). c) (λ a. tt) (cross-validate.Asked tt) (cross-validate.Learnt tt)
+  pub place-greedy : (κs : Lfts 1) → Keeps placeGreedyCall (λ (c, (budget, _)). (c, budget)) (λ (_, (_, (room, _))). now room)
+      (place-greedy.Asked κs) (place-greedy.Learnt κs)
+  pub place-fewest : Keeps placeFewestCall (λ (c, (budget, _)). (c, budget)) (λ a. tt) (place-fewest.Asked tt) (place-fewest.Learnt tt)
   -- texts
-  pub read-case : (κs : Lfts 1) (text : RefT (List ℕ)) →
-      read-case.Asked κs (text, tt)
-      × ((r : CaseRead) → read-case.Learnt κs (text, tt) r (text, tt) → CaseReadReply (now text) r)
-  pub write-case : (κs : Lfts 1) (c : Case) (out : RefT (List ℕ)) →
-      write-case.Asked κs (c, (out, tt))
-      × ((r : Written) (left : RefT (List ℕ)) → write-case.Learnt κs (c, (out, tt)) r (c, (left, tt))
-      → CaseWrittenReply c (now out) r (now left))
-  pub check-steps : (κs : Lfts 1) (text : RefT (List ℕ)) →
-      check-steps.Asked κs (text, tt)
-      × ((r : StepsRead) → check-steps.Learnt κs (text, tt) r (text, tt) → StepsCheckedReply (now text) r)
+  pub read-case : (κs : Lfts 1) → Keeps readCaseCall (λ (text, _). now text) (λ a. tt) (read-case.Asked κs) (read-case.Learnt κs)
+  pub write-case : (κs : Lfts 1) → Keeps writeCaseCall (λ (c, _). c) (λ (_, (out, _)). now out)
+      (write-case.Asked κs) (write-case.Learnt κs)
+  pub check-steps : (κs : Lfts 1) → Keeps checkStepsCall (λ (text, _). now text) (λ a. tt)
+      (check-steps.Asked κs) (check-steps.Learnt κs)
   pub read-steps : (w : World) (κs : Lfts 2) (text : RefT (List ℕ)) (out : RefT (List Step)) →
       let says = read-steps.clauses (w .𝓤) (w .H) (w .𝓖 .A) (w .𝓜 .mem) (w .𝓡 .run) κs (text, (out, tt)) in
       AsksNothing w (says .requires tt)
       × ((r : StepsRead) (left : RefT (List Step)) → Tells w (says .ensures tt r (text, (left, tt)))
-      (StepsReadReply (now text) (now out) (now left) r))
-  pub replay-text : (κs : Lfts 1) (c : Case) (text : RefT (List ℕ)) →
-      replay-text.Asked κs (c, (text, tt))
-      × ((r : TextReplayed) → replay-text.Learnt κs (c, (text, tt)) r (c, (text, tt)) → TextReplayReply c (now text) r)
+      (readStepsCall .promise (now text) (now out) (now left) r))
+  pub replay-text : (κs : Lfts 1) → Keeps replayTextCall (λ (c, (text, _)). (c, now text)) (λ a. tt)
+      (replay-text.Asked κs) (replay-text.Learnt κs)
   -- the reports
-  pub day-report : (κs : Lfts 2) (text out : RefT (List ℕ)) →
-      day-report.Asked κs (text, (out, tt))
-      × ((r : Written) (left : RefT (List ℕ)) → day-report.Learnt κs (text, (out, tt)) r (text, (left, tt))
-      → PrintedReply (DayPrinted (now text)) (now out) (now left) r)
-  pub plan-report : (κs : Lfts 2) (input out : RefT (List ℕ)) →
-      plan-report.Asked κs (input, (out, tt))
-      × ((r : Written) (left : RefT (List ℕ)) → plan-report.Learnt κs (input, (out, tt)) r (input, (left, tt))
-      → PrintedReply (PlanPrinted (now input)) (now out) (now left) r)
+  pub day-report : (κs : Lfts 2) → Keeps dayReportCall (λ (text, _). now text) (λ (_, (out, _)). now out)
+      (day-report.Asked κs) (day-report.Learnt κs)
+  pub plan-report : (κs : Lfts 2) → Keeps planReportCall (λ (input, _). now input) (λ (_, (out, _)). now out)
+      (plan-report.Asked κs) (plan-report.Learnt κs)
   -- the state estimator's calls
-  pub wz-observed : (κs : Lfts 2) (text set : RefT (List ℕ)) →
-      wz-observed.Asked κs (text, (set, tt))
-      × ((r : ℕ) (left : RefT (List ℕ)) → wz-observed.Learnt κs (text, (set, tt)) r (text, (left, tt))
-      → Answered (OfText (now text) ObservedFor) (now set) (now left) r)
-  pub wz-unconfirmed : (κs : Lfts 2) (text set : RefT (List ℕ)) →
-      wz-unconfirmed.Asked κs (text, (set, tt))
-      × ((r : ℕ) (left : RefT (List ℕ)) → wz-unconfirmed.Learnt κs (text, (set, tt)) r (text, (left, tt))
-      → Answered (OfText (now text) UnconfirmedFor) (now set) (now left) r)
-  pub wz-fewest : (κs : Lfts 2) (text : RefT (List ℕ)) (budget : ℕ) (set : RefT (List ℕ)) →
-      wz-fewest.Asked κs (text, (budget, (set, tt)))
-      × ((r : ℕ) (left : RefT (List ℕ)) → wz-fewest.Learnt κs (text, (budget, (set, tt))) r (text, (budget, (left, tt)))
-      → Answered (OfText (now text) (FewestFor budget)) (now set) (now left) r)
-  pub wz-replay : (κs : Lfts 3) (text steps set : RefT (List ℕ)) →
-      wz-replay.Asked κs (text, (steps, (set, tt)))
-      × ((r : ℕ) (left : RefT (List ℕ)) → wz-replay.Learnt κs (text, (steps, (set, tt))) r (text, (steps, (left, tt)))
-      → Answered (OfText (now text) (ReplayFor (now steps))) (now set) (now left) r)
+  pub wz-observed : (κs : Lfts 2) → Keeps wzObservedCall (λ (text, _). now text) (λ (_, (set, _)). now set)
+      (wz-observed.Asked κs) (wz-observed.Learnt κs)
+  pub wz-unconfirmed : (κs : Lfts 2) → Keeps wzUnconfirmedCall (λ (text, _). now text) (λ (_, (set, _)). now set)
+      (wz-unconfirmed.Asked κs) (wz-unconfirmed.Learnt κs)
+  pub wz-fewest : (κs : Lfts 2) → Keeps wzFewestCall (λ (text, (budget, _)). (now text, budget)) (λ (_, (_, (set, _))). now set)
+      (wz-fewest.Asked κs) (wz-fewest.Learnt κs)
+  pub wz-replay : (κs : Lfts 3) → Keeps wzReplayCall (λ (text, (steps, _)). (now text, now steps)) (λ (_, (_, (set, _))). now set)
+      (wz-replay.Asked κs) (wz-replay.Learnt κs)

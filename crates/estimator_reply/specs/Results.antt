@@ -1,14 +1,15 @@
 -- The result that a C program gets, and the bytes that it lent.
 use mathlib.Core.Path.{_≡_}
 use mathlib.Core.Bool.{cond}
-use mathlib.Core.List.{List, _++_}
-use Prim.Native.Nat.{ℕ, _+_, _*_, _≤_}
+use mathlib.Core.List.{List, [], _∷_, _++_}
+use Prim.Native.Nat.{ℕ, _+_, _*_, _≤_, _<_}
 use lib.Dec.{ltb}
 use lib.ListN.{length, drop}
+use Rattle.busset.specs.Held.{SetWord, emptyWord}
 use Rattle.busset.specs.Bytes.{setBytes, setLength}
 use Rattle.refusals.specs.declared.Refusal.{Refusal}
 use Rattle.refusals.specs.declared.Refusal.the-variants.{NoRoom}
-use Rattle.refusals.specs.Refusals.{numberOf, placeOf}
+use Rattle.refusals.specs.Refusals.{numberOf, placeOf, Check, checkThat}
 use Rattle.grid.specs.Limits.{mostStepBytes}
 use Rattle.estimator_reply.specs.declared.Answer.{Answer}
 use Rattle.estimator_reply.specs.declared.Answer.the-variants.{Set, Refused, Unread}
@@ -40,13 +41,23 @@ pub record Answered (P : Answer → Type 0) (lent left : List ℕ) (r : ℕ) : T
   pub is : P answer
   pub replied : Replied answer lent left r
 
+-- the set has room, or 6: what every C function checks last
+abbrev pub roomForSet : List ℕ → List Check
+roomForSet lent = checkThat (setLength ≤ length lent) 6 0 ∷ []
+
+-- the result is the refusal with this number and this place: 100 times the place plus the number
+pub record Coded (result number place : ℕ) : Type 0 where
+  pub is : result ≡ 100 * place + number
+  pub some : 1 ≤ number
+  pub most : number < 100
+
 -- ---- on the way
 
--- the set that an answer has: none where it is a refusal
-abbrev pub setIn : Answer → ℕ
+-- the word of the set that an answer has: of no bus where it is a refusal
+abbrev pub setIn : Answer → SetWord
 setIn (Set s) = s
-setIn (Refused q) = 0
-setIn (Unread q) = 0
+setIn (Refused q) = emptyWord
+setIn (Unread q) = emptyWord
 
 -- no place is beyond the line after the last that a step text can have
 abbrev pub farthest : ℕ

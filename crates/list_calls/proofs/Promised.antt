@@ -9,7 +9,7 @@ use denote.Triple.Clauses.{ClausesAt}
 use borrow.Fn.World.{World}
 use Rattle.step.specs.declared.Step.{Step}
 use Rattle.grid.specs.declared.Case.{Case}
-use Rattle.list_follow.specs.Replies.{ReplayReply, WeaveReply}
+use Rattle.list_follow.specs.Replies.{replayCall, weaveCall}
 use Rattle.list_follow.specs.declared.Replayed.{Replayed}
 use Rattle.list_follow.specs.declared.Wove.{Wove}
 use Rattle.list_calls.proofs.replay as replay
@@ -25,12 +25,12 @@ weave-says w = weave.clauses (w .𝓤) (w .H) (w .𝓖 .A) (w .𝓜 .mem) (w .�
 pub replay-promised : (w : World) (κs : Lfts 1) (c : Case) (steps : RefT (List Step)) →
     let says = replay-says w κs (c, (steps, tt)) in
     ent (w .𝓤) (emp (w .𝓤)) (says .requires tt)
-    × ((r : Replayed) → ent (w .𝓤) (says .ensures tt r (c, (steps, tt))) (fact (w .𝓤) (ReplayReply c (now steps) r)))
+    × ((r : Replayed) → ent (w .𝓤) (says .ensures tt r (c, (steps, tt))) (fact (w .𝓤) (replayCall .promise (c, now steps) tt tt r)))
 replay-promised w κs c steps = (id⊢ (w .𝓤) _, λ r. id⊢ (w .𝓤) _)
 
 pub weave-promised : (w : World) (κs : Lfts 2) (c : Case) (steps out : RefT (List Step)) →
     let says = weave-says w κs (c, (steps, (out, tt))) in
     ent (w .𝓤) (emp (w .𝓤)) (says .requires tt)
     × ((r : Wove) (left : RefT (List Step)) → ent (w .𝓤) (says .ensures tt r (c, (steps, (left, tt))))
-    (fact (w .𝓤) (WeaveReply c (now steps) (now out) (now left) r)))
+    (fact (w .𝓤) (weaveCall .promise (c, now steps) (now out) (now left) r)))
 weave-promised w κs c steps out = (id⊢ (w .𝓤) _, λ r left. id⊢ (w .𝓤) _)

@@ -12,6 +12,7 @@ use borrow.Author.Tests.{le-leb, lt-leb}
 use Rattle.basics.specs.Deciding.{Decides}
 use Rattle.busset.specs.Sets.{Sub, Counted, width, size, empty, setOf}
 use Rattle.basics.proofs.Tests.{decides-le, decides-by, decides-no, refutes}
+use Rattle.busset.proofs.Holding.{word-own}
 use Rattle.busset.proofs.Members.{sub-of, sub-antisym}
 use Rattle.step.specs.Records.{writtenInto}
 use Rattle.step.specs.declared.Step.{Step}
@@ -65,7 +66,7 @@ pub ended-good : {c : Case} {st : Following} {f : Bool} → st .standing ≡ Goo
     → AnswersReplay c st (replayed.Reached (st .set) f)
 ended-good {c} {st} {f} e d xs s =
     let set = s .carries e .set in
-    (subst (StandingBy (replayChecks c xs)) e (s .standing), set, subst (λ (t : ℕ). Decides (Finished (gridOf c) t) f) set d)
+    (subst (StandingBy (replayChecks c xs)) e (s .standing), set, subst (λ (t : ℕ). Decides (Finished (gridOf c) t) f) set d, word-own _)
 
 pub ended-bad : {c : Case} {st : Following} {q : Refusal} → st .standing ≡ Bad q → AnswersReplay c st (replayed.Refused q)
 ended-bad {c} e xs s = subst (StandingBy (replayChecks c xs)) e (s .standing)
@@ -122,6 +123,7 @@ module _ (c : Case) (st : Following) (xs before : List Step) where
       counts h,
       h .set ∙ sym (woven-reaches xs),
       put ∙ ap (λ (ys : List Step). writtenInto ys before) (take-all count (woven xs) (omega (arith, counts h))),
+      word-own _,
     ),
   )
 

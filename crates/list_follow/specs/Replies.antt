@@ -8,6 +8,7 @@ use lib.ListN.{length, take}
 use Rattle.basics.specs.Deciding.{Decides}
 use Rattle.basics.specs.Lists.{Each}
 use Rattle.busset.specs.Sets.{Bus, width, size, setOf}
+use Rattle.busset.specs.Held.{IsWord}
 use Rattle.step.specs.Records.{writtenInto}
 use Rattle.step.specs.declared.Step.{Step}
 use Rattle.rules.specs.Steps.{reached, Finished}
@@ -16,6 +17,7 @@ use Rattle.grid.specs.declared.Case.{Case}
 use Rattle.grid.specs.Cases.{gridOf}
 use Rattle.refusals.specs.declared.Refusal.the-variants.{NoRoom}
 use Rattle.refusals.specs.Refusals.{Check, checkThat, Passed, Failed}
+use Rattle.refusals.specs.Calls.{Call, Refuses}
 use Rattle.list_follow.specs.Following.{listChecks, StandsAfter}
 use Rattle.list_follow.specs.declared.Task.the-variants.{Replay, Weave}
 use Rattle.list_follow.specs.declared.Standing.{Standing}
@@ -32,11 +34,22 @@ use Rattle.list_follow.specs.declared.Wove.the-variants as wove
 abbrev pub replayChecks : Case → List Step → List Check
 replayChecks c xs = listChecks Replay c (length xs) xs
 
--- the set reached and whether the list is finished, or the first bad step
+-- the word of the set reached, and whether the list is finished; or the first bad step
 abbrev pub ReplayReply : Case → List Step → Replayed → Type 0
 ReplayReply c xs (replayed.Reached s finished) =
-    Passed (replayChecks c xs) × (setOf s ≡ reached xs) × Decides (Finished (gridOf c) (reached xs)) finished
+    Passed (replayChecks c xs) × (setOf s ≡ reached xs) × Decides (Finished (gridOf c) (reached xs)) finished × IsWord s
 ReplayReply c xs (replayed.Refused r) = Failed (replayChecks c xs) r
+
+-- `replay`
+abbrev pub replayCall : Call
+replayCall = record {
+  Input = Case × List Step;
+  Lent = Unit {0};
+  Reply = Replayed;
+  promise = λ (c, xs) before after r. ReplayReply c xs r;
+  checks = λ (c, xs) lent. replayChecks c xs;
+  refuses = Refuses replayed.Refused;
+}
 
 -- ---- weaving, into records that hold `before` and then `after`
 
@@ -44,12 +57,23 @@ ReplayReply c xs (replayed.Refused r) = Failed (replayChecks c xs) r
 abbrev pub weaveChecks : Case → List Step → ℕ → List Check
 weaveChecks c xs room = listChecks Weave c (length xs) xs ++ (checkThat (length (woven xs) ≤ room) 6 0 ∷ [])
 
--- the count written and the set that what is written reaches; a refusal leaves every record as it was
+-- the count written and the word of the set that what is written reaches; a refusal leaves every record as it was
 abbrev pub WeaveReply : Case → List Step → List Step → List Step → Wove → Type 0
 WeaveReply c xs before after (wove.Written count s) =
     Passed (weaveChecks c xs (length before)) × (count ≡ length (woven xs)) × (setOf s ≡ reached (woven xs))
-    × (after ≡ writtenInto (woven xs) before)
+    × (after ≡ writtenInto (woven xs) before) × IsWord s
 WeaveReply c xs before after (wove.Refused r) = Failed (weaveChecks c xs (length before)) r × (after ≡ before)
+
+-- `weave`
+abbrev pub weaveCall : Call
+weaveCall = record {
+  Input = Case × List Step;
+  Lent = List Step;
+  Reply = Wove;
+  promise = λ (c, xs) before after r. WeaveReply c xs before after r;
+  checks = λ (c, xs) lent. weaveChecks c xs (length lent);
+  refuses = Refuses wove.Refused;
+}
 
 -- ---- on the way
 

@@ -1,15 +1,9 @@
 -- The call's own contract is its promise: it asks nothing of the caller, and what it tells of a reply is what the promise says.
-use Prim.Native.Nat.{ℕ}
-use mathlib.Core.List.{List}
 use contract.Lifetimes.{Lfts}
-use denote.Ref.{RefT, now}
-use Rattle.refusals.specs.declared.Written.{Written}
-use Rattle.report_lines.specs.Printing.{PrintedReply}
-use Rattle.report_day.specs.Day.{DayPrinted}
+use denote.Ref.{now}
+use Rattle.refusals.specs.Calls.{Keeps}
+use Rattle.report_day.specs.Day.{dayReportCall}
 use Rattle.report_day.proofs.day_report.Reads as day-report
 
-pub day-report-promised : (κs : Lfts 2) (text out : RefT (List ℕ)) →
-    day-report.Asked κs (text, (out, tt))
-    × ((r : Written) (left : RefT (List ℕ)) → day-report.Learnt κs (text, (out, tt)) r (text, (left, tt))
-    → PrintedReply (DayPrinted (now text)) (now out) (now left) r)
-day-report-promised κs text out = (tt, λ r left told. told)
+pub day-report-promised : (κs : Lfts 2) → Keeps dayReportCall (λ (text, _). now text) (λ (_, (out, _)). now out) (day-report.Asked κs) (day-report.Learnt κs)
+day-report-promised κs a = (tt, λ r b told. told)

@@ -12,11 +12,12 @@ use Rattle.text_field.specs.Split.{bytes, lineFeed}
 use Rattle.text_field.specs.Number.{numberText}
 use Rattle.step_line.specs.StepLine.{stepText}
 use Rattle.grid.specs.declared.Case.{Case}
+use Rattle.refusals.specs.Calls.{Call}
 use Rattle.grid.specs.Cases.{gridOf}
 use Rattle.case_read.specs.Reading.{readCase}
 use Rattle.case_read.specs.declared.ReadAnswer.{ReadAnswer}
 use Rattle.case_read.specs.declared.ReadAnswer.the-variants.{Read, Refused}
-use Rattle.report_lines.specs.Printing.{printedLine, IsRefusedText}
+use Rattle.report_lines.specs.Printing.{printedLine, IsRefusedText, printingCall}
 
 -- ---- its lines
 
@@ -66,3 +67,7 @@ DayFor (Refused q) c t = IsRefusedText q t
 -- t is what the day report prints for the case text
 abbrev pub DayPrinted : List ℕ → List ℕ → Type 0
 DayPrinted text t = DayFor (readCase text .answer) (readCase text .case) t
+
+-- `day_report`
+abbrev pub dayReportCall : Call
+dayReportCall = printingCall DayPrinted

@@ -5,7 +5,8 @@ use Prim.Native.Nat.{ℕ, _≤_, _<_}
 use lib.ListN.{length, drop}
 use Rattle.text_field.specs.Split.{join, bytes, tab, lineFeed}
 use Rattle.text_field.specs.Number.{numberText}
-use Rattle.refusals.specs.Refusals.{numberOf, placeOf, Is}
+use Rattle.refusals.specs.Refusals.{numberOf, placeOf, Is, Check, checkThat}
+use Rattle.refusals.specs.Calls.{Call, Refuses}
 use Rattle.refusals.specs.declared.Refusal.{Refusal}
 use Rattle.refusals.specs.declared.Written.{Written}
 use Rattle.refusals.specs.declared.Written.the-variants.{Bytes, Refused}
@@ -46,3 +47,20 @@ pub record NotPrinted (P : List ℕ → Type 0) (lent left : List ℕ) (r : Refu
 abbrev pub PrintedReply : (List ℕ → Type 0) → List ℕ → List ℕ → Written → Type 0
 PrintedReply P lent left (Bytes k) = Printed P lent left k
 PrintedReply P lent left (Refused r) = NotPrinted P lent left r
+
+-- ---- a call that prints
+
+-- every text that P asks for has room, or 6
+abbrev pub printChecks : (List ℕ → Type 0) → List ℕ → List Check
+printChecks P lent = checkThat ((t : List ℕ) → P t → length t ≤ length lent) 6 0 ∷ []
+
+-- the call that prints, into the bytes lent, the text that P asks for of a text
+abbrev pub printingCall : (List ℕ → List ℕ → Type 0) → Call
+printingCall P = record {
+  Input = List ℕ;
+  Lent = List ℕ;
+  Reply = Written;
+  promise = λ text lent left r. PrintedReply (P text) lent left r;
+  checks = λ text lent. printChecks (P text) lent;
+  refuses = Refuses Refused;
+}

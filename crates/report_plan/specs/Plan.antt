@@ -12,10 +12,11 @@ use Rattle.refusals.specs.declared.Refusal.{Refusal}
 use Rattle.grid.specs.Limits.{largestBudget, mostBudget}
 use Rattle.grid.specs.Cases.{gridOf}
 use Rattle.refusals.specs.Refusals.{Check, checkThat, Passed, Failed}
+use Rattle.refusals.specs.Calls.{Call}
 use Rattle.case_line.specs.CaseText.{members, linesText}
 use Rattle.case_read.specs.declared.ReadAnswer.{ReadAnswer}
 use Rattle.case_read.specs.declared.ReadAnswer.the-variants.{Read, Refused}
-use Rattle.report_lines.specs.Printing.{printedLine, IsRefusedText}
+use Rattle.report_lines.specs.Printing.{printedLine, IsRefusedText, printingCall}
 use Rattle.plan_input.specs.Asking.{readPlan}
 
 -- the budget is at most the grid's limit, or 10 at line 1; some addition within it covers, or 11
@@ -49,3 +50,7 @@ PlanFor (Refused q) c budget t = IsRefusedText q t
 -- t is what the planning program prints for the input
 abbrev pub PlanPrinted : List ℕ → List ℕ → Type 0
 PlanPrinted input t = PlanFor (readPlan input .read .answer) (readPlan input .read .case) (readPlan input .budget) t
+
+-- `plan_report`
+abbrev pub planReportCall : Call
+planReportCall = printingCall PlanPrinted

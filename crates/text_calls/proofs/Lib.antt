@@ -1,1 +1,4 @@
+pub mod Judging
+pub mod CaseTexts
+pub mod StepTexts
 pub mod Promised

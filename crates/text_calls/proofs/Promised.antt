@@ -1,29 +1,25 @@
 -- Each call's own contract is its promise: it asks nothing of the caller, and what it tells of a reply is what the promise says.
-use Prim.Native.Nat.{ℕ}
-use mathlib.Core.List.{List}
+-- That of `read_steps` is in step_records.
 use contract.Lifetimes.{Lfts}
-use denote.Ref.{RefT, now}
-use Rattle.grid.specs.declared.Case.{Case}
-use Rattle.case_read.specs.declared.CaseRead.{CaseRead}
-use Rattle.refusals.specs.declared.Written.{Written}
-use Rattle.step_text.specs.declared.StepsRead.{StepsRead}
-use Rattle.text_calls.specs.Replies.{CaseReadReply, CaseWrittenReply, StepsCheckedReply}
+use denote.Ref.{now}
+use Rattle.refusals.specs.Calls.{Keeps}
+use Rattle.text_calls.specs.Replies.{readCaseCall, writeCaseCall, checkStepsCall, replayTextCall}
 use Rattle.case_read.proofs.read_case.Reads as read-case
 use Rattle.text_calls.proofs.write_case.Reads as write-case
 use Rattle.step_text.proofs.check_steps.Reads as check-steps
+use Rattle.step_replay.proofs.replay_text.Reads as replay-text
 
-pub read-case-promised : (κs : Lfts 1) (text : RefT (List ℕ)) →
-    read-case.Asked κs (text, tt)
-    × ((r : CaseRead) → read-case.Learnt κs (text, tt) r (text, tt) → CaseReadReply (now text) r)
-read-case-promised κs text = (tt, λ r told. told)
+pub read-case-promised : (κs : Lfts 1) → Keeps readCaseCall (λ (text, _). now text) (λ a. tt) (read-case.Asked κs) (read-case.Learnt κs)
+read-case-promised κs a = (tt, λ r b told. told)
 
-pub write-case-promised : (κs : Lfts 1) (c : Case) (out : RefT (List ℕ)) →
-    write-case.Asked κs (c, (out, tt))
-    × ((r : Written) (left : RefT (List ℕ)) → write-case.Learnt κs (c, (out, tt)) r (c, (left, tt))
-    → CaseWrittenReply c (now out) r (now left))
-write-case-promised κs c out = (tt, λ r left told. told)
+pub write-case-promised : (κs : Lfts 1) → Keeps writeCaseCall (λ (c, _). c) (λ (_, (out, _)). now out)
+    (write-case.Asked κs) (write-case.Learnt κs)
+write-case-promised κs a = (tt, λ r b told. told)
 
-pub check-steps-promised : (κs : Lfts 1) (text : RefT (List ℕ)) →
-    check-steps.Asked κs (text, tt)
-    × ((r : StepsRead) → check-steps.Learnt κs (text, tt) r (text, tt) → StepsCheckedReply (now text) r)
-check-steps-promised κs text = (tt, λ r told. told)
+pub check-steps-promised : (κs : Lfts 1) → Keeps checkStepsCall (λ (text, _). now text) (λ a. tt)
+    (check-steps.Asked κs) (check-steps.Learnt κs)
+check-steps-promised κs a = (tt, λ r b told. told)
+
+pub replay-text-promised : (κs : Lfts 1) → Keeps replayTextCall (λ (c, (text, _)). (c, now text)) (λ a. tt)
+    (replay-text.Asked κs) (replay-text.Learnt κs)
+replay-text-promised κs a = (tt, λ r b told. told)

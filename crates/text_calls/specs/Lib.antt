@@ -1,1 +1,2 @@
+pub mod TextChecks
 pub mod Replies

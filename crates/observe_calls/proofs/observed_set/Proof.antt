@@ -2,6 +2,7 @@
 use mathlib.Core.Logic.{inl}
 use borrow.Author.Tests.{not-true, not-false}
 use Rattle.basics.proofs.Tests.{refutes}
+use Rattle.busset.proofs.Holding.{word-own}
 use Rattle.refusals.proofs.Orders.{itself}
 use borrow.Author.Needs.{needs}
 use Rattle.observe_calls.proofs.observed_set.Statement.{statement}
@@ -19,7 +20,7 @@ observed-requires c κs = search needs
 returns-2 : tie.Need-returns-2
 returns-2 c =
     let valid = c .before .before .before in
-    ((valid .before .is-valid .ensures .yes (not-false _ (valid .if1 .left)), tt), c .observed .ensures _ _)
+    ((valid .before .is-valid .ensures .yes (not-false _ (valid .if1 .left)), tt), c .observed .ensures _ _, word-own _)
 
 pub observed-set-spec : {M : Type 1} → statement M
 observed-set-spec = tie.close (tie.spec is-valid-requires returns observed-requires returns-2)

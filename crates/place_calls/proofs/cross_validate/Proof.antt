@@ -2,6 +2,7 @@
 use mathlib.Core.Logic.{inl}
 use borrow.Author.Tests.{not-true, not-false}
 use Rattle.basics.proofs.Tests.{refutes}
+use Rattle.busset.proofs.Holding.{word-own}
 use Rattle.grid.specs.Cases.{Valid}
 use Rattle.refusals.proofs.Orders.{itself}
 use borrow.Author.Needs.{needs}
@@ -21,7 +22,7 @@ unconfirmed-requires : tie.Need-unconfirmed-requires
 unconfirmed-requires c κs = valid (c .before .before) .proper .lines
 
 returns-2 : tie.Need-returns-2
-returns-2 c = ((valid (c .before .before .before), tt), c .unconfirmed .ensures)
+returns-2 c = ((valid (c .before .before .before), tt), c .unconfirmed .ensures, word-own _)
 
 pub cross-validate-spec : {M : Type 1} → statement M
 cross-validate-spec = tie.close (tie.spec is-valid-requires returns unconfirmed-requires returns-2)

@@ -5,6 +5,7 @@ use Prim.Native.Nat.{_≤_}
 use native.Mathlib.Omega.{arith}
 use borrow.Author.Tests.{not-true, not-false}
 use Rattle.basics.proofs.Tests.{refutes}
+use Rattle.busset.proofs.Holding.{word-own}
 use Rattle.rules.proofs.Ordering.{fewest-some}
 use Rattle.grid.specs.Limits.{mostBudget}
 use Rattle.grid.specs.Cases.{gridOf, Valid}
@@ -58,7 +59,7 @@ returns-3 c =
     let called = c .before .before .before in
     let second = called .before .before .before in
     let found = answer called _ (c .before .found .given .1) in
-    ((valid (second .before .before), (within second, (fewest-some found, tt))), found)
+    ((valid (second .before .before), (within second, (fewest-some found, tt))), found, word-own _)
 
 returns-4 : tie.Need-returns-4
 returns-4 c =

@@ -16,8 +16,8 @@ use Rattle.refusals.proofs.Orders.{itself}
 use Rattle.step_text.specs.Steps.{stepInRange, ended, lineSaid, stepLines, readSteps}
 use Rattle.step_text.specs.declared.StepsRead.{StepsRead}
 use Rattle.step_text.specs.declared.StepsRead.the-variants.{Steps, Refused}
-use Rattle.demands.proofs.Judging.{SaidBy, good, passing, failing, within-limit}
-use Rattle.demands.specs.TextChecks.{NothingFollows, isFormed, isRanged, HasTurn, afterStep, stepLineChecks, stepTextChecks}
+use Rattle.text_calls.proofs.Judging.{SaidBy, good, passing, failing, within-limit}
+use Rattle.text_calls.specs.TextChecks.{NothingFollows, isFormed, isRanged, HasTurn, afterStep, stepLineChecks, stepTextChecks}
 
 -- a number of steps
 abbrev pub IsCount : StepsRead → Type 0

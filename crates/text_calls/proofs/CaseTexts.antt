@@ -18,8 +18,8 @@ use Rattle.case_read.specs.Reading.{readCase}
 use Rattle.case_read.specs.declared.CaseRead.{CaseRead}
 use Rattle.case_judge.specs.declared.Judgement.{Judgement}
 use Rattle.case_judge.specs.declared.Judgement.the-variants.{Form, Range, Order}
-use Rattle.demands.proofs.Judging.{SaidBy, good, passing, failing, within-limit}
-use Rattle.demands.specs.TextChecks.{NothingFollows, afterRecord, lineChecks, linesFrom, caseChecks}
+use Rattle.text_calls.proofs.Judging.{SaidBy, good, passing, failing, within-limit}
+use Rattle.text_calls.specs.TextChecks.{NothingFollows, afterRecord, lineChecks, linesFrom, caseChecks}
 
 -- a case
 abbrev pub IsCase : CaseRead → Type 0

@@ -1,13 +1,10 @@
--- What reading a text checks, line after line.
+-- What each call that reads a text checks, line after line.
 use mathlib.Core.Path.{_≡_}
 use mathlib.Core.Bool.{Bool, true, false}
 use mathlib.Core.List.{List, [], _∷_, _++_}
 use Prim.Native.Nat.{ℕ, _+_, _≤_}
 use lib.ListN.{length}
-use Rattle.busset.specs.Bytes.{setLength}
 use Rattle.text_field.specs.Split.{split, lineFeed}
-use Rattle.text_field.specs.declared.Numeral.{Numeral}
-use Rattle.text_field.specs.declared.Numeral.the-variants as numeral
 use Rattle.case_line.specs.Record.{recordOf}
 use Rattle.step_line.specs.StepLine.{stepLineOf}
 use Rattle.case_line.specs.declared.Record.{Record}
@@ -18,10 +15,9 @@ use Rattle.grid.specs.declared.Case.{Case}
 use Rattle.grid.specs.Limits.{mostSteps, mostBytes, mostStepBytes}
 use Rattle.refusals.specs.Refusals.{Check, checkThat}
 use Rattle.case_judge.specs.Judging.{inPlace, inRange, inOrder}
-use Rattle.case_read.specs.Reading.{Reader, start, nextReader, readCase}
+use Rattle.case_read.specs.Reading.{Reader, start, nextReader}
 use Rattle.list_follow.specs.Replies.{replayChecks}
 use Rattle.step_text.specs.Steps.{stepInRange, stepsOf}
-use Rattle.plan_input.specs.Asking.{budgetOf}
 
 -- nothing follows `end`
 abbrev pub NothingFollows : List ℕ → List (List ℕ) → Type 0
@@ -110,35 +106,3 @@ stepsReadChecks text room = stepTextChecks text ++ checkThat (length (stepsOf te
 -- a step text replayed: the whole text, and then its steps
 abbrev pub textReplayChecks : Case → List ℕ → List Check
 textReplayChecks c text = withFifty (stepTextChecks text) ++ replayChecks c (stepsOf text)
-
--- ---- the state estimator's calls
-
--- the set has room, or 6
-abbrev pub roomForSet : List ℕ → List Check
-roomForSet lent = checkThat (setLength ≤ length lent) 6 0 ∷ []
-
--- the case text, then what the call on its case checks, then 6
-abbrev pub estimatorChecks : List ℕ → (Case → List Check) → List ℕ → List Check
-estimatorChecks text checks lent = caseChecks text ++ (checks (readCase text .case) ++ roomForSet lent)
-
--- ---- the planning program's input
-
--- a budget
-abbrev pub IsNumber : Numeral → Type 0
-IsNumber (numeral.Is budget) = Unit {0}
-IsNumber numeral.Wrong = ⊥
-
--- the plan line, or 2 at line 1, and then the case text's lines, which count from 2
-abbrev pub planLineChecks : List ℕ → List (List ℕ) → List Check
-planLineChecks l [] = checkThat ⊥ 2 1 ∷ []
-planLineChecks l (m ∷ ms) = checkThat (IsNumber (budgetOf l)) 2 1 ∷ lineChecks start 2 m ms
-
--- 1 for the whole input, then the first bad line
-abbrev pub inputChecks : List ℕ → List Check
-inputChecks input = checkThat (length input ≤ mostBytes) 1 0 ∷ planLineChecks (split lineFeed input .first) (split lineFeed input .rest)
-
--- ---- what is printed
-
--- every text that is asked for has room, or 6
-abbrev pub printChecks : (List ℕ → Type 0) → List ℕ → List Check
-printChecks P lent = checkThat ((t : List ℕ) → P t → length t ≤ length lent) 6 0 ∷ []
