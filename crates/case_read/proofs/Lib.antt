@@ -1,3 +1,4 @@
 pub mod Lines
 pub mod Lengths
 pub mod Refusing
+pub mod CaseTexts

@@ -16,7 +16,7 @@ use Rattle.case_read.specs.Reading.{refused, readCase}
 use Rattle.case_read.specs.declared.CaseRead.{CaseRead}
 use Rattle.list_follow.specs.Replies.{replayChecks}
 use Rattle.step_text.specs.Steps.{stepsOf}
-use Rattle.step_replay.specs.Replying.{TextReplayReply}
+use Rattle.step_replay.specs.Replying.{TextReplayReply, withFifty, textReplayChecks, IsUnread, TextRefuses}
 use Rattle.step_replay.specs.declared.TextReplayed.{TextReplayed}
 use Rattle.step_replay.specs.declared.TextReplayed.the-variants as told
 use Rattle.observe_calls.specs.Replies.{observedChecks, ObservedReply}
@@ -33,11 +33,10 @@ use Rattle.estimator.specs.Answers.{ofObserved, ofVerdict, ofFewest, ofReplay, 
 use Rattle.estimator.specs.Answers.{UnconfirmedFor, FewestFor, ReplayFor, OfRead, OfText, estimatorChecks}
 use Rattle.estimator.specs.Answers.{wzObservedCall, wzUnconfirmedCall, wzFewestCall, wzReplayCall}
 use Rattle.estimator_reply.specs.Results.{Replied, Answered, roomForSet, Coded}
-use Rattle.text_calls.specs.TextChecks.{caseChecks, stepTextChecks, withFifty, textReplayChecks}
-use Rattle.text_calls.specs.Replies as text
-use Rattle.text_calls.specs.Replies.{TextRefuses}
-use Rattle.text_calls.proofs.Judging.{SaidBy, good, bad}
-use Rattle.text_calls.proofs.CaseTexts.{IsCase, case-judged}
+use Rattle.case_read.specs.Checks.{caseChecks}
+use Rattle.step_text.specs.Checks.{stepTextChecks}
+use Rattle.refusals.proofs.Judging.{SaidBy, good, bad}
+use Rattle.case_read.proofs.CaseTexts.{IsCase, case-judged}
 use Rattle.demands.specs.Order.{InTableOrder, FirstFails}
 use Rattle.demands.specs.ByTable.{ByTable, AllByTable}
 use Rattle.demands.proofs.Firsts.{failed-first, Ends, met, ends-later, ends-sooner}
@@ -51,7 +50,7 @@ use Rattle.demands.proofs.TextsByTable.{text-replay-ends, text-replay-f
 abbrev AnswerRefuses : Answer → ℕ → ℕ → Type 0
 AnswerRefuses (Set s) number place = ⊥
 AnswerRefuses (Refused q) number place = Is number place q
-AnswerRefuses (Unread q) number place = text.Unread q number place
+AnswerRefuses (Unread q) number place = IsUnread number place q
 
 -- where the first check that fails gives this refusal
 refused-ends : (checks : List Check) (q : Refusal) → Failed checks q → Ends checks (AnswerRefuses (Refused q))

@@ -1,15 +1,16 @@
 -- No result of a C function is 5, or 12 at place 0: by the table that check would be the first that fails, and it passes.
-use mathlib.Core.Path.{_≡_, refl, sym, _∙_, subst, subst⁻¹}
+use mathlib.Core.Path.{_≡_, refl, _∙_, subst, subst⁻¹}
 use mathlib.Core.List.{List, [], _∷_, _++_}
 use mathlib.Core.Logic.{_⊎_, inl, inr}
 use Prim.Native.Nat.{ℕ, _≤_}
 use native.Mathlib.Omega.{arith}
-use lib.Dec.{lit<, lit≤}
+use lib.Dec.{lit≤}
 use lib.ListN.{length, drop}
 use Rattle.grid.specs.declared.Case.{Case}
 use Rattle.grid.specs.Limits.{mostSteps}
 use Rattle.grid.specs.Cases.{Valid}
 use Rattle.refusals.specs.Refusals.{Check, checkThat, Passed}
+use Rattle.refusals.specs.Calls.{Call}
 use Rattle.refusals.proofs.Orders.{failed-or-passed}
 use Rattle.case_read.specs.Reading.{refused, readCase}
 use Rattle.case_read.specs.declared.CaseRead.{CaseRead}
@@ -20,14 +21,16 @@ use Rattle.step_text.proofs.Found.{steps-count, steps-found}
 use Rattle.list_follow.specs.Replies.{replayChecks}
 use Rattle.observe_calls.specs.Replies.{observedChecks}
 use Rattle.place_calls.specs.Replies.{verdictChecks, fewestChecks}
-use Rattle.estimator.specs.Answers.{ObservedFor, UnconfirmedFor, FewestFor, ReplayFor, OfText, estimatorChecks}
-use Rattle.estimator_reply.specs.Results.{Answered, roomForSet, Coded}
-use Rattle.text_calls.specs.TextChecks.{caseChecks, stepTextChecks, withFifty, textReplayChecks}
-use Rattle.text_calls.proofs.Judging.{SaidBy, good, bad}
-use Rattle.text_calls.proofs.CaseTexts.{IsCase, case-judged}
-use Rattle.text_calls.proofs.StepTexts.{IsCount, steps-judged}
-use Rattle.demands.specs.Order.{turn, Precedes, InTableOrder, FirstFails}
-use Rattle.demands.specs.ByTable.{ByTable}
+use Rattle.estimator.specs.Answers.{estimatorChecks, wzObservedCall, wzUnconfirmedCall, wzFewestCall, wzReplayCall}
+use Rattle.estimator_reply.specs.Results.{roomForSet}
+use Rattle.case_read.specs.Checks.{caseChecks}
+use Rattle.step_text.specs.Checks.{stepTextChecks}
+use Rattle.step_replay.specs.Replying.{withFifty, textReplayChecks}
+use Rattle.refusals.proofs.Judging.{SaidBy, good, bad}
+use Rattle.case_read.proofs.CaseTexts.{IsCase, case-judged}
+use Rattle.step_text.proofs.StepTexts.{IsCount, steps-judged}
+use Rattle.demands.specs.Order.{turn, Precedes, FirstFails}
+use Rattle.demands.specs.ByTable.{AllByTable}
 use Rattle.demands.specs.Document01.{NoFiveOrTwelve}
 use Rattle.demands.proofs.Firsts.{first-in}
 use Rattle.demands.proofs.Turns.{first-turn, first-after, replay-ordered}
@@ -106,15 +109,14 @@ never-given text checks own lent n k h f = go (first-in (caseChecks text) after 
     go (inl g) = omega (arith, first-turn 1 (caseChecks text) n k (case-turn text) g, never-turn h)
     go (inr g) = own (readCase text .case) lent n k (case-valid text (g .0)) h (g .1)
 
-no-five-or-twelve : (text : List ℕ) (checks : Case → List Check) → OwnNever checks → (lent left : List ℕ) (r : ℕ)
-    → ByTable (estimatorChecks text checks lent) (Coded r) lent left → NoFiveOrTwelve r
-no-five-or-twelve text checks own lent left r t = record {
-  five = λ place e. never 5 place (inl refl) (t .given 5 place (record { is = e; some = lit≤ tt; most = lit< tt }));
-  twelve = λ e. never 12 0 (inr (refl, refl)) (t .given 12 0 (record { is = e; some = lit≤ tt; most = lit< tt }));
+-- by the table, it is given only where its check is the first that fails
+no-five-or-twelve : (call : Call) → AllByTable call
+    → ((input : call .Input) (lent : call .Lent) (n k : ℕ) → Never n k → FirstFails (call .checks input lent) n k → ⊥)
+    → NoFiveOrTwelve call
+no-five-or-twelve call by-table never = record {
+  five = λ place input before after r p h. never input before 5 place (inl refl) (by-table input before after r p .given 5 place h);
+  twelve = λ input before after r p h. never input before 12 0 (inr (refl, refl)) (by-table input before after r p .given 12 0 h);
 }
-  where
-    never : (n k : ℕ) → Never n k → FirstFails (estimatorChecks text checks lent) n k → ⊥
-    never = never-given text checks own lent
 
 -- ---- the four
 
@@ -123,12 +125,11 @@ valid-never : OwnNever observedChecks
 valid-never c lent n k v h (inl f) = f .0 v
 valid-never c lent n k v h (inr f) = never-room lent h (f .1)
 
-pub wz-observed : (text lent left : List ℕ) (r : ℕ) → Answered (OfText text ObservedFor) lent left r → NoFiveOrTwelve r
-wz-observed text lent left r p = no-five-or-twelve text observedChecks valid-never lent left r (by-table.wz-observed text lent left r p)
+pub wz-observed : NoFiveOrTwelve wzObservedCall
+wz-observed = no-five-or-twelve wzObservedCall by-table.wz-observed (λ text. never-given text observedChecks valid-never)
 
-pub wz-unconfirmed : (text lent left : List ℕ) (r : ℕ) → Answered (OfText text UnconfirmedFor) lent left r → NoFiveOrTwelve r
-wz-unconfirmed text lent left r p =
-    no-five-or-twelve text verdictChecks valid-never lent left r (by-table.wz-unconfirmed text lent left r p)
+pub wz-unconfirmed : NoFiveOrTwelve wzUnconfirmedCall
+wz-unconfirmed = no-five-or-twelve wzUnconfirmedCall by-table.wz-unconfirmed (λ text. never-given text verdictChecks valid-never)
 
 -- then 10, 11
 fewest-never : (budget : ℕ) → OwnNever (λ c. fewestChecks c budget)
@@ -137,10 +138,10 @@ fewest-never budget c lent n k v h (inr (_, inl f)) = never-not 10 (λ e. omega 
 fewest-never budget c lent n k v h (inr (_, inr (_, inl f))) = never-not 11 (λ e. omega (arith, e)) (λ e. omega (arith, e)) h (f .1)
 fewest-never budget c lent n k v h (inr (_, inr (_, inr f))) = never-room lent h (f .1)
 
-pub wz-fewest : (text : List ℕ) (budget : ℕ) (lent left : List ℕ) (r : ℕ) → Answered (OfText text (FewestFor budget)) lent left r
-    → NoFiveOrTwelve r
-wz-fewest text budget lent left r p =
-    no-five-or-twelve text (λ c. fewestChecks c budget) (fewest-never budget) lent left r (by-table.wz-fewest (text, budget) lent left r p)
+pub wz-fewest : NoFiveOrTwelve wzFewestCall
+wz-fewest =
+    no-five-or-twelve wzFewestCall by-table.wz-fewest
+    (λ (text, budget). never-given text (λ c. fewestChecks c budget) (fewest-never budget))
 
 -- the step text, with 50 added; then 5, 12, and the steps
 replay-never : (steps : List ℕ) → OwnNever (λ c. textReplayChecks c steps)
@@ -167,6 +168,7 @@ replay-never steps c lent n k v h f = go (first-in (fifty ++ replay) (roomForSet
     go (inl g) = in-text (first-in fifty replay n k g)
     go (inr g) = never-room lent h (g .1)
 
-pub wz-replay : (text steps lent left : List ℕ) (r : ℕ) → Answered (OfText text (ReplayFor steps)) lent left r → NoFiveOrTwelve r
-wz-replay text steps lent left r p =
-    no-five-or-twelve text (λ c. textReplayChecks c steps) (replay-never steps) lent left r (by-table.wz-replay (text, steps) lent left r p)
+pub wz-replay : NoFiveOrTwelve wzReplayCall
+wz-replay =
+    no-five-or-twelve wzReplayCall by-table.wz-replay
+    (λ (text, steps). never-given text (λ c. textReplayChecks c steps) (replay-never steps))

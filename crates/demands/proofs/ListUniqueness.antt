@@ -15,8 +15,7 @@ use Rattle.list_follow.specs.declared.Wove.the-variants as wove
 use Rattle.step_text.specs.Steps.{readSteps, stepsOf}
 use Rattle.step_text.specs.declared.StepsRead.{StepsRead}
 use Rattle.step_text.specs.declared.StepsRead.the-variants as read
-use Rattle.step_replay.specs.Replying.{textAnswer, TextReplayAt}
-use Rattle.text_calls.specs.Replies.{replayTextCall}
+use Rattle.step_replay.specs.Replying.{textAnswer, TextReplayAt, replayTextCall}
 use Rattle.list_derive.specs.declared.DerivationAnswer.{DerivationAnswer}
 use Rattle.list_derive.specs.declared.DerivationAnswer.the-variants.{Found, Refused}
 use Rattle.list_derive.specs.declared.Derived.{Derived}

@@ -4,7 +4,8 @@ use Rattle.observe_calls.proofs.Promised.{observed-set-promised, firing-figure-
 use Rattle.list_derive.proofs.Promised.{derivation-promised}
 use Rattle.list_calls.proofs.Promised.{replay-promised, weave-promised}
 use Rattle.place_calls.proofs.Promised.{cross-validate-promised, place-greedy-promised, place-fewest-promised}
-use Rattle.text_calls.proofs.Promised.{read-case-promised, write-case-promised, check-steps-promised, replay-text-promised}
+use Rattle.text_calls.proofs.Promised.{read-case-promised, write-case-promised, check-steps-promised}
+use Rattle.step_replay.proofs.Promised.{replay-text-promised}
 use Rattle.step_records.proofs.Promised.{read-steps-promised}
 use Rattle.report_day.proofs.Promised.{day-report-promised}
 use Rattle.report_plan.proofs.Promised.{plan-report-promised}

@@ -27,9 +27,9 @@ use Rattle.plan_input.specs.Asking.{budgetOf, unasked, askedWith, planLines, re
 use Rattle.report_plan.specs.Plan.{planChecks, PlanReport, found, none, PlanFor, PlanPrinted, planReportCall}
 use Rattle.report_plan.proofs.Unique.{plan-unique}
 use Rattle.demands.specs.Order.{InTableOrder}
-use Rattle.text_calls.specs.TextChecks.{caseChecks, lineChecks}
-use Rattle.text_calls.proofs.Judging.{good, bad, passing, failing}
-use Rattle.text_calls.proofs.CaseTexts.{ReadBy, lines-judged, case-judged}
+use Rattle.case_read.specs.Checks.{caseChecks, lineChecks}
+use Rattle.refusals.proofs.Judging.{good, bad, passing, failing}
+use Rattle.case_read.proofs.CaseTexts.{ReadBy, lines-judged, case-judged}
 use Rattle.demands.specs.ByTable.{AllByTable}
 use Rattle.demands.specs.Printed.{PrintedByTable, FewestPrinted, IsNumber, planLineChecks, inputChecks}
 use Rattle.demands.proofs.Firsts.{reply-meets}

@@ -21,8 +21,9 @@ use Rattle.grid.specs.Limits.{mostBytes}
 use Rattle.case_read.specs.Reading.{Reader, start, nextReader}
 use Rattle.demands.specs.Order.{turnOf12, turn, Precedes, InTableOrder}
 use Rattle.demands.proofs.Turns.{in-table, Ahead, ahead-most, ahead-first, TurnsBy, ComesAfter, later-follows}
-use Rattle.text_calls.specs.TextChecks.{NothingFollows, afterRecord, lineChecks, caseChecks, HasTurn, afterStep}
-use Rattle.text_calls.specs.TextChecks.{stepLineChecks, stepTextChecks, withFifty}
+use Rattle.case_read.specs.Checks.{NothingFollows, afterRecord, lineChecks, caseChecks}
+use Rattle.step_text.specs.Checks.{HasTurn, afterStep, stepLineChecks, stepTextChecks}
+use Rattle.step_replay.specs.Replying.{withFifty}
 use Rattle.demands.specs.Printed.{planLineChecks, inputChecks}
 
 -- ---- the lines of a case text

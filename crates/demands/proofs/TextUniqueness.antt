@@ -3,9 +3,9 @@ use mathlib.Core.Path.{_≡_, refl, sym, ap, _∙_}
 use Rattle.refusals.proofs.Orders.{failed-unique, failed-or-passed}
 use Rattle.refusals.specs.declared.Written.the-variants as written
 use Rattle.step_text.specs.Steps.{stepsOf}
-use Rattle.step_text.specs.Taking.{leaves}
+use Rattle.step_text.specs.Taking.{leaves, readStepsCall}
 use Rattle.step_text.specs.declared.StepsRead.{StepsRead}
-use Rattle.text_calls.specs.Replies.{readCaseCall, writeChecks, writeCaseCall, checkStepsCall, readStepsCall}
+use Rattle.text_calls.specs.Replies.{readCaseCall, writeChecks, writeCaseCall, checkStepsCall}
 use Rattle.demands.specs.Determined.{OneReply}
 
 pub read-case : OneReply readCaseCall

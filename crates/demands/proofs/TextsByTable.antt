@@ -13,25 +13,27 @@ use Rattle.refusals.specs.declared.Refusal.the-variants.{NoRoom}
 use Rattle.refusals.specs.Refusals.{numberOf, placeOf, Check, checkThat, Passed, Failed}
 use Rattle.refusals.specs.Calls.{Refuses}
 use Rattle.refusals.proofs.Orders.{itself}
+use Rattle.refusals.proofs.Judging.{SaidBy, good, bad, failing}
 use Rattle.list_follow.specs.Replies.{replayChecks, ReplayReply}
 use Rattle.list_follow.specs.declared.Replayed.{Replayed}
 use Rattle.list_follow.specs.declared.Replayed.the-variants as replayed
 use Rattle.case_read.specs.Reading.{got, refused}
+use Rattle.case_read.specs.Checks.{caseChecks}
 use Rattle.case_read.specs.declared.CaseRead.{CaseRead}
 use Rattle.case_read.specs.declared.ReadAnswer.the-variants as read
 use Rattle.step_text.specs.Steps.{readSteps, stepsOf}
-use Rattle.step_text.specs.Taking.{withRoom, leaves}
+use Rattle.step_text.specs.Checks.{stepTextChecks, stepsReadChecks}
+use Rattle.step_text.specs.Taking.{withRoom, leaves, readStepsCall}
 use Rattle.step_text.specs.declared.StepsRead.{StepsRead}
 use Rattle.step_text.specs.declared.StepsRead.the-variants.{Steps, Refused}
 use Rattle.step_text.proofs.Found.{steps-count}
 use Rattle.step_replay.specs.Replying.{textAnswer, TextReplayAt, TextReplayReply}
+use Rattle.step_replay.specs.Replying.{withFifty, textReplayChecks, TextRefuses, replayTextCall}
 use Rattle.step_replay.specs.declared.TextReplayed.{TextReplayed}
 use Rattle.step_replay.specs.declared.TextReplayed.the-variants as told
-use Rattle.text_calls.specs.TextChecks.{caseChecks, stepTextChecks, withFifty, stepsReadChecks, textReplayChecks}
-use Rattle.text_calls.specs.Replies.{readCaseCall, checkStepsCall, readStepsCall, TextRefuses, replayTextCall}
-use Rattle.text_calls.proofs.Judging.{SaidBy, good, bad, failing}
-use Rattle.text_calls.proofs.CaseTexts.{IsCase, case-judged}
-use Rattle.text_calls.proofs.StepTexts.{IsCount, steps-judged}
+use Rattle.text_calls.specs.Replies.{readCaseCall, checkStepsCall}
+use Rattle.case_read.proofs.CaseTexts.{IsCase, case-judged}
+use Rattle.step_text.proofs.StepTexts.{IsCount, steps-judged}
 use Rattle.demands.specs.Order.{FirstFails}
 use Rattle.demands.specs.ByTable.{AllByTable}
 use Rattle.demands.proofs.Firsts.{failed-first, Ends, met, ends-later, ends-sooner}

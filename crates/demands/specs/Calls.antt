@@ -5,7 +5,9 @@ use Rattle.observe_calls.specs.Replies.{observedSetCall, firingFigureCall, test
 use Rattle.list_derive.specs.Replies.{derivationCall}
 use Rattle.list_follow.specs.Replies.{replayCall, weaveCall}
 use Rattle.place_calls.specs.Replies.{crossValidateCall, placeGreedyCall, placeFewestCall}
-use Rattle.text_calls.specs.Replies.{readCaseCall, writeCaseCall, checkStepsCall, readStepsCall, replayTextCall}
+use Rattle.text_calls.specs.Replies.{readCaseCall, writeCaseCall, checkStepsCall}
+use Rattle.step_text.specs.Taking.{readStepsCall}
+use Rattle.step_replay.specs.Replying.{replayTextCall}
 use Rattle.report_day.specs.Day.{dayReportCall}
 use Rattle.report_plan.specs.Plan.{planReportCall}
 use Rattle.estimator.specs.Answers.{wzObservedCall, wzUnconfirmedCall, wzFewestCall, wzReplayCall}
@@ -30,6 +32,15 @@ use Rattle.estimator.proofs.wz_unconfirmed.Statement as wz-unconfirmed
 use Rattle.estimator.proofs.wz_fewest.Statement as wz-fewest
 use Rattle.estimator.proofs.wz_replay.Statement as wz-replay
 
+-- the state estimator's calls
+abbrev pub estimatorCalls : List Call
+estimatorCalls =
+    wzObservedCall
+    ∷ wzUnconfirmedCall
+    ∷ wzFewestCall
+    ∷ wzReplayCall
+    ∷ []
+
 -- every public call: what it is given and lent, and what it promises, checks and refuses
 abbrev pub publicCalls : List Call
 publicCalls =
@@ -49,11 +60,7 @@ publicCalls =
     ∷ replayTextCall
     ∷ dayReportCall
     ∷ planReportCall
-    ∷ wzObservedCall
-    ∷ wzUnconfirmedCall
-    ∷ wzFewestCall
-    ∷ wzReplayCall
-    ∷ []
+    ∷ estimatorCalls
 
 -- the statement of each: its own code, on every input that its contract allows, returns and leaves what the contract says;
 -- none of these contracts has a requirement

@@ -5,7 +5,7 @@ use mathlib.Core.List.{List, _++_}
 use Prim.Native.Nat.{ℕ}
 use Rattle.basics.specs.Lists.{Each}
 use Rattle.case_read.specs.Reading.{readCase}
-use Rattle.text_calls.specs.TextChecks.{caseChecks}
+use Rattle.case_read.specs.Checks.{caseChecks}
 use Rattle.report_day.specs.Day.{DayReport, DayPrinted}
 use Rattle.plan_input.specs.Asking.{readPlan}
 use Rattle.report_plan.specs.Plan.{planChecks, PlanPrinted}

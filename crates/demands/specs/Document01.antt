@@ -1,7 +1,7 @@
 -- What document 01 says besides the demands, of the replies that the promises allow.
 use mathlib.Core.Path.{_≡_}
 use mathlib.Core.List.{List}
-use Prim.Native.Nat.{ℕ, _+_, _-_, _*_, _≤_}
+use Prim.Native.Nat.{ℕ, _-_, _≤_}
 use lib.IntN.{ℤ, pos}
 use lib.ListN.{length}
 use Rattle.basics.specs.Lists.{Each}
@@ -21,18 +21,24 @@ use Rattle.step_text.specs.declared.StepsRead.the-variants.{Steps}
 use Rattle.observe_calls.specs.declared.Figured.the-variants as figured
 use Rattle.observe_calls.specs.Replies.{stated, FigureReply}
 use Rattle.text_calls.specs.Replies.{CaseReadReply, StepsCheckedReply}
-use Rattle.estimator.specs.Answers.{ObservedFor, UnconfirmedFor, FewestFor, ReplayFor, OfText}
-use Rattle.estimator_reply.specs.Results.{Answered}
+use Rattle.refusals.specs.Calls.{Call}
+use Rattle.demands.specs.Calls.{estimatorCalls}
 
 -- the figure of i towards j, where s is observed, is 1 exactly when i and all its other neighbours are observed
 pub record OneExactly (g : Grid) (s i j : ℕ) (figure : ℤ) : Type 0 where
   pub observed : figure ≡ pos 1 → In s i × AllBut (g .neighbours i) j s
   pub one : In s i → AllBut (g .neighbours i) j s → figure ≡ pos 1
 
--- the result is not refusal 5, and not 12 at place 0: a case that is read is valid, and a step text is refused at its 1,025th step
-pub record NoFiveOrTwelve (result : ℕ) : Type 0 where
-  pub five : (place : ℕ) → result ≡ 100 * place + 5 → ⊥
-  pub twelve : result ≡ 12 → ⊥
+-- no reply that the call's promise allows is the refusal with this number and this place
+abbrev pub NeverGives : ℕ → ℕ → Call → Type 0
+NeverGives number place call =
+    (input : call .Input) (before after : call .Lent) (reply : call .Reply) → call .promise input before after reply
+    → call .refuses reply number place → ⊥
+
+-- the call never gives 5, or 12 at place 0: a case that is read is valid, and a step text is refused at its 1,025th step
+pub record NoFiveOrTwelve (call : Call) : Type 0 where
+  pub five : (place : ℕ) → NeverGives 5 place call
+  pub twelve : NeverGives 12 0 call
 
 pub record Document01 : Type 0 where
   -- with no units the observed set is empty
@@ -40,7 +46,8 @@ pub record Document01 : Type 0 where
   -- the firing figure runs from -62 to 1
   pub figure-range : (c : Case) (s : SetWord) (i j : ℕ) (z : ℤ) → FigureReply c s i j (figured.Figure z) → Runs (mostBuses - 2) z
   -- it is 1 exactly when i and all its other neighbours are observed
-  pub figure-usable : (c : Case) (s : SetWord) (i j : ℕ) (z : ℤ) → FigureReply c s i j (figured.Figure z) → OneExactly (gridOf c) (stated c s) i j z
+  pub figure-usable : (c : Case) (s : SetWord) (i j : ℕ) (z : ℤ) → FigureReply c s i j (figured.Figure z)
+      → OneExactly (gridOf c) (stated c s) i j z
   -- two different texts never give the same case
   pub one-text : (x y : List ℕ) (c : Case) → CaseReadReply x (got c) → CaseReadReply y (got c) → x ≡ y
   -- a case that is read is valid: 5 does not refuse it
@@ -56,8 +63,4 @@ pub record Document01 : Type 0 where
   pub steps-few : (text : List ℕ) (count : ℕ) → StepsCheckedReply text (Steps count) → count ≤ mostSteps
   pub steps-named : (text : List ℕ) (count : ℕ) → StepsCheckedReply text (Steps count) → Each (Names mostBuses) (stepsOf text)
   -- no result of the state estimator's calls is 5, or 12 at place 0
-  pub wz-observed : (text lent left : List ℕ) (r : ℕ) → Answered (OfText text ObservedFor) lent left r → NoFiveOrTwelve r
-  pub wz-unconfirmed : (text lent left : List ℕ) (r : ℕ) → Answered (OfText text UnconfirmedFor) lent left r → NoFiveOrTwelve r
-  pub wz-fewest : (text : List ℕ) (budget : ℕ) (lent left : List ℕ) (r : ℕ) → Answered (OfText text (FewestFor budget)) lent left r
-      → NoFiveOrTwelve r
-  pub wz-replay : (text steps lent left : List ℕ) (r : ℕ) → Answered (OfText text (ReplayFor steps)) lent left r → NoFiveOrTwelve r
+  pub estimator : Each NoFiveOrTwelve estimatorCalls

@@ -13,7 +13,7 @@ use Rattle.grid.specs.Cases.{gridOf}
 use Rattle.refusals.specs.declared.Refusal.{Refusal}
 use Rattle.refusals.specs.Refusals.{Check, checkThat, Passed, Failed}
 use Rattle.case_read.specs.Reading.{start}
-use Rattle.text_calls.specs.TextChecks.{lineChecks}
+use Rattle.case_read.specs.Checks.{lineChecks}
 use Rattle.report_lines.specs.Printing.{IsRefusedText}
 use Rattle.plan_input.specs.Asking.{budgetOf}
 use Rattle.report_plan.specs.Plan.{IsPlanText}

@@ -7,9 +7,9 @@ use contract.Lifetimes.{Lfts}
 use denote.Ref.{RefT, now}
 use Rattle.refusals.specs.declared.Written.{Written}
 use Rattle.refusals.specs.declared.Written.the-variants.{Bytes}
-use Rattle.report_lines.specs.Printing.{Printed, PrintedReply}
-use Rattle.report_day.specs.Day.{DayPrinted, dayRoom}
-use Rattle.report_plan.specs.Plan.{PlanPrinted, planRoom}
+use Rattle.report_lines.specs.Printing.{Printed}
+use Rattle.report_day.specs.Day.{DayPrinted, dayRoom, dayReportCall}
+use Rattle.report_plan.specs.Plan.{PlanPrinted, planRoom, planReportCall}
 use Rattle.report_day.proofs.program_report.Statement as day
 use Rattle.report_day.proofs.program_report.Reads as day-contract
 use Rattle.report_plan.proofs.program_report.Statement as plan
@@ -32,5 +32,5 @@ pub record Programs (M : Type 1) : Type 2 where
       × ((k : ℕ) (left : RefT (List ℕ)) → plan-contract.Learnt κs (input, (out, tt)) k (input, (left, tt))
       → Printed (PlanPrinted (now input)) (now out) (now left) k)
   -- in so many bytes the report is never refused with 6
-  pub day-room : (text lent left : List ℕ) (r : Written) → length lent ≡ dayRoom → PrintedReply (DayPrinted text) lent left r → Prints r
-  pub plan-room : (input lent left : List ℕ) (r : Written) → length lent ≡ planRoom → PrintedReply (PlanPrinted input) lent left r → Prints r
+  pub day-room : (text lent left : List ℕ) (r : Written) → length lent ≡ dayRoom → dayReportCall .promise text lent left r → Prints r
+  pub plan-room : (input lent left : List ℕ) (r : Written) → length lent ≡ planRoom → planReportCall .promise input lent left r → Prints r

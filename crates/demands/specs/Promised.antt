@@ -18,7 +18,9 @@ use Rattle.list_follow.specs.declared.Replayed.{Replayed}
 use Rattle.list_follow.specs.declared.Wove.{Wove}
 use Rattle.place_calls.specs.Replies.{crossValidateCall, placeGreedyCall, placeFewestCall}
 use Rattle.step_text.specs.declared.StepsRead.{StepsRead}
-use Rattle.text_calls.specs.Replies.{readCaseCall, writeCaseCall, checkStepsCall, readStepsCall, replayTextCall}
+use Rattle.text_calls.specs.Replies.{readCaseCall, writeCaseCall, checkStepsCall}
+use Rattle.step_text.specs.Taking.{readStepsCall}
+use Rattle.step_replay.specs.Replying.{replayTextCall}
 use Rattle.report_day.specs.Day.{dayReportCall}
 use Rattle.report_plan.specs.Plan.{planReportCall}
 use Rattle.estimator.specs.Answers.{wzObservedCall, wzUnconfirmedCall, wzFewestCall, wzReplayCall}

@@ -6,12 +6,12 @@ use Rattle.grid.specs.declared.Case.{Case}
 use Rattle.refusals.specs.Refusals.{Check}
 use Rattle.refusals.specs.Calls.{Call}
 use Rattle.case_read.specs.Reading.{readCase}
+use Rattle.case_read.specs.Checks.{caseChecks}
 use Rattle.case_read.specs.declared.ReadAnswer.{ReadAnswer}
 use Rattle.case_read.specs.declared.ReadAnswer.the-variants as read
-use Rattle.step_replay.specs.Replying.{TextReplayReply}
+use Rattle.step_replay.specs.Replying.{TextReplayReply, textReplayChecks}
 use Rattle.step_replay.specs.declared.TextReplayed.{TextReplayed}
 use Rattle.step_replay.specs.declared.TextReplayed.the-variants as replayed
-use Rattle.text_calls.specs.TextChecks.{caseChecks, textReplayChecks}
 use Rattle.observe_calls.specs.Replies.{observedChecks, ObservedReply}
 use Rattle.place_calls.specs.Replies.{verdictChecks, VerdictReply, fewestChecks, FewestReply}
 use Rattle.observe_calls.specs.declared.Observed.{Observed}

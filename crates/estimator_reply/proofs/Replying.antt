@@ -34,7 +34,8 @@ has-room x y l = rw (le-ltb _ _ l) refl
 -- a result of 0 says that there is room for a set
 pub room-for : (a : Answer) (room : ℕ) → resultOf a room ≡ 0 → setLength ≤ room
 room-for (Set s) room e =
-    ⊎-elim (λ (l : room < setLength). absurd (code-some NoRoom (sym (no-room _ _ l) ∙ e))) (λ (l : setLength ≤ room). l) (below-or room setLength)
+    ⊎-elim (λ (l : room < setLength). absurd (code-some NoRoom (sym (no-room _ _ l) ∙ e))) (λ (l : setLength ≤ room). l)
+    (below-or room setLength)
 room-for (Refused q) room e = absurd (code-some q e)
 room-for (Unread q) room e = absurd (omega arith)
 
@@ -46,7 +47,8 @@ bytes-filled (Unread q) lent e = absurd (omega arith)
 
 pub bytes-kept : (a : Answer) (lent : List ℕ) → (resultOf a (length lent) ≡ 0 → ⊥) → lent ≡ leftBy a lent
 bytes-kept (Set s) lent n =
-    ⊎-elim (λ (l : length lent < setLength). sym (no-room _ _ l)) (λ (l : setLength ≤ length lent). absurd (n (has-room _ _ l))) (below-or (length lent) setLength)
+    ⊎-elim (λ (l : length lent < setLength). sym (no-room _ _ l)) (λ (l : setLength ≤ length lent). absurd (n (has-room _ _ l)))
+    (below-or (length lent) setLength)
 bytes-kept (Refused q) lent n = refl
 bytes-kept (Unread q) lent n = refl
 

@@ -5,5 +5,6 @@ use Rattle.refusals.specs.Calls.{Keeps}
 use Rattle.report_plan.specs.Plan.{planReportCall}
 use Rattle.report_plan.proofs.plan_report.Reads as plan-report
 
-pub plan-report-promised : (κs : Lfts 2) → Keeps planReportCall (λ (input, _). now input) (λ (_, (out, _)). now out) (plan-report.Asked κs) (plan-report.Learnt κs)
+pub plan-report-promised : (κs : Lfts 2) → Keeps planReportCall (λ (input, _). now input) (λ (_, (out, _)). now out)
+    (plan-report.Asked κs) (plan-report.Learnt κs)
 plan-report-promised κs a = (tt, λ r b told. told)

@@ -10,7 +10,7 @@ use denote.Triple.Clauses.{ClausesAt}
 use borrow.Fn.World.{World}
 use Rattle.step.specs.declared.Step.{Step}
 use Rattle.step_text.specs.declared.StepsRead.{StepsRead}
-use Rattle.step_text.specs.Taking.{StepsReadReply}
+use Rattle.step_text.specs.Taking.{readStepsCall}
 use Rattle.step_records.proofs.read_steps as read-steps
 
 -- the contract's clauses for these arguments, in a model
@@ -21,5 +21,5 @@ pub read-steps-promised : (w : World) (κs : Lfts 2) (text : RefT (List ℕ)) (o
     let says = read-steps-says w κs (text, (out, tt)) in
     ent (w .𝓤) (emp (w .𝓤)) (says .requires tt)
     × ((r : StepsRead) (left : RefT (List Step)) → ent (w .𝓤) (says .ensures tt r (text, (left, tt)))
-    (fact (w .𝓤) (StepsReadReply (now text) (now out) (now left) r)))
+    (fact (w .𝓤) (readStepsCall .promise (now text) (now out) (now left) r)))
 read-steps-promised w κs text out = (id⊢ (w .𝓤) _, λ r left. id⊢ (w .𝓤) _)

@@ -2,3 +2,4 @@ pub mod Stepping
 pub mod Found
 pub mod Refusing
 pub mod TakingLaws
+pub mod StepTexts

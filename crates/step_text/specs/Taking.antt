@@ -8,7 +8,9 @@ use lib.ListN.{length, drop, getD}
 use Rattle.step.specs.Records.{noStep, writtenInto}
 use Rattle.step.specs.declared.Step.{Step}
 use Rattle.refusals.specs.declared.Refusal.the-variants.{NoRoom}
+use Rattle.refusals.specs.Calls.{Call, Refuses}
 use Rattle.step_text.specs.Steps.{readSteps, stepsFrom, stepsOf, StepHere}
+use Rattle.step_text.specs.Checks.{stepsReadChecks}
 use Rattle.step_text.specs.declared.StepsRead.{StepsRead}
 use Rattle.step_text.specs.declared.StepsRead.the-variants.{Steps, Refused}
 use Rattle.step_text.specs.declared.taking.NextStep.{NextStep}
@@ -37,6 +39,17 @@ leaves (Refused q) xs before = before
 -- the reply, and what every record lent holds afterwards
 abbrev pub StepsReadReply : List ℕ → List Step → List Step → StepsRead → Type 0
 StepsReadReply text before after r = (r ≡ withRoom (length before) (readSteps text)) × (after ≡ leaves r (stepsOf text) before)
+
+-- `read_steps`
+abbrev pub readStepsCall : Call
+readStepsCall = record {
+  Input = List ℕ;
+  Lent = List Step;
+  Reply = StepsRead;
+  promise = λ text before after r. StepsReadReply text before after r;
+  checks = λ text lent. stepsReadChecks text (length lent);
+  refuses = Refuses Refused;
+}
 
 -- how many records are written
 abbrev pub countRead : StepsRead → ℕ

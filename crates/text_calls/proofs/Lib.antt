@@ -1,4 +1,1 @@
-pub mod Judging
-pub mod CaseTexts
-pub mod StepTexts
 pub mod Promised

@@ -1,2 +1,1 @@
-pub mod TextChecks
 pub mod Replies

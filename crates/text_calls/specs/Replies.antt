@@ -1,27 +1,22 @@
 -- What each call on texts promises. That of `read_steps` is `StepsReadReply` (step_text), of `replay_text` `TextReplayReply` (step_replay).
 use mathlib.Core.Path.{_≡_}
 use mathlib.Core.List.{List, [], _∷_, _++_}
-use Prim.Native.Nat.{ℕ, _+_, _≤_}
+use Prim.Native.Nat.{ℕ, _≤_}
 use lib.ListN.{length, drop}
-use Rattle.step.specs.declared.Step.{Step}
 use Rattle.grid.specs.declared.Case.{Case}
 use Rattle.grid.specs.Cases.{Valid}
-use Rattle.refusals.specs.declared.Refusal.{Refusal}
-use Rattle.refusals.specs.Refusals.{numberOf, placeOf, Is, Check, checkThat, Passed, Failed}
+use Rattle.refusals.specs.Refusals.{Check, checkThat, Passed, Failed}
 use Rattle.refusals.specs.Calls.{Call, Refuses}
 use Rattle.case_read.specs.Reading.{refused, readCase}
+use Rattle.case_read.specs.Checks.{caseChecks}
 use Rattle.case_line.specs.CaseText.{caseText}
 use Rattle.case_read.specs.declared.CaseRead.{CaseRead}
 use Rattle.step_text.specs.Steps.{readSteps}
-use Rattle.step_text.specs.Taking.{StepsReadReply}
+use Rattle.step_text.specs.Checks.{stepTextChecks}
 use Rattle.step_text.specs.declared.StepsRead.{StepsRead}
 use Rattle.step_text.specs.declared.StepsRead.the-variants as steps
-use Rattle.step_replay.specs.Replying.{TextReplayReply}
-use Rattle.step_replay.specs.declared.TextReplayed.{TextReplayed}
-use Rattle.step_replay.specs.declared.TextReplayed.the-variants as told
 use Rattle.refusals.specs.declared.Written.{Written}
 use Rattle.refusals.specs.declared.Written.the-variants as written
-use Rattle.text_calls.specs.TextChecks.{caseChecks, stepTextChecks, stepsReadChecks, textReplayChecks}
 
 -- ---- a case text read: 1, then the first bad line, in it 2, 3, 4
 
@@ -78,41 +73,4 @@ checkStepsCall = record {
   promise = λ text before after r. StepsCheckedReply text r;
   checks = λ text lent. stepTextChecks text;
   refuses = Refuses steps.Refused;
-}
-
--- ---- a step text read into the records lent: then 6
-
--- `read_steps`
-abbrev pub readStepsCall : Call
-readStepsCall = record {
-  Input = List ℕ;
-  Lent = List Step;
-  Reply = StepsRead;
-  promise = λ text before after r. StepsReadReply text before after r;
-  checks = λ text lent. stepsReadChecks text (length lent);
-  refuses = Refuses steps.Refused;
-}
-
--- ---- a step text replayed: the whole text, with 50 added, then 5, 12, and 7, 8, 9 at the first bad step
-
--- a refusal of a step text that is read beside a case: it has 50 added
-pub record Unread (q : Refusal) (number place : ℕ) : Type 0 where
-  pub numbered : numberOf q + 50 ≡ number
-  pub placed : placeOf q ≡ place
-
--- the reply is the refusal with this number and this place
-abbrev pub TextRefuses : TextReplayed → ℕ → ℕ → Type 0
-TextRefuses (told.Reached s finished) number place = ⊥
-TextRefuses (told.Refused q) number place = Is number place q
-TextRefuses (told.Unread q) number place = Unread q number place
-
--- `replay_text`
-abbrev pub replayTextCall : Call
-replayTextCall = record {
-  Input = Case × List ℕ;
-  Lent = Unit {0};
-  Reply = TextReplayed;
-  promise = λ (c, text) before after r. TextReplayReply c text r;
-  checks = λ (c, text) lent. textReplayChecks c text;
-  refuses = TextRefuses;
 }

@@ -13,11 +13,12 @@ use Rattle.grid.specs.Limits.{mostSteps, mostStepBytes}
 use Rattle.refusals.specs.declared.Refusal.the-variants.{WrongForm, OutOfRange, TooManySteps}
 use Rattle.refusals.specs.Refusals.{Check, checkThat}
 use Rattle.refusals.proofs.Orders.{itself}
 use Rattle.step_text.specs.Steps.{stepInRange, ended, lineSaid, stepLines, readSteps}
 use Rattle.step_text.specs.declared.StepsRead.{StepsRead}
 use Rattle.step_text.specs.declared.StepsRead.the-variants.{Steps, Refused}
-use Rattle.text_calls.proofs.Judging.{SaidBy, good, passing, failing, within-limit}
-use Rattle.text_calls.specs.TextChecks.{NothingFollows, isFormed, isRanged, HasTurn, afterStep, stepLineChecks, stepTextChecks}
+use Rattle.refusals.proofs.Judging.{SaidBy, good, passing, failing, within-limit}
+use Rattle.case_read.specs.Checks.{NothingFollows}
+use Rattle.step_text.specs.Checks.{isFormed, isRanged, HasTurn, afterStep, stepLineChecks, stepTextChecks}
 
 -- a number of steps
 abbrev pub IsCount : StepsRead → Type 0

@@ -13,13 +13,13 @@ use Rattle.refusals.specs.Refusals.{Check, checkThat}
 use Rattle.refusals.proofs.Orders.{itself}
 use Rattle.case_judge.specs.Judging.{inPlace, inRange, inOrder, nextOrLast, judged}
 use Rattle.grid.specs.Limits.{mostBytes}
 use Rattle.case_read.specs.Reading.{Reader, start, nextReader, caseSoFar, got, refused, caseEnded, recordSaid, readLines, readText}
 use Rattle.case_read.specs.Reading.{readCase}
 use Rattle.case_read.specs.declared.CaseRead.{CaseRead}
 use Rattle.case_judge.specs.declared.Judgement.{Judgement}
 use Rattle.case_judge.specs.declared.Judgement.the-variants.{Form, Range, Order}
-use Rattle.text_calls.proofs.Judging.{SaidBy, good, passing, failing, within-limit}
-use Rattle.text_calls.specs.TextChecks.{NothingFollows, afterRecord, lineChecks, linesFrom, caseChecks}
+use Rattle.refusals.proofs.Judging.{SaidBy, good, passing, failing, within-limit}
+use Rattle.case_read.specs.Checks.{NothingFollows, afterRecord, lineChecks, linesFrom, caseChecks}
 
 -- a case
 abbrev pub IsCase : CaseRead → Type 0
