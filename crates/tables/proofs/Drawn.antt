@@ -1,6 +1,6 @@
 -- A test, which the checker computes, that a case value that is written out is valid: 0 where it passes. It goes over the rows that are
 -- written; the rows that fill a case value up have no neighbour.
-use mathlib.Core.Path.{_≡_, refl, ap, subst⁻¹, fun-ext}
+use mathlib.Core.Path.{_≡_, refl, ap, _∙_, subst⁻¹, fun-ext}
 use mathlib.Core.List.{[], _∷_, _++_}
 use mathlib.Core.Logic.{⊎-elim}
 use Prim.Native.Nat.{ℕ, zero, suc, _+_, _-_, _≤_, _<_}
@@ -12,7 +12,7 @@ use Rattle.basics.proofs.Tests.{below-or}
 use Rattle.busset.proofs.Digits.{bit-zero}
 use Rattle.busset.proofs.Words.{set-zero}
 use Rattle.rules.specs.Grids.{Proper, total, lineCount}
-use Rattle.tables.proofs.Tests.{total-same, total-none, withinTest, within-passes, size-upTo}
+use Rattle.tables.proofs.Tests.{total-same, total-past, total-none, total-pass, withinTest, within-passes, size-upTo}
 use Rattle.grid.specs.declared.Case.{Case}
 use Rattle.grid.specs.Limits.{mostBuses, mostLines}
 use Rattle.grid.specs.Rows.{Rows, neighbours}
@@ -32,11 +32,18 @@ pub lines-counted : (n : ℕ) (rows : Rows) → lineCount n (neighbours rows) �
 unfolding linesTest
 lines-counted n rows = total-same n (λ b. size-upTo b (neighbours rows b) (row-bus rows b))
 
+-- they are those of the buses that have a row
+lines-rows : (n : ℕ) (rows : Rows) → linesTest n (neighbours rows) ≤ linesTest (length rows) (neighbours rows)
+unfolding linesTest
+lines-rows n rows =
+    total-past (λ b. total b (bit (neighbours rows b))) (length rows) n
+    (λ b l. total-pass b (bit (neighbours rows b)) (λ a. ap (λ (s : ℕ). bit s a) (row-past rows b l) ∙ bit-zero a))
+
 unfoldable pub validTest : Case → ℕ
 validTest c =
     (1 - c .n) + (c .n - mostBuses) + total (length (c .nbr)) (rowTest (c .n) (neighbours (c .nbr)))
     + withinTest (c .n) (setOf (c .zero)) + withinTest (c .n) (setOf (c .site)) + withinTest (c .n) (setOf (c .units))
-    + (linesTest (c .n) (neighbours (c .nbr)) - mostLines)
+    + (linesTest (length (c .nbr)) (neighbours (c .nbr)) - mostLines)
 
 module _ (c : Case) (ok : validTest c ≡ 0) where
   -- a bus with a neighbour has a row
@@ -77,7 +84,7 @@ module _ (c : Case) (ok : validTest c ≡ 0) where
       sites = within-passes (c .n) (setOf (c .site)) (set-zero (c .site)) (omega arith);
       units = within-passes (c .n) (setOf (c .units)) (set-zero (c .units)) (omega arith);
     };
-    few = omega (arith, lines-counted (c .n) (c .nbr));
+    few = omega (arith, lines-counted (c .n) (c .nbr), lines-rows (c .n) (c .nbr));
   }
 
 -- ---- the rows that fill up

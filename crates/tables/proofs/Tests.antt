@@ -2,7 +2,7 @@
 use mathlib.Core.Path.{_≡_, refl, sym, ap, _∙_, subst, subst⁻¹}
 use mathlib.Core.List.{List, [], _∷_}
 use mathlib.Core.Logic.{⊎-elim}
-use Prim.Native.Nat.{ℕ, zero, suc, _+_, _-_, _≤_, _<_}
+use Prim.Native.Nat.{ℕ, zero, suc, _+_, _-_, _≤_, _<_, zero-le}
 use native.Mathlib.Omega.{arith}
 use Rattle.busset.specs.Sets.{Bus, bit, In, Out, Sub, Within, empty, add, lack, less, upTo, size}
 use Rattle.basics.proofs.Tests.{same-or, below-or}
@@ -24,6 +24,24 @@ pub total-same : (n : ℕ) {f g : ℕ → ℕ} → ((b : ℕ) → f b ≡ g b) �
 unfolding total
 total-same zero e = refl
 total-same (suc n) e = omega (arith, total-same n e, e (suc n))
+
+total-more : (f : ℕ → ℕ) (n m : ℕ) → n ≤ m → total n f ≤ total m f
+unfolding total
+total-more f zero m l = zero-le
+total-more f (suc n) zero l = absurd (omega arith)
+total-more f (suc n) (suc m) l =
+    ⊎-elim
+    (λ (h : n < m). omega (arith, total-more f (suc n) m h))
+    (λ (h : m ≤ n). let e : n ≡ m = omega arith in subst (λ (k : ℕ). total (suc n) f ≤ total (suc k) f) e (omega arith))
+    (below-or n m)
+
+-- what is 0 past m sums up to m
+pub total-past : (f : ℕ → ℕ) (m n : ℕ) → ((b : ℕ) → m < b → f b ≡ 0) → total n f ≤ total m f
+unfolding total
+total-past f m zero z = zero-le
+total-past f m (suc n) z =
+    ⊎-elim (λ (l : m < suc n). omega (arith, total-past f m n z, z (suc n) l)) (λ (l : suc n ≤ m). total-more f (suc n) m l)
+    (below-or m (suc n))
 
 pub total-none : (n : ℕ) (f : ℕ → ℕ) → total n f ≡ 0 → (b : ℕ) → Bus n b → f b ≡ 0
 unfolding total
