@@ -71,8 +71,18 @@ class Dice(random.Random):
         case.units = self.some(order, self.choice((5, 15, 40)))
         return case
 
+    def noise(self, n):
+        """A case value with any bits in it."""
+        case, buses = Case(n), range(1, 65)
+        for row in case.rows.values():
+            row.update(self.sample(buses, self.randint(0, 8)))
+        case.zero, case.site, case.units = (self.some(buses, 50) for _ in range(3))
+        return case
+
     def wrong(self, case):
-        """A case value of which one thing or two is damaged."""
+        """A case value of which one thing or two is damaged; seldom all."""
+        if self.chance(5):
+            return self.noise(case.n)
         n, high = case.n, self.randint(min(case.n + 1, 64), 64)
         a, b = self.randint(1, n), self.randint(1, 64)
         crowd = [tuple(self.sample(range(1, n + 1), 2)) for _ in range(400)] if n > 30 else [(a, a)]
@@ -149,7 +159,7 @@ class Dice(random.Random):
         return text
 
     def to_cover(self, most):
-        """A grid with at most so many sites, for which all placements within the budget are quickly tried; the budget."""
+        """A grid with at most so many sites, and a budget within which all placements are quickly tried."""
         budget = self.randint(0, 9)
         case = self.grid(64 if self.chance(60) else 8)
         order, units = self.sample(range(1, case.n + 1), case.n), []

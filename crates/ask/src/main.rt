@@ -1,5 +1,6 @@
 // Asks every public call what standard input asks, and prints each reply with what was lent.
 // tests/questions.py makes the questions, and the replies by the references beside it.
+// A line is a letter, two numbers a and b, and a name if it asks. Each module says what its letters mean.
 ghost use Prim.Native.Nat.{_≤_};
 ghost use lib.ListN.{length};
 ghost use Rattle.asked.specs.Lines.{LineAt};
