@@ -37,15 +37,16 @@ extends-none g {s} {l} e q = record {
 }
 
 -- as many steps as buses, which are those of the grid
-pub extends-few : {g : Grid} {s : ℕ} {l : StepList} {x : Step} → Proper g → g .n ≤ mostBuses → NextIs g s x → Extends g s l → size s < mostBuses
+pub extends-few : {g : Grid} {s : ℕ} {l : StepList} {x : Step} → Proper g → g .n ≤ mostBuses → NextIs g s x → Extends g s l
+    → size s < mostBuses
 extends-few {g} {s} {l} {x} v most n e =
     omega (arith, size-add s (x .bus) (n .allowed .new), size-most (g .n) (add s (x .bus)) (grown v n e))
   where
     grown : Proper g → NextIs g s x → Extends g s l → Within (g .n) (add s (x .bus))
     grown v n e = add-of {P = Bus (g .n)} s (x .bus) (allowed-bus v (n .allowed)) (e .within)
 
-pub extends-more : {g : Grid} {s : ℕ} {l : StepList} {x : Step} {m : StepList} {t : ℕ} → Proper g → g .n ≤ mostBuses → NextIs g s x → Extends g s l
-    → m ≡ pushed l x → With s (x .bus) t → Extends g t m
+pub extends-more : {g : Grid} {s : ℕ} {l : StepList} {x : Step} {m : StepList} {t : ℕ} → Proper g → g .n ≤ mostBuses → NextIs g s x
+    → Extends g s l → m ≡ pushed l x → With s (x .bus) t → Extends g t m
 extends-more {g} {s} {l} {x} {m} {t} v most n e p w = record {
   sofar = e .sofar ++ (x ∷ []);
   is = pushed-list (e .sofar) x (e .is) (omega (arith, e .count, extends-few v most n e)) p;

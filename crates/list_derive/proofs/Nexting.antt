@@ -1,6 +1,6 @@
--- The search for the next step: what the buses and reasons that fail say, and each way it ends.
--- No law here names a reason: each is about one that names no bus (`Alone`), or about those of a turn that name one (`Naming`).
-use mathlib.Core.Path.{_≡_, refl, sym, _∙_, subst, subst⁻¹}
+-- The search for the next step: what the buses and reasons passed say, and each way it ends.
+-- No law here names a reason: each is about one that has a turn alone (`Alone`), or about those of a turn that name a bus (`Naming`).
+use mathlib.Core.Path.{_≡_, sym, _∙_, subst, subst⁻¹}
 use mathlib.Core.Logic.{inl, inr, ⊎-elim}
 use Prim.Native.Nat.{ℕ, suc, _+_, _≤_, _<_}
 use native.Mathlib.Omega.{arith}
@@ -51,7 +51,9 @@ fails-none g s b = record { low = λ r h. omega arith }
 -- so does every reason of the turn t
 fails-more : {g : Grid} {s b t : ℕ} → FailsBefore g s b t → ((r : Reason) → turnOf r ≡ t → Holds g s b r → ⊥) → FailsBefore g s b (suc t)
 fails-more {t = t} p n = record {
-  low = λ r h. ⊎-elim (λ (e : turnOf r ≡ t). absurd (n r e h)) (λ (ne : turnOf r ≡ t → ⊥). omega (arith, p .low r h)) (same-or (turnOf r) t);
+  low =
+      λ r h. ⊎-elim (λ (e : turnOf r ≡ t). absurd (n r e h)) (λ (ne : turnOf r ≡ t → ⊥). omega (arith, p .low r h))
+      (same-or (turnOf r) t);
 }
 
 pub fails-alone : {g : Grid} {s b : ℕ} {q : Reason} → Alone q → FailsBefore g s b (turnOf q) → (Holds g s b q → ⊥)

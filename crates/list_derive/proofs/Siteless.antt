@@ -6,11 +6,9 @@ use Rattle.busset.specs.Sets.{bit, Within, setOf}
 use Rattle.busset.specs.Held.{SetWord, emptyWord}
 use Rattle.busset.proofs.Digits.{bit-zero}
 use Rattle.busset.proofs.Words.{set-empty}
-use Rattle.step.specs.declared.Reason.{Reason}
-use Rattle.rules.specs.Grids.{Grid, Proper}
-use Rattle.rules.specs.Steps.{Holds}
+use Rattle.rules.specs.Grids.{Proper}
 use Rattle.rules.proofs.Reasons.{holds-sites}
-use Rattle.rules.proofs.Derivations.{finished-to, next-to, derived-to}
+use Rattle.rules.proofs.Derivations.{SameReasons, finished-to, next-to, derived-to}
 use Rattle.grid.specs.Rows.{Rows, neighbours}
 use Rattle.grid.specs.Cases.{gridWith, Lines}
 use Rattle.list_value.specs.declared.StepList.{StepList}
@@ -29,22 +27,17 @@ module _ (n : ℕ) (rows : Rows) (zeros units : SetWord) where
     units = u;
   }
 
-  module _ (sites : SetWord) where
-    abbrev none : Grid
-    none = gridWith n rows zeros emptyWord units
+  any-sites : (sites : SetWord) → SameReasons (gridWith n rows zeros emptyWord units) (gridWith n rows zeros sites units)
+  any-sites sites = record {
+    to = holds-sites (gridWith n rows zeros emptyWord units) (setOf sites);
+    from = holds-sites (gridWith n rows zeros sites units) (setOf emptyWord);
+  }
 
-    abbrev some : Grid
-    some = gridWith n rows zeros sites units
+  pub next-sites : (sites : SetWord) (s : ℕ) (r : Next) → NextAnswer (gridWith n rows zeros emptyWord units) s r
+      → NextAnswer (gridWith n rows zeros sites units) s r
+  next-sites sites s (Take x) h = next-to (any-sites sites) h
+  next-sites sites s Nothing h = finished-to (any-sites sites) h
 
-    to : (s b : ℕ) (r : Reason) → Holds none s b r → Holds some s b r
-    to = holds-sites none (setOf sites)
-
-    from : (s b : ℕ) (r : Reason) → Holds some s b r → Holds none s b r
-    from = holds-sites some (setOf emptyWord)
-
-    pub next-sites : (s : ℕ) (r : Next) → NextAnswer none s r → NextAnswer some s r
-    next-sites s (Take x) h = next-to none some to from h
-    next-sites s Nothing h = finished-to none some to from h
-
-    pub derives-sites : {l : StepList} → Derives none l → Derives some l
-    derives-sites d = record { steps = d .steps; derived = derived-to none some to from (d .derived); is = d .is }
+  pub derives-sites : (sites : SetWord) {l : StepList} → Derives (gridWith n rows zeros emptyWord units) l
+      → Derives (gridWith n rows zeros sites units) l
+  derives-sites sites d = record { steps = d .steps; derived = derived-to (any-sites sites) (d .derived); is = d .is }

@@ -67,24 +67,23 @@ derivation-length g xs d = accepted-length g xs (derived-accepted d .0)
 
 -- ---- two grids in which the same reasons hold
 
-module _ (g h : Grid) (to : (s b : ℕ) (r : Reason) → Holds g s b r → Holds h s b r) (from : (s b : ℕ) (r : Reason) → Holds h s b r → Holds g s b r)
-  where
-    allowed-to : {s : ℕ} {x : Step} → Allowed g s x → Allowed h s x
-    allowed-to {s} {x} a = record { new = a .new; holds = to s (x .bus) (x .reason) (a .holds) }
+pub record SameReasons (g h : Grid) : Type 0 where
+  pub to : (s b : ℕ) (r : Reason) → Holds g s b r → Holds h s b r
+  pub from : (s b : ℕ) (r : Reason) → Holds h s b r → Holds g s b r
 
-    allowed-from : {s : ℕ} {x : Step} → Allowed h s x → Allowed g s x
-    allowed-from {s} {x} a = record { new = a .new; holds = from s (x .bus) (x .reason) (a .holds) }
+allowed-from : {g h : Grid} {s : ℕ} {x : Step} → SameReasons g h → Allowed h s x → Allowed g s x
+allowed-from {s = s} {x = x} k a = record { new = a .new; holds = k .from s (x .bus) (x .reason) (a .holds) }
 
-    pub finished-to : {s : ℕ} → Finished g s → Finished h s
-    finished-to f x a = f x (allowed-from a)
+pub finished-to : {g h : Grid} {s : ℕ} → SameReasons g h → Finished g s → Finished h s
+finished-to k f x a = f x (allowed-from k a)
 
-    pub next-to : {s : ℕ} {x : Step} → NextIs g s x → NextIs h s x
-    next-to n = record {
-      allowed = allowed-to (n .allowed);
-      lowest = λ y a. n .lowest y (allowed-from a);
-      first = λ y a e. n .first y (allowed-from a) e;
-    }
+pub next-to : {g h : Grid} {s : ℕ} {x : Step} → SameReasons g h → NextIs g s x → NextIs h s x
+next-to {s = s} {x = x} k n = record {
+  allowed = record { new = n .allowed .new; holds = k .to s (x .bus) (x .reason) (n .allowed .holds) };
+  lowest = λ y a. n .lowest y (allowed-from k a);
+  first = λ y a e. n .first y (allowed-from k a) e;
+}
 
-    pub derived-to : {s : ℕ} {xs : List Step} → DerivedFrom g s xs → DerivedFrom h s xs
-    derived-to (finished f) = finished (finished-to f)
-    derived-to (next n d) = next (next-to n) (derived-to d)
+pub derived-to : {g h : Grid} {s : ℕ} {xs : List Step} → SameReasons g h → DerivedFrom g s xs → DerivedFrom h s xs
+derived-to k (finished f) = finished (finished-to k f)
+derived-to k (next n d) = next (next-to k n) (derived-to k d)

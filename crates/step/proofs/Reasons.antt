@@ -48,12 +48,12 @@ same-letter q r e = sym (turn-letter q) ∙ ap (λ (k : ℕ). getD letters k 0) 
 
 -- ---- the reasons of one turn
 
--- q names no bus, and no other reason has its turn
+-- no other reason has the turn of q
 pub record Alone (q : Reason) : Type 0 where
   pub only : (r : Reason) → turnOf r ≡ turnOf q → r ≡ q
 
 -- r is one of the reasons f
-pub record WithSomeBus (f : ℕ → Reason) (r : Reason) : Type 0 where
+pub record OfTurn (f : ℕ → Reason) (r : Reason) : Type 0 where
   pub bus : ℕ
   pub is : r ≡ f bus
 
@@ -61,7 +61,7 @@ pub record WithSomeBus (f : ℕ → Reason) (r : Reason) : Type 0 where
 pub record Naming (f : ℕ → Reason) : Type 0 where
   pub names : (p : ℕ) → namedBy (f p) ≡ Bus p
   pub turn : (p : ℕ) → turnOf (f p) ≡ turnOf (f 0)
-  pub only : (r : Reason) → turnOf r ≡ turnOf (f 0) → WithSomeBus f r
+  pub only : (r : Reason) → turnOf r ≡ turnOf (f 0) → OfTurn f r
 
 given-same : {q r : Reason} → Is q ≡ Is r → r ≡ q
 given-same e = cc
@@ -73,12 +73,12 @@ given-wrong e = let z : _≡_ {A = ℕ} 0 1 = cc in omega arith
 by-turn : (q r : Reason) → turnOf r ≡ turnOf q → reasonOf (letterOf q) (namedBy r) ≡ Is r
 by-turn q r e = rw (← same-letter r q e) (there-and-back r)
 
-pub own-turn : Alone OwnUnit
-own-turn = record { only = λ r e. go r (namedBy r) (by-turn OwnUnit r e) }
+alone : (q : Reason) → reasonOf (letterOf q) Nothing ≡ Is q → ((p : ℕ) → reasonOf (letterOf q) (Bus p) ≡ Wrong) → Alone q
+alone q none some = record { only = λ r e. go r (namedBy r) (by-turn q r e) }
   where
-    go : (r : Reason) (x : NamedBus) → reasonOf (letterOf OwnUnit) x ≡ Is r → r ≡ OwnUnit
-    go r Nothing e = given-same e
-    go r (Bus p) e = absurd (given-wrong e)
+    go : (r : Reason) (x : NamedBus) → reasonOf (letterOf q) x ≡ Is r → r ≡ q
+    go r Nothing e = given-same (sym none ∙ e)
+    go r (Bus p) e = absurd (given-wrong (sym (some p) ∙ e))
 
 naming : (f : ℕ → Reason) → ((p : ℕ) → namedBy (f p) ≡ Bus p) → ((p : ℕ) → letterOf (f p) ≡ letterOf (f 0))
     → reasonOf (letterOf (f 0)) Nothing ≡ Wrong → ((p : ℕ) → reasonOf (letterOf (f 0)) (Bus p) ≡ Is (f p))
@@ -89,9 +89,12 @@ naming f names letter none some = record {
   only = λ r e. go r (namedBy r) (by-turn (f 0) r e);
 }
   where
-    go : (r : Reason) (x : NamedBus) → reasonOf (letterOf (f 0)) x ≡ Is r → WithSomeBus f r
+    go : (r : Reason) (x : NamedBus) → reasonOf (letterOf (f 0)) x ≡ Is r → OfTurn f r
     go r Nothing e = absurd (given-wrong (sym none ∙ e))
     go r (Bus p) e = record { bus = p; is = given-same (sym (some p) ∙ e) }
+
+pub own-turn : Alone OwnUnit
+own-turn = alone OwnUnit refl (λ p. refl)
 
 pub neighbour-turn : Naming NeighbourOf
 neighbour-turn = naming NeighbourOf (λ p. refl) (λ p. refl) refl (λ p. refl)
