@@ -1,12 +1,13 @@
 // The planning program's reply to an input.
-ghost use Rattle.grid.specs.Cases.{Valid};
+ghost use Rattle.grid.specs.Cases.{caseOf, Valid};
 ghost use Rattle.report_lines.specs.Printing.{Printed, PrintedReply};
 ghost use Rattle.report_plan.specs.Plan.{PlanReport, PlanPrinted};
 
 mod printing;
 
+use busset::BusSet;
 use case_read::ReadAnswer;
-use grid::Case;
+use grid::Rows;
 use grid::limits::LARGEST_BUDGET;
 use grid::limits::most_budget;
 use place_fewest::Found;
@@ -16,16 +17,23 @@ use refusals::Written;
 use report_lines::print_refused;
 
 // The fewest of a case within the budget, or the line of the refusal.
-fn report(case: Case, budget: usize, out: &mut [u8]) -> Written
-    requires { ⌜ Valid case ⌝ }
-    ensures { λ r. ⌜ PrintedReply (PlanReport case budget) (now (out .entry)) (now (out .exit)) r ⌝ }
+fn report(
+    n: usize,
+    nbr: &Rows,
+    zero: BusSet,
+    site: BusSet,
+    units: BusSet,
+    budget: usize,
+    out: &mut [u8],
+) -> Written
+    requires { ⌜ Valid (caseOf n (now nbr) zero site units) ⌝ }
+    ensures { λ r. ⌜ PrintedReply (PlanReport (caseOf n (now (nbr .entry)) zero site units) budget) (now (out .entry))
+        (now (out .exit)) r ⌝ }
 {
-    let n = case.n;
     if most_budget(n) < budget {
         return print_refused(out, Refusal::OverBudget(1));
     }
-    let nbr = case.nbr;
-    let found = fewest(n, &nbr, case.zero, case.site, case.units, budget);
+    let found = fewest(n, nbr, zero, site, units, budget);
     match found {
         Found::Sites(sites) => printing::print_plan(out, n, sites),
         Found::Nothing => print_refused(out, Refusal::NoCover),
@@ -42,7 +50,15 @@ pub fn plan_report(input: &[u8], out: &mut [u8]) -> Written
     match answer {
         ReadAnswer::Read => {
             let case = read.case;
-            report(case, asked.budget, out)
+            report(
+                case.n,
+                &case.nbr,
+                case.zero,
+                case.site,
+                case.units,
+                asked.budget,
+                out,
+            )
         }
         ReadAnswer::Refused(q) => print_refused(out, q),
     }

@@ -1,4 +1,5 @@
 -- A case that is read is valid, as `report` requires. A refused input has its place on a line, so it has at most 4 digits.
+use mathlib.Core.Path.{refl}
 use native.Mathlib.Omega.{arith}
 use Rattle.report_lines.proofs.Printed.{printed-by}
 use Rattle.plan_input.proofs.Inputs.{asked-valid, asked-placed}
@@ -14,7 +15,9 @@ enum-told : tie.Need-enum-told
 enum-told c = search needs
 
 report-requires : tie.Need-report-requires
-report-requires c κs = search asked-valid
+report-requires c κs =
+    let told = c .before .before .before .before in
+    asked-valid _ (told .before .before .before .read-plan .ensures) (told .enum-told .given .1) refl
 
 enum-known-answer : tie.Need-enum-known-answer
 enum-known-answer c = search needs
