@@ -1,17 +1,18 @@
 // Case values and stated sets, drawn bus by bus and line by line. What names no bus of a word is left out.
+use grid::limits::MOST_BUSES;
 use wozgrzyt::BusSet;
 use wozgrzyt::Case;
 
 // n buses, all I and Y, with no line and no unit.
 pub fn blank(n: usize) -> Case {
-    let site = if n <= 64 {
+    let site = if n <= MOST_BUSES {
         busset::all(n)
     } else {
         busset::none()
     };
     Case {
         n,
-        nbr: [0; 64],
+        nbr: grid::no_rows(),
         zero: busset::none(),
         site,
         units: busset::none(),
@@ -23,7 +24,7 @@ fn marked(s: BusSet, b: usize) -> BusSet {
     if b < 1 {
         return s;
     }
-    if 64 < b {
+    if MOST_BUSES < b {
         return s;
     }
     busset::with(s, b)
@@ -33,7 +34,7 @@ fn unmarked(s: BusSet, b: usize) -> BusSet {
     if b < 1 {
         return s;
     }
-    if 64 < b {
+    if MOST_BUSES < b {
         return s;
     }
     busset::without(s, b)
@@ -45,12 +46,11 @@ fn one_sided(case: Case, a: usize, b: usize) -> Case {
     if a < 1 {
         return c;
     }
-    let at = a - 1;
-    if 64 <= at {
+    if MOST_BUSES < a {
         return c;
     }
-    let row = c.nbr[at];
-    c.nbr[at] = marked(row, b);
+    let near = marked(grid::row(&c.nbr, a), b);
+    grid::set_row(&mut c.nbr, a, near);
     c
 }
 

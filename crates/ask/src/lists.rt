@@ -3,6 +3,9 @@ ghost use mathlib.Core.Path.{_≡_};
 ghost use Prim.Native.Nat.{_+_, _≤_, _<_};
 ghost use lib.ListN.{length};
 use crate::printing;
+use grid::limits::MOST_BUSES;
+use step::Given;
+use step::NamedBus;
 use wozgrzyt::Reason;
 use wozgrzyt::Refusal;
 use wozgrzyt::Step;
@@ -13,19 +16,26 @@ pub struct Plan {
     pub steps: [Step; 1032],
 }
 
-fn is_step(letter: u8) -> bool {
-    match letter {
-        b'O' | b'N' | b'Z' => true,
-        _ => false,
+// The reason with this letter: that names bus b, or that names none.
+fn reason_of(letter: u8, b: usize) -> Given {
+    match step::reason_of(letter, NamedBus::Bus(b)) {
+        Given::Is(r) => Given::Is(r),
+        Given::Wrong => step::reason_of(letter, NamedBus::Nothing),
     }
 }
 
-// O, N, Z: the step of bus a. Any other letter says a step that is not counted.
+fn is_step(letter: u8) -> bool {
+    match reason_of(letter, 0) {
+        Given::Is(_) => true,
+        Given::Wrong => false,
+    }
+}
+
+// The step of bus a whose reason has this letter. A letter of no reason says a step that is not counted.
 fn step_of(letter: u8, a: usize, b: usize) -> Step {
-    let reason = match letter {
-        b'N' => Reason::NeighbourOf(b),
-        b'Z' => Reason::ZeroInjection(b),
-        _ => Reason::OwnUnit,
+    let reason = match reason_of(letter, b) {
+        Given::Is(r) => r,
+        Given::Wrong => Reason::OwnUnit,
     };
     Step { bus: a, reason }
 }
@@ -82,7 +92,7 @@ fn print(p: Plan) {
 }
 
 fn derived(l: StepList, i: usize) -> Step {
-    if 64 <= i {
+    if MOST_BUSES <= i {
         return Step {
             bus: 0,
             reason: Reason::OwnUnit,
@@ -121,10 +131,12 @@ pub fn filled() -> [Step; 1032] {
 }
 
 fn is_near(r: Reason, p: usize) -> bool {
-    match r {
-        Reason::OwnUnit => false,
-        Reason::NeighbourOf(q) => p == q,
-        Reason::ZeroInjection(_) => false,
+    if step::letter(r) != b'N' {
+        return false;
+    }
+    match step::named(r) {
+        NamedBus::Nothing => false,
+        NamedBus::Bus(q) => p == q,
     }
 }
 

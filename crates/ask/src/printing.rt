@@ -1,4 +1,7 @@
 // Texts, numbers, sets, steps, cases and refusals, printed.
+use grid::Rows;
+use grid::limits::MOST_BUSES;
+use step::NamedBus;
 use wozgrzyt::BusSet;
 use wozgrzyt::Case;
 use wozgrzyt::Reason;
@@ -42,7 +45,7 @@ pub fn refused(r: Refusal) {
 
 // The buses of a set.
 pub fn set(s: BusSet) {
-    for b in 1..=64 {
+    for b in 1..=MOST_BUSES {
         if busset::has(s, b) {
             spaced(b);
         }
@@ -59,16 +62,12 @@ pub fn reached(s: BusSet, finished: bool) {
     }
 }
 
-fn by(letter: &[u8], b: usize) {
-    text(letter);
-    number(b);
-}
-
 fn reason(r: Reason) {
-    match r {
-        Reason::OwnUnit => text(b"O"),
-        Reason::NeighbourOf(p) => by(b"N", p),
-        Reason::ZeroInjection(w) => by(b"Z", w),
+    let letter = [step::letter(r)];
+    text(&letter);
+    match step::named(r) {
+        NamedBus::Nothing => {}
+        NamedBus::Bus(b) => number(b),
     }
 }
 
@@ -96,9 +95,9 @@ fn row(b: usize, s: BusSet) {
     }
 }
 
-fn rows(nbr: &[BusSet; 64]) {
-    for i in 0..64 {
-        row(i + 1, nbr[i]);
+fn rows(nbr: &Rows) {
+    for b in 1..=MOST_BUSES {
+        row(b, grid::row(nbr, b));
     }
 }
 
@@ -109,10 +108,9 @@ fn named(name: &[u8], s: BusSet) {
 
 // Every field of a case; a row with no bus is left out.
 pub fn case(c: Case) {
-    let nbr = c.nbr;
     text(b", n");
     spaced(c.n);
-    rows(&nbr);
+    rows(&c.nbr);
     named(b", zero", c.zero);
     named(b", site", c.site);
     named(b", units", c.units);

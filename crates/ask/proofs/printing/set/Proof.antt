@@ -1,14 +1,15 @@
--- Invariant: b is 1 to 65, so each bus that a turn asks about is 1 to 64. 65 - b falls.
+-- Invariant: b is at least 1, so each bus that a turn asks about is one. b rises past the most buses.
 use borrow.Author.Needs.{needs}
-use Prim.Native.Nat.{_-_, _≤_}
+use Prim.Native.Nat.{suc, _-_, _≤_}
+use Rattle.grid.specs.Limits.{mostBuses}
 use Rattle.ask.proofs.printing.set.Statement.{statement}
 use Rattle.ask.proofs.printing.set.Tie as tie
 
 abbrev Inv-loop : tie.InvT-loop
-Inv-loop s b₀ b = (1 ≤ b) × (b ≤ 65)
+Inv-loop s b₀ b = (1 ≤ b) × (b ≤ suc mostBuses)
 
 abbrev μ-loop : tie.MeasureT-loop
-μ-loop s b₀ b = 65 - b
+μ-loop s b₀ b = suc mostBuses - b
 
 loop-holds : tie.Need-loop-holds Inv-loop μ-loop
 loop-holds c = search needs
