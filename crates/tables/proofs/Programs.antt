@@ -6,6 +6,7 @@ use Prim.Native.Nat.{ℕ}
 use native.Mathlib.Omega.{arith}
 use lib.Count.{ones, onesIn}
 use lib.ListN.{length, getD}
+use Rattle.busset.proofs.Holding.{word-own}
 use Rattle.busset.specs.Sets.{add, setOf}
 use Rattle.busset.specs.Bytes.{byteOf, bytesFrom}
 use Rattle.busset.specs.Held.{SetWord}
@@ -180,7 +181,7 @@ unfolding readCase readText readLines judged isBus isAfter pastBuses recordOf re
 calls-right =
     gives tables.lent (Set five) (says (observed.Set five) (replies.sets-right .0))
     & gives tables.lent (Set (wordWith (3 ∷ [])))
-    (says (unconfirmed.Unconfirmed (wordWith (3 ∷ []))) ((known .at3 .valid, tt), confirming.itself))
+    (says (unconfirmed.Unconfirmed (wordWith (3 ∷ []))) ((known .at3 .valid, tt), confirming.itself, word-own _))
     & gives tables.lent (Set (wordWith (1 ∷ 4 ∷ []))) (says (fewest.Sites (wordWith (1 ∷ 4 ∷ []))) (replies.fewests-right .0))
     & gives tables.lent (Set five) (says (replayed.Reached five true) (replays-right .0))
     & gives tables.lent (Refused (WrongForm 1)) refl

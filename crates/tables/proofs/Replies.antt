@@ -7,6 +7,7 @@ use lib.Count.{ones, onesIn}
 use lib.Signed.{mag}
 use lib.ListN.{length, getD}
 use Rattle.busset.specs.Sets.{add, meet, lack, less, upTo, setOf, empty}
+use Rattle.busset.proofs.Holding.{word-own}
 use Rattle.busset.specs.Held.{wordOf, hold}
 use Rattle.basics.proofs.Tests.{decides-yes, decides-no, refutes}
 use Rattle.text_field.specs.Split.{split, join, same}
@@ -109,14 +110,16 @@ replays-right = (
   (v, (omega arith, accepted-checks (tables.sevenCase (3 ∷ [])) (v .proper) 1 empty derivationSteps (derived-accepted is-derivation .0))),
   refl,
   decides-yes (derived-accepted is-derivation .1),
+  word-own _,
 )
     & (
       (v, (omega arith, (named23, (refl, (record { unit = refl; joined = refl }, tt))))),
       refl,
       decides-no (λ h. h (own 3) (allowed-passes (sevenGrid (3 ∷ [])) (set (2 ∷ [])) (own 3) refl)),
+      word-own _,
     )
-    & ((v, (omega arith, tt)), refl, decides-no (λ h. h (own 3) (allowed-passes (sevenGrid (3 ∷ [])) (set []) (own 3) refl)))
-    & ((known .none .valid, (omega arith, tt)), refl, decides-yes none-allowed)
+    & ((v, (omega arith, tt)), refl, decides-no (λ h. h (own 3) (allowed-passes (sevenGrid (3 ∷ [])) (set []) (own 3) refl)), word-own _)
+    & ((known .none .valid, (omega arith, tt)), refl, decides-yes none-allowed, word-own _)
     & (λ h. refutes (h .2) refl none-allowed)
     & stop invalid (itself _)
     & v then stop (λ h. omega arith) (itself _)
@@ -159,10 +162,17 @@ weaves-right = (
   refl,
   refl,
   refl,
+  word-own _,
 )
     & (v then omega arith then named3 then (λ o. refl) then stop (λ h. omega (arith, h .reason .most)) (itself _), refl)
     & (v then omega arith then named12 then stop (λ h. omega (arith, h refl .observed)) (itself _), refl)
-    & ((v, (omega arith, (named3, ((λ o. refl), (named3, ((λ o. refl), (named3, ((λ o. refl), (omega arith, tt))))))))), refl, refl, refl)
+    & (
+      (v, (omega arith, (named3, ((λ o. refl), (named3, ((λ o. refl), (named3, ((λ o. refl), (omega arith, tt))))))))),
+      refl,
+      refl,
+      refl,
+      word-own _,
+    )
     & (v then omega arith then named3 then (λ o. refl) then named23 then (λ o. by3) then stop (λ h. omega arith) (itself _), refl)
     & (λ h. omega (arith, ap (λ (xs : List Step). getD xs 0 noStep .bus) (h .1)))
     & (
@@ -183,13 +193,13 @@ weaves-right = (
 pub sets-right : AllRight tables.caseReplyTable
 unfolding hold wordOf add setOf
 sets-right =
-    ((known .at3 .valid, tt), known .at3 .least)
+    ((known .at3 .valid, tt), known .at3 .least, word-own _)
     & (λ h. omega (arith, least-unique (sevenGrid (3 ∷ [])) _ _ (known .at3 .least) (h .1)))
     & stop invalid (itself _)
     & (λ h. failed-or-passed (observedChecks (tables.sevenCase (3 ∷ []))) InvalidCase h (known .at3 .valid, tt))
     & ((known .at3 .valid, tt), record { steps = derivationSteps; derived = is-derivation; is = refl })
     & (stop invalid (itself _), refl)
-    & ((known .at3 .valid, tt), confirming.itself)
+    & ((known .at3 .valid, tt), confirming.itself, word-own _)
     & stop invalid (itself _)
     & tt
 
@@ -216,7 +226,7 @@ greedies-right = (
 
 pub fewests-right : AllRight tables.fewestReplyTable
 fewests-right =
-    ((v, (omega arith, (fewest-some (known-places .fewest2), tt))), known-places .fewest2)
+    ((v, (omega arith, (fewest-some (known-places .fewest2), tt))), known-places .fewest2, word-own _)
     & stop invalid (itself _)
     & over
     & v then omega arith then stop (known-places .fewest1) (itself _)

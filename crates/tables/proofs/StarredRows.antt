@@ -9,6 +9,7 @@ use lib.IntN.{ℤ, pos, negsuc}
 use lib.Count.{ones, onesIn}
 use Rattle.busset.specs.Sets.{bit, empty, add, meet, lack, less, upTo, setOf}
 use Rattle.busset.specs.Held.{wordOf, hold}
+use Rattle.busset.proofs.Holding.{word-own}
 use Rattle.busset.proofs.Digits.{bit-zero}
 use Rattle.rules.specs.Grids.{total}
 use Rattle.rules.specs.Figures.{figure}
@@ -86,7 +87,7 @@ row-right : (r : StarredRow) → wrong r ≡ 0 → StarredRight r
 unfolding wrong
 row-right (observes d bs) e =
     let v : Valid (drawnCase d) = filled-passes (shortCase d) (omega arith) in
-    ((v, tt), least-passes (drawnGrid d) (derived (drawnGrid d)) (set bs) (v .proper) (omega arith))
+    ((v, tt), least-passes (drawnGrid d) (derived (drawnGrid d)) (set bs) (v .proper) (omega arith), word-own _)
 row-right (figures d bs i j z) e =
     let n = d .n in (
       (filled-passes (shortCase d) (omega arith), ((bus-passes n i (omega arith), bus-passes n j (omega arith)), (omega arith, tt))),

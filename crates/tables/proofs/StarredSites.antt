@@ -7,6 +7,7 @@ use native.Mathlib.Omega.{arith}
 use lib.ListN.{length, drop}
 use Rattle.busset.specs.Sets.{lack}
 use Rattle.busset.proofs.Members.{lack-at}
+use Rattle.busset.proofs.Holding.{word-own}
 use Rattle.busset.proofs.Words.{set-zero}
 use Rattle.rules.proofs.Choices.{greedy-unique}
 use Rattle.rules.proofs.Ordering.{fewest-some}
@@ -41,6 +42,7 @@ verdict-right d bs e =
     )
 
 pub greedy-right : (d : Drawing) (budget : ℕ) (xs : List ℕ)
+      word-own _,
     → validTest (shortCase d) + (budget - mostGreedyBudget) + greedyTest (drawnGrid d) budget xs ≡ 0
     → (entry : List ℕ) → length xs ≤ length entry
     → GreedyReply (drawnCase d) budget entry (xs ++ drop (length xs) entry) (greedy.Added (length xs))
@@ -67,7 +69,7 @@ fewest-right d budget bs e found =
     let v : Valid (drawnCase d) = filled-passes (shortCase d) (omega arith) in
     let f = fewest-passes (drawnGrid d) (v .proper) (free d) (record { at = lack-at (drawnGrid d .sites) (drawnGrid d .units) }) budget
     (some (set bs)) found in
-    ((v, (omega arith, (fewest-some f, tt))), f)
+    ((v, (omega arith, (fewest-some f, tt))), f, word-own _)
 
 pub uncovered-right : (d : Drawing) (budget : ℕ) → validTest (shortCase d) + (budget - mostBudget (d .n)) ≡ 0
     → smallest (drawnGrid d) (free d) (budget + 1) 0 ≡ none → FewestReply (drawnCase d) budget (fewest.Refused NoCover)

@@ -10,6 +10,7 @@ use lib.Signed.{leZ-yes}
 use Rattle.busset.specs.Sets.{bit, In, add, meet, lack, less, upTo, setOf}
 use Rattle.busset.specs.Held.{SetWord, wordOf, hold}
 use Rattle.step.specs.Records.{noStep}
+use Rattle.busset.proofs.Holding.{word-own}
 use Rattle.step.specs.declared.Step.{Step}
 use Rattle.rules.specs.Steps.{Names, reached, Accepted}
 use Rattle.basics.specs.Lists.{Each}
@@ -154,6 +155,7 @@ calls-right =
       refl,
       refl,
       refl,
+      word-own _,
     )
     & (λ h. let e = h .answers in let z : _≡_ {A = ℕ} 0 1 = cc in omega arith)
     & (λ h. omega (arith, ap (λ (xs : List Step). getD xs 0 noStep .bus) (h .records)))
