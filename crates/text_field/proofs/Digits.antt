@@ -173,10 +173,19 @@ digits-length (suc k) n =
 pub text-length : (n : ℕ) → length (numberText n) ≤ mostDigits
 text-length n = digits-length (mostDigits - 1) n
 
+-- no more than a number needs
+digits-few-enough : (k m n : ℕ) → n < 10 ^ suc k → length (digits m n) ≤ suc k
+digits-few-enough zero m n h = rw (digits-few m n (omega arith)) (omega arith)
+digits-few-enough (suc k) zero n h = omega (arith, digits-length zero n)
+digits-few-enough (suc k) (suc m) n h =
+    ⊎-elim
+    (λ (s : n < 10). rw (digits-few (suc m) n s) (omega arith))
+    (λ (l : 10 ≤ n). rw (digits-many m n l, length-append) (omega (arith, digits-few-enough k m (n / 10) (omega arith))))
+    (few-or-many n)
+
+pub text-short : (k n : ℕ) → n < 10 ^ suc k → length (numberText n) ≤ suc k
+text-short k n = digits-few-enough k (mostDigits - 1) n
+
 -- two of them below a hundred
 pub text-two : (n : ℕ) → n < 100 → length (numberText n) ≤ 2
-text-two n h =
-    ⊎-elim
-    (λ (s : n < 10). rw (text-few n s) (omega arith))
-    (λ (l : 10 ≤ n). rw (text-many n l (omega arith), text-few (n / 10) (omega arith)) (omega arith))
-    (few-or-many n)
+text-two n h = text-short 1 n h

@@ -4,6 +4,7 @@ ghost use mathlib.Core.Path.{_≡_};
 ghost use mathlib.Core.List.{[], _∷_, _++_};
 ghost use Prim.Native.Nat.{_+_, _<_};
 ghost use lib.ListN.{length};
+ghost use Rattle.text_field.specs.Split.{lineFeed};
 ghost use Rattle.text_field.specs.Number.{mostPrinted, numberText};
 ghost use Rattle.text_put.specs.Put.{Put, farByte, farField, farTagged, farLine, longWord};
 
@@ -65,7 +66,7 @@ pub fn put_pair(out: &mut [u8], at: usize, v: &[u8], m: usize, w: &[u8], n: usiz
     requires { ⌜ (at < farLine) × (length (now v) < longWord) × (m < mostPrinted)
         × (length (now w) < longWord) × (n < mostPrinted) ⌝ }
     ensures { λ r. ⌜ Put (now (out .entry)) at
-        (((now (v .entry) ++ numberText m) ++ (now (w .entry) ++ numberText n)) ++ 10 ∷ [])
+        (((now (v .entry) ++ numberText m) ++ (now (w .entry) ++ numberText n)) ++ lineFeed ∷ [])
         (now (out .exit)) r ⌝ }
 {
     let a = put_tagged(out, at, v, m);
