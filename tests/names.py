@@ -235,6 +235,7 @@ HOMES = {
 # numbers made from limits, and lines that say such a number and mean another thing: a byte, a word, a refusal
 MADE = {69, 128, 832, 860, 960}
 OTHERS = {
+    "crates/ask/src/rooms.rt": {128},
     "crates/busset/src/lib.rt": {255},
     "crates/busset/specs/Bytes.antt": {256},
     "crates/busset/proofs/Packing.antt": {255, 256},
