@@ -70,6 +70,15 @@ def text_lines(text):
     return line("T", len(text)) + text
 
 
+def filled(block):
+    """The block to its end: a text that nothing asks about, and at most a few empty lines."""
+    rest = BLOCK - len(block)
+    count = rest - len(line("T", rest))
+    if count > 0:
+        block += line("T", count) + b"." * count
+    return block.ljust(BLOCK, b"\n")
+
+
 class Asker:
     """Gathers questions, and the blocks that ask them."""
 
@@ -81,7 +90,7 @@ class Asker:
         asked = line(LETTERS[call], *numbers, name=name)
         lines = asked if setup == self.drawn else setup + asked
         if len(self.block) + len(lines) > BLOCK:
-            self.blocks.append(self.block.ljust(BLOCK, b"\n"))
+            self.blocks.append(filled(self.block))
             self.block, lines = b"", setup + asked
         self.block, self.drawn = self.block + lines, setup
         assert len(self.block) <= BLOCK

@@ -38,7 +38,8 @@ module _ {M : Type 1} (𝓤 : URA M) (H : Heap 𝓤) (A : Atoms 𝓤) (R : Rattl
   Kept α h b o back = ‵ (flent (α ∷ []) (partAt R fullShare h b o)) ⊛ raw (all 𝓤 (Way back b o))
 
 module _ {M : Type 1} {𝓤 : URA M} {H : Heap 𝓤} {A : Atoms 𝓤} {K : Type 0} {W : Given 𝓤 H A} {Γ : List (Item 𝓤)} {G : Goal 𝓤 H} where
-  pub lends : K → Soaks G → (R : RattleType) → One R → (val : R .Denot → Val) → Makes 𝓤 H A R (Is R) → {i : Item 𝓤} {b o : ℕ} {back : Val → Item 𝓤} (h : R .Denot) → Is R h (val h ∷ [])
+  pub lends : K → Soaks G → (R : RattleType) → One R → (val : R .Denot → Val) → Makes 𝓤 H A R (Is R)
+      → {i : Item 𝓤} {b o : ℕ} {back : Val → Item 𝓤} (h : R .Denot) → Is R h (val h ∷ [])
       → Part K W i fullShare (lone (R .mir)) b o (val h) back
       → ((α : ℕ) (γ : GName) → Seq K W (‵ (flft (α ∷ []) fullShare) ∷ ‵ (ShrRef (named 0) (α ∷ []) R .own (ref γ h b o) (vptr b o ∷ []))
       ∷ Kept 𝓤 H A R α h b o back ∷ Γ) G)
@@ -53,12 +54,14 @@ module _ {M : Type 1} {𝓤 : URA M} {H : Heap 𝓤} {A : Atoms 𝓤} {K : Type 
       -- [the reference; the lender's part; the token; the way back]
       pick t (λ γ. split t $ move t (1 ∷ 3 ∷ []) $ join t $ move t (2 ∷ 1 ∷ []) $ k α γ))
 
-  pub takes-back : K → Soaks G → (R : RattleType) → One R → (val : R .Denot → Val) → Tells R (Is R) (λ y. val y ∷ []) → {i : Item 𝓤} {b o α : ℕ} {back : Val → Item 𝓤} (h : R .Denot)
+  pub takes-back : K → Soaks G → (R : RattleType) → One R → (val : R .Denot → Val) → Tells R (Is R) (λ y. val y ∷ [])
+      → {i : Item 𝓤} {b o α : ℕ} {back : Val → Item 𝓤} (h : R .Denot)
       → Part K W i fullShare (lone (R .mir)) b o (val h) back
       → Step K W (i ∷ Γ) G (‵ (flft (α ∷ []) fullShare) ∷ Kept 𝓤 H A R α h b o back ∷ Γ) G
   takes-back t z R one val tells {i} {b} {o} {α} {back} h p = step (λ s.
       lft-end t z $ move t (1 ∷ []) $ split t $ move t (2 ∷ 0 ∷ []) $ lent-back t z $
-      use1 W (some (λ (w : Val). ‵ (fat fullShare (lone (R .mir)) b o w) ⊛ ‵ (R .own h (w ∷ [])))) (part-out 𝓤 H A W R one fullShare h b o) $
+      use1 W (some (λ (w : Val). ‵ (fat fullShare (lone (R .mir)) b o w) ⊛ ‵ (R .own h (w ∷ []))))
+      (part-out 𝓤 H A W R one fullShare h b o) $
       pick t (λ w. split t $ move t (1 ∷ []) $ facts t R (Is R) (shows 𝓤 H A R) h (w ∷ []) (λ is.
       rewrite t 0 (λ (u : Val). ‵ (fat fullShare (lone (R .mir)) b o u)) (ap only (tells h (w ∷ []) is)) refl $ move t (1 ∷ []) $
       use1 W (raw (Way 𝓤 H A R back b o (val h))) (allE 𝓤 (Way 𝓤 H A R back b o) (val h)) $ move t (1 ∷ 0 ∷ []) $

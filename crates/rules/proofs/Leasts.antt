@@ -27,7 +27,11 @@ least-empty g e = record {
 -- the buses of the grid satisfy both rules
 pub all-closed : {g : Grid} {a : ℕ} → Proper g → All (g .n) a → Closed g a
 all-closed {g} {a} v all = record {
-  direct = record { own = λ b h. all .has b (v .units b h); near = λ b h. sub-of (g .neighbours b) a (λ c j. all .has c (v .lines b c j .to)) };
+  direct = record {
+    own = λ b h. all .has b (v .units b h);
+    near = λ b h. sub-of (g .neighbours b) a (λ c j. all .has c
+        (v .lines b c j .to));
+  };
   zeros = record { o2 = λ w z o b j rest. all .has b (v .lines w b j .to) };
 }
 

@@ -1,4 +1,5 @@
--- `put` meets its contract: a walk of its MIR, by hand. `steps` is looked into and `out` opened once, before the loop; both are shut after it.
+-- `put` meets its contract: a walk of its MIR, by hand. `steps` is looked into and `out` opened once, before the loop; both are shut
+-- after it.
 -- A turn copies step i out of `steps` and stores it, whole, in record k. Of `none`, `with` and `count` only the contracts are known.
 -- The invariant is `PutSoFar`, and the steps to come get fewer.
 use mathlib.Core.Path.{_≡_, refl, sym, ap, subst}
@@ -108,7 +109,8 @@ module _ {M : Type 1} (𝓤 : URA M) (H : Heap 𝓤) (A : Atoms 𝓤) (mem : Mem
   Count = tripleOf 𝓤 H A count.signature (count.spec 𝓤 H A mem run)
 
 module _ {M : Type 1} (𝓤 : URA M) (H : Heap 𝓤) (A : Atoms 𝓤) (W : Given 𝓤 H A) (mem : Memory → SProp 𝓤) (run : Routine → Fun 𝓤) (κ κ′ : Lft)
-    (q q′ : Share) (m : ℕ) (gm : m < 2 ^ 64) (b₁ o₁ : ℕ) (γ₁ : GName) (xs : List Step) (gx : Room T.the-row (length xs)) (b o : ℕ) (γ : GName)
+    (q q′ : Share) (m : ℕ) (gm : m < 2 ^ 64) (b₁ o₁ : ℕ) (γ₁ : GName) (xs : List Step) (gx : Room T.the-row (length xs)) (b o : ℕ)
+    (γ : GName)
     (ys : List Step) (gn : Room T.the-row (length ys)) (can : CanPut m xs ys) where
   abbrev n : ℕ
   n = length ys
@@ -176,7 +178,8 @@ module _ {M : Type 1} (𝓤 : URA M) (H : Heap 𝓤) (A : Atoms 𝓤) (W : Given
         ∷ (sp (pointee (T.the-row .written)), l₇) ∷ (sp tyBool, l₈) ∷ (sp word, l₉) ∷ (sp tyPtr, l₁₀)
         ∷ (sp (pointee (T.the-row .written)), l₁₁) ∷ (sp tyPtr, l₁₂) ∷ []
 
-    -- [out's row; its open borrow; obs; auth; steps' row; what shuts it; the fractured borrow; res; steps' fact; out's fact; _12; …; …; _0; …]
+    -- [out's row; its open borrow; obs; auth; steps' row; what shuts it; the fractured borrow; res; steps' fact; out's fact; _12; …; …;
+    -- _0; …]
     abbrev At : Turn m xs ys → List (Item 𝓤)
     At t =
         ‵ (row T.the-row fullShare (t .zs) b o) ∷ ‵ (fobor κ′ q′ (Held T.the-row n b o γ))
@@ -220,7 +223,8 @@ module _ {M : Type 1} (𝓤 : URA M) (H : Heap 𝓤) (A : Atoms 𝓤) (W : Given
         assigns ! (bin ! (load ! (from ! (stop !)) (look ! 24 refl)) (load ! (from ! (stop !)) (look ! 32 refl)) tt) (from ! (stop !))
         (init ! 18 refl (tt, tt)) $
         rewrite ! 18 (λ (y : Bool). ‵ (fat fullShare tyBool l₈ 0 (vbool y))) e refl $ stays ! (load ! (from ! (stop !)) (look ! 18 refl)) $
-        assigns ! (bin ! (load ! (from ! (stop !)) (look ! 22 refl)) (lit ! tt) (record { fits = offset-fits (length xs) (t .i) (gx .1) li }))
+        assigns ! (bin ! (load ! (from ! (stop !)) (look ! 22 refl)) (lit ! tt)
+        (record { fits = offset-fits (length xs) (t .i) (gx .1) li }))
         (from ! (stop !)) (init ! 16 refl (tt, record { fits = offset-fits (length xs) (t .i) (gx .1) li })) $
         assigns ! (bin ! (load ! (from ! (fld ! refl (stop !))) (look-in ! 30 (sub ! 0 refl (whole !))))
         (load ! (from ! (stop !)) (look ! 16 refl)) tt) (from ! (stop !)) (init ! 14 refl (tt, tt)) $
@@ -230,12 +234,14 @@ module _ {M : Type 1} (𝓤 : URA M) (H : Heap 𝓤) (A : Atoms 𝓤) (W : Given
         assigns ! (of-opd ! (load ! (from ! (hop ! (look ! 16 refl) (stop !))) (look-raw ! 0 refl))) (from ! (stop !))
         (init ! 14 refl (step-typed 𝓤 H A W (el t) _ g)) $
         elem-back ! T.the-row q″ xs (t .i) noStep (LL.vals T.the-type T′.the-laws (el t)) b₁ o₁ li $
-        assigns ! (of-opd ! (load ! (from ! (stop !)) (look ! 12 refl))) (from ! (stop !)) (init ! 20 refl (step-typed 𝓤 H A W (el t) _ g)) $
+        assigns ! (of-opd ! (load ! (from ! (stop !)) (look ! 12 refl))) (from ! (stop !))
+        (init ! 20 refl (step-typed 𝓤 H A W (el t) _ g)) $
         assigns ! (bin ! (load ! (from ! (stop !)) (look ! 24 refl)) (lit ! tt) (record { fits = offset-fits n (t .k) (gn .1) lk }))
         (from ! (stop !)) (store ! 16 refl (tt, record { fits = offset-fits n (t .k) (gn .1) lk })) $
         assigns ! (bin ! (load ! (from ! (fld ! refl (stop !))) (look-in ! 28 (sub ! 0 refl (whole !))))
         (load ! (from ! (stop !)) (look ! 16 refl)) tt) (from ! (stop !)) (init ! 10 refl (tt, tt)) $
-        rewrite ! 10 (λ (p : ℕ). ‵ (fat fullShare tyPtr l₁₂ 0 (vptr b p))) (sym (place-is recordBytes o (t .k))) refl $ move ! (1 ∷ 0 ∷ []) $
+        rewrite ! 10 (λ (p : ℕ). ‵ (fat fullShare tyPtr l₁₂ 0 (vptr b p))) (sym (place-is recordBytes o (t .k))) refl $
+        move ! (1 ∷ 0 ∷ []) $
         elem-out ! T.the-row (Is T.the-row) (shows 𝓤 H A T.the-row) (LL.vals T.the-type T′.the-laws) (LL.tells T.the-type T′.the-laws)
         fullShare (t .zs) (t .k) noStep b o lz (λ _.
         assigns ! (of-opd ! (load ! (from ! (stop !)) (look ! 22 refl))) (from ! (hop ! (look ! 12 refl) (stop !)))
@@ -260,7 +266,8 @@ module _ {M : Type 1} (𝓤 : URA M) (H : Heap 𝓤) (A : Atoms 𝓤) (W : Given
         (λ w j is′ e₂.
         land ! (from ! (stop !)) (store ! 24 refl (uint-lawful 𝓤 H A W w64 .typed j (w ∷ []) is′ .0)) $
         rewrite ! 24 (λ (y : Val). ‵ (fat fullShare word l₅ 0 y)) (ap only (is′ .0)) refl $
-        assigns-last ! (bin ! (load ! (from ! (stop !)) (look ! 22 refl)) (lit ! tt) (record { fits = next-fits (length xs) (t .i) (gx .0) li }))
+        assigns-last ! (bin ! (load ! (from ! (stop !)) (look ! 22 refl)) (lit ! tt)
+        (record { fits = next-fits (length xs) (t .i) (gx .0) li }))
         (from ! (stop !)) (store ! 22 refl (tt, record { fits = next-fits (length xs) (t .i) (gx .0) li })) $
         forget ! 10 refl $ forget ! 12 refl $ forget ! 14 refl $ forget ! 16 refl $ forget ! 18 refl $ forget ! 20 refl $
         again ! (Nearer (length xs) at-i) At t (onward t l r (is .1) e₁ j (is′ .1) e₂) (nearer (length xs) (t .i) li)))))

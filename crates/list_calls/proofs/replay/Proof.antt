@@ -179,7 +179,8 @@ module _ {M : Type 1} (𝓤 : URA M) (H : Heap 𝓤) (A : Atoms 𝓤) (W : Given
         ∷ 7 ∷ 4 ∷ 5 ∷ 2 ∷ 3 ∷ []) $
         let-go ! $ let-go ! $ let-go ! $ let-go ! $ let-go ! $ let-go ! $ let-go ! $ let-go ! $ let-go ! $ let-go ! $ let-go ! $ let-go ! $
         free0 ! $
-        by ! (exits r v gr (subst (λ (rows : List ℕ). AnswersReplay (caseOf (cs .n) rows (cs .zero) (cs .site) (cs .units)) st r) (rows-in cs)
+        by ! (exits r v gr (subst (λ (rows : List ℕ). AnswersReplay (caseOf (cs .n) rows (cs .zero) (cs .site) (cs .units)) st r)
+        (rows-in cs)
         (e₂ (cs .n) (cs .site)) ys e₁)))))))))))))))))
 
 module _ {M : Type 1} (𝓤 : URA M) (H : Heap 𝓤) (A : Atoms 𝓤) (W : Given 𝓤 H A) (mem : Memory → SProp 𝓤) (run : Routine → Fun 𝓤)

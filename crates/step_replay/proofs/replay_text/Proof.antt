@@ -20,7 +20,8 @@ answered : (c : tie.After-ended) {w : Replayed} → c .ended .result ≡ w
     TextReplayReply (asked .t1) (asked .text .now) (textAnswer w)
 answered c e =
     let at-count = c .before .before .before .before .before .before .before in
-    replied _ _ (at-count .before .before .check-steps .ensures) (counted at-count) (at-count .count .given .1) (c .before .before .before .follow-text .ensures)
+    replied _ _ (at-count .before .before .check-steps .ensures) (counted at-count) (at-count .count .given .1)
+    (c .before .before .before .follow-text .ensures)
     (c .ended .ensures _ _) e
 
 check-steps-requires : tie.Need-check-steps-requires
