@@ -18,7 +18,7 @@ use Rattle.rules.specs.Steps.{Holds}
 use Rattle.grid.specs.Cases.{gridWith}
 use Rattle.list_derive.specs.Searching.{NextAnswer}
 use Rattle.list_derive.specs.declared.searching.Next.{Next}
-use Rattle.list_derive.specs.declared.searching.Next.the-variants.{Take, Nothing}
+use Rattle.list_derive.specs.declared.searching.Next.the-variants.{Nothing}
 use Rattle.list_derive.proofs.Nexting.{Lacks, lacks-more, names-none, FailsBefore, fails-none, fails-alone, fails-named, none-holds}
 use Rattle.list_derive.proofs.Nexting.{Clear, clear-none, clear-more, finished-by, next-by, first-alone, first-named}
 use Rattle.list_derive.proofs.Siteless.{siteless-proper, next-sites}
@@ -92,6 +92,9 @@ has-requires c κs = search needs
 has-requires-2 : tie.Need-has-requires-2 Inv-loop μ-loop Inv-loop2 μ-loop2 Inv-search μ-search
 has-requires-2 c κs = search needs
 
+taken-requires : tie.Need-taken-requires Inv-loop μ-loop Inv-loop2 μ-loop2 Inv-search μ-search
+taken-requires c κs = search needs
+
 loop-holds : tie.Need-loop-holds Inv-loop μ-loop Inv-loop2 μ-loop2 Inv-search μ-search
 loop-holds c =
     let at = c .before .before .before .before .before in
@@ -99,6 +102,9 @@ loop-holds c =
 
 by-unit-requires : tie.Need-by-unit-requires Inv-loop μ-loop Inv-loop2 μ-loop2 Inv-search μ-search
 by-unit-requires c κs = search needs
+
+taken-requires-2 : tie.Need-taken-requires-2 Inv-loop μ-loop Inv-loop2 μ-loop2 Inv-search μ-search
+taken-requires-2 c κs = search needs
 
 add-p : tie.Need-add-p Inv-loop μ-loop Inv-loop2 μ-loop2 Inv-search μ-search
 add-p c = search needs
@@ -118,6 +124,9 @@ loop2-holds c =
 
 by-zero-requires : tie.Need-by-zero-requires Inv-loop μ-loop Inv-loop2 μ-loop2 Inv-search μ-search
 by-zero-requires c κs = search needs
+
+taken-requires-3 : tie.Need-taken-requires-3 Inv-loop μ-loop Inv-loop2 μ-loop2 Inv-search μ-search
+taken-requires-3 c κs = search needs
 
 add-w : tie.Need-add-w Inv-loop μ-loop Inv-loop2 μ-loop2 Inv-search μ-search
 add-w c = search needs
@@ -162,30 +171,33 @@ returns c =
 
 returns-2 : tie.Need-returns-2 Inv-loop μ-loop Inv-loop2 μ-loop2 Inv-search μ-search
 returns-2 c =
-    let at = c .before .before .before .before .before in
-    answered (at .before) (Take _)
-    (next-by OwnUnit (at .search .inv .3) (new (c .before .before)) (c .before .has2 .ensures .yes (c .if2 .taken))
-    (first-alone own-turn (fails-none _ _ _)))
+    let here = c .before in
+    let at = here .before .before .before .before .before in
+    answered (at .before) (c .taken .result) (subst⁻¹ (NextAnswer _ _) (c .taken .ensures)
+    (next-by OwnUnit (at .search .inv .3) (new (here .before .before)) (here .before .has2 .ensures .yes (here .if2 .taken))
+    (first-alone own-turn (fails-none _ _ _))))
 
 returns-3 : tie.Need-returns-3 Inv-loop μ-loop Inv-loop2 μ-loop2 Inv-search μ-search
 returns-3 c =
-    let past = c .before .before .before .before in
+    let here = c .before in
+    let past = here .before .before .before .before in
     let at = past .before .before .before .before .before in
-    answered (at .before) (Take _)
-    (next-by (NeighbourOf _) (at .search .inv .3) (new (past .before .before)) (c .before .by-unit .ensures .yes (c .if3 .taken))
-    (first-named neighbour-turn (past-own past) (c .before .before .before .loop .inv .3)))
+    answered (at .before) (c .taken2 .result) (subst⁻¹ (NextAnswer _ _) (c .taken2 .ensures)
+    (next-by (NeighbourOf _) (at .search .inv .3) (new (past .before .before)) (here .before .by-unit .ensures .yes (here .if3 .taken))
+    (first-named neighbour-turn (past-own past) (here .before .before .before .loop .inv .3))))
 
 returns-4 : tie.Need-returns-4 Inv-loop μ-loop Inv-loop2 μ-loop2 Inv-search μ-search
 returns-4 c =
-    let past = c .before .before .before .before in
+    let here = c .before in
+    let past = here .before .before .before .before in
     let at = past .before .before .before .before .before .before .before in
-    answered (at .before) (Take _)
+    answered (at .before) (c .taken3 .result) (subst⁻¹ (NextAnswer _ _) (c .taken3 .ensures)
     (next-by (ZeroInjection _) (at .search .inv .3) (new (past .before .before .before .before))
-    (c .before .by-zero .ensures .yes (c .if4 .taken))
-    (first-named zero-turn (past-neighbours past) (c .before .before .before .loop2 .inv .3)))
+    (here .before .by-zero .ensures .yes (here .if4 .taken))
+    (first-named zero-turn (past-neighbours past) (here .before .before .before .loop2 .inv .3))))
 
 pub next-step-spec : {M : Type 1} → statement M
 next-step-spec =
-    tie.close (tie.spec Inv-loop μ-loop Inv-loop2 μ-loop2 Inv-search μ-search add-end search-holds has-requires has-requires-2 loop-holds
-    by-unit-requires add-p loop-less loop-again loop2-holds by-zero-requires add-w loop2-less loop2-again add-b search-less search-again
-    returns returns-2 returns-3 returns-4)
+    tie.close (tie.spec Inv-loop μ-loop Inv-loop2 μ-loop2 Inv-search μ-search add-end search-holds has-requires has-requires-2
+    taken-requires loop-holds by-unit-requires taken-requires-2 add-p loop-less loop-again loop2-holds by-zero-requires taken-requires-3
+    add-w loop2-less loop2-again add-b search-less search-again returns returns-2 returns-3 returns-4)
