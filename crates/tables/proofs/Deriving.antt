@@ -1,16 +1,18 @@
 -- Tests that a step is the next and that a list is the derivation, which the checker computes: 0 where they pass.
-use mathlib.Core.Path.{_≡_, subst}
+use mathlib.Core.Path.{_≡_, ap, _∙_, subst}
 use mathlib.Core.List.{List, [], _∷_}
 use mathlib.Core.Logic.{⊎-elim}
 use Prim.Native.Nat.{ℕ, zero, suc, _+_, _-_, _≤_, _<_}
 use native.Mathlib.Omega.{arith}
+use Rattle.list_derive.proofs.Nexting.{Lacks, FailsBefore, fails-none, fails-alone, fails-named, none-holds, first-alone, first-named}
+use Rattle.step.proofs.Reasons.{own-turn, neighbour-turn, zero-turn}
 use Rattle.busset.specs.Sets.{Bus, bit, Out, add, lack, size}
 use Rattle.basics.proofs.Tests.{below-or}
 use Rattle.step.specs.declared.Reason.{Reason}
 use Rattle.step.specs.declared.Reason.the-variants.{OwnUnit, NeighbourOf, ZeroInjection}
 use Rattle.step.specs.declared.Step.{Step}
 use Rattle.rules.specs.Grids.{Grid, Proper, total}
-use Rattle.rules.specs.Steps.{Holds, Allowed, ReasonNames, Finished}
+use Rattle.rules.specs.Steps.{Holds, Allowed, Finished}
 use Rattle.rules.specs.Derivation.{TakenFirst, NextIs, DerivedFrom, finished, next}
 use Rattle.rules.proofs.Firing.{others-in}
 use Rattle.rules.proofs.Reasons.{holds-names, allowed-bus}
@@ -95,31 +97,43 @@ module _ (g : Grid) (v : Proper g) where
   no-own : (s b : ℕ) → 1 - holdsTest g s b OwnUnit ≡ 0 → Holds g s b OwnUnit → ⊥
   no-own s b e r = omega (arith, holds-tests g s b v OwnUnit r)
 
+  -- the turns fail one after another
+  own-fails : (s b : ℕ) → 1 - holdsTest g s b OwnUnit ≡ 0 → FailsBefore g s b 1
+  own-fails s b e = fails-alone own-turn (fails-none g s b) (no-own s b e)
+
+  units-lack : (s b k : ℕ) → noUnit g s b (k - 1) ≡ 0 → Lacks (λ p. Holds g s b (NeighbourOf p)) k
+  units-lack s b k e = record {
+    below = λ p l h. no-unit s b (k - 1) p e (let n = holds-names g s b v (NeighbourOf p) h .some in record { some = n; most = omega arith }) h;
+  }
+
+  zeros-lack : (s b k : ℕ) → noZero g s b (k - 1) ≡ 0 → Lacks (λ w. Holds g s b (ZeroInjection w)) k
+  zeros-lack s b k e = record {
+    below = λ w l h. no-zero s b (k - 1) w e (let n = holds-names g s b v (ZeroInjection w) h .some in record { some = n; most = omega arith }) h;
+  }
+
+  units-fail : (s b : ℕ) → FailsBefore g s b 1 → noUnit g s b (g .n) ≡ 0 → FailsBefore g s b 2
+  units-fail s b f e =
+      fails-named neighbour-turn v f (omega arith) (units-lack s b (g .n + 1) (ap (noUnit g s b) (omega arith) ∙ e))
+
+  zeros-fail : (s b : ℕ) → FailsBefore g s b 2 → noZero g s b (g .n) ≡ 0 → FailsBefore g s b 3
+  zeros-fail s b f e = fails-named zero-turn v f (omega arith) (zeros-lack s b (g .n + 1) (ap (noZero g s b) (omega arith) ∙ e))
+
   no-reason : (s b : ℕ) (r : Reason) → noReason g s b ≡ 0 → Out s b → Holds g s b r → ⊥
   unfolding noReason
-  no-reason s b r e o h =
+  no-reason s b r e o =
       let z = given-out (bit s b) ((1 - holdsTest g s b OwnUnit) + noUnit g s b (g .n) + noZero g s b (g .n)) o e in
-      go r (holds-names g s b v r h) h (omega arith) (omega arith) (omega arith)
-    where
-      go : (r : Reason) → ReasonNames (g .n) r → Holds g s b r → 1 - holdsTest g s b OwnUnit ≡ 0 → noUnit g s b (g .n) ≡ 0
-          → noZero g s b (g .n) ≡ 0 → ⊥
-      go OwnUnit n h x y z = no-own s b x h
-      go (NeighbourOf p) n h x y z = no-unit s b (g .n) p y n h
-      go (ZeroInjection w) n h x y z = no-zero s b (g .n) w z n h
+      none-holds (zeros-fail s b (units-fail s b (own-fails s b (omega arith)) (omega arith)) (omega arith)) r
 
   finished-passes : (s : ℕ) → total (g .n) (noReason g s) ≡ 0 → Finished g s
   finished-passes s e x a =
       no-reason s (x .bus) (x .reason) (total-none (g .n) (noReason g s) e (x .bus) (allowed-bus v a)) (a .new) (a .holds)
 
-  first-passes : (s b : ℕ) (r q : Reason) → noSooner g s b r ≡ 0 → ReasonNames (g .n) q → Holds g s b q → TakenFirst r q
+  first-passes : (s b : ℕ) (r q : Reason) → noSooner g s b r ≡ 0 → Holds g s b q → TakenFirst r q
   unfolding noSooner
-  first-passes s b OwnUnit q e n h = tt
-  first-passes s b (NeighbourOf p) OwnUnit e n h = no-own s b (omega arith) h
-  first-passes s b (NeighbourOf p) (NeighbourOf q) e n h = not-below p q (n .some) (λ l. no-unit s b (p - 1) q (omega arith) l h)
-  first-passes s b (NeighbourOf p) (ZeroInjection w) e n h = tt
-  first-passes s b (ZeroInjection w) OwnUnit e n h = no-own s b (omega arith) h
-  first-passes s b (ZeroInjection w) (NeighbourOf q) e n h = no-unit s b (g .n) q (omega arith) n h
-  first-passes s b (ZeroInjection w) (ZeroInjection u) e n h = not-below w u (n .some) (λ l. no-zero s b (w - 1) u (omega arith) l h)
+  first-passes s b OwnUnit q e = first-alone own-turn (fails-none g s b) q
+  first-passes s b (NeighbourOf p) q e = first-named neighbour-turn (own-fails s b (omega arith)) (units-lack s b p (omega arith)) q
+  first-passes s b (ZeroInjection w) q e =
+      first-named zero-turn (units-fail s b (own-fails s b (omega arith)) (omega arith)) (zeros-lack s b w (omega arith)) q
 
   pub next-passes : (s : ℕ) (x : Step) → nextTest g s x ≡ 0 → NextIs g s x
   unfolding nextTest
@@ -131,7 +145,7 @@ module _ (g : Grid) (v : Proper g) where
     first =
         λ y a q. let h : Holds g s (x .bus) (y .reason) =
         subst (λ (b : ℕ). Holds g s b (y .reason)) q (a .holds) in
-        first-passes s (x .bus) (x .reason) (y .reason) (omega arith) (holds-names g s (x .bus) v (y .reason) h) h;
+        first-passes s (x .bus) (x .reason) (y .reason) (omega arith) h;
   }
 
   pub derived-passes : (s : ℕ) (xs : List Step) → derivedTest g s xs ≡ 0 → DerivedFrom g s xs

@@ -17,7 +17,7 @@ use Rattle.text_field.specs.Split.{split, join, same, bytes}
 use Rattle.text_field.specs.Number.{isDigit, takesDigit, numberFrom, numeralOf, digits}
 use Rattle.case_line.specs.Fields.{markOf, ifOneField, ifNoField}
 use Rattle.case_line.specs.Record.{recordWordOf, lineFields, busFields, recordOf, recordText}
-use Rattle.step_line.specs.StepLine.{letterOf, stepWordOf, reasonFields, stepFields, stepLineOf, stepText}
+use Rattle.step_line.specs.StepLine.{letteredFields, stepWordOf, reasonFields, stepFields, stepLineOf, stepText}
 use Rattle.rules.proofs.Ordering.{fewest-some}
 use Rattle.refusals.specs.declared.Refusal.{Refusal}
 use Rattle.refusals.specs.declared.Refusal.the-variants.{WrongForm, OutOfRange, ReasonFails, OverBudget, NoCover}
@@ -124,7 +124,7 @@ not-unread (listed.Reached s f) q e = let z : _≡_ {A = ℕ} 0 1 = cc in omega 
 not-unread (listed.Refused r) q e = let z : _≡_ {A = ℕ} 0 1 = cc in omega arith
 
 pub replays-right : AllRight tables.textReplayTable
-unfolding readSteps stepLines stepInRange stepsFrom stepsIn stepLineOf stepWordOf letterOf reasonFields stepFields ifOneField ifNoField
+unfolding readSteps stepLines stepInRange stepsFrom stepsIn stepLineOf stepWordOf letteredFields reasonFields stepFields ifOneField ifNoField
     split same isBus isDigit takesDigit numberFrom numeralOf
 replays-right =
     (listed.Reached _ true, replies.replays-right .0, refl)
@@ -137,7 +137,7 @@ replays-right =
     & tt
 
 pub readings-right : AllRight tables.stepsReadTable
-unfolding readSteps stepLines stepInRange stepsFrom stepsIn stepLineOf stepWordOf letterOf reasonFields stepFields ifOneField ifNoField
+unfolding readSteps stepLines stepInRange stepsFrom stepsIn stepLineOf stepWordOf letteredFields reasonFields stepFields ifOneField ifNoField
     split same isBus isDigit takesDigit numberFrom numeralOf
 readings-right =
     (refl, refl)
@@ -177,7 +177,7 @@ five = wordWith (1 ∷ 2 ∷ 3 ∷ 4 ∷ 7 ∷ [])
 pub calls-right : AllRight tables.estimatorTable
 unfolding readCase readText readLines judged isBus isAfter pastBuses recordOf recordWordOf lineFields busFields markOf ifOneField ifNoField
     split same isDigit takesDigit numberFrom numeralOf add held.hold held.wordOf setOf neighbours readSteps stepLines stepInRange stepsFrom
-    stepsIn stepLineOf stepWordOf letterOf reasonFields stepFields byteOf bytesFrom
+    stepsIn stepLineOf stepWordOf letteredFields reasonFields stepFields byteOf bytesFrom
 calls-right =
     gives tables.lent (Set five) (says (observed.Set five) (replies.sets-right .0))
     & gives tables.lent (Set (wordWith (3 ∷ [])))

@@ -12,7 +12,7 @@ use Rattle.text_field.specs.Split.{split, join, same, lineFeed}
 use Rattle.text_field.specs.Number.{isDigit, takesDigit, numberFrom, numeralOf, digits}
 use Rattle.case_line.specs.Fields.{markOf, ifOneField, ifNoField}
 use Rattle.case_line.specs.Record.{recordWordOf, lineFields, busFields, recordOf, recordText}
-use Rattle.step_line.specs.StepLine.{letterOf, stepWordOf, reasonFields, stepFields, stepLineOf, stepText}
+use Rattle.step_line.specs.StepLine.{letteredFields, stepWordOf, reasonFields, stepFields, stepLineOf, stepText}
 use Rattle.grid.specs.Limits.{mostBuses}
 use Rattle.grid.specs.Rows.{neighbours}
 use Rattle.case_inverse.proofs.Grammars.{reads-read, not-got, read-reads}
@@ -86,12 +86,12 @@ unfolding stepInRange isBus
 ranges-right = refl
 
 pub readings-right : steps.ReadStepsRight
-unfolding readSteps stepLines stepInRange isBus stepLineOf stepWordOf letterOf reasonFields stepFields ifOneField ifNoField split same
+unfolding readSteps stepLines stepInRange isBus stepLineOf stepWordOf letteredFields reasonFields stepFields ifOneField ifNoField split same
     isDigit takesDigit numberFrom numeralOf
 readings-right = refl
 
 pub beyond-right : steps.BeyondRight
-unfolding stepLines stepInRange isBus stepLineOf stepWordOf letterOf reasonFields stepFields ifOneField ifNoField split same isDigit
+unfolding stepLines stepInRange isBus stepLineOf stepWordOf letteredFields reasonFields stepFields ifOneField ifNoField split same isDigit
     takesDigit numberFrom numeralOf
 beyond-right = refl
 
@@ -100,12 +100,12 @@ unfolding readSteps stepLines stepLineOf stepWordOf split same
 step-limits-right = refl
 
 pub lists-right : steps.StepsOfRight
-unfolding stepsFrom stepsIn stepLineOf stepWordOf letterOf reasonFields stepFields ifOneField ifNoField split same isDigit takesDigit
+unfolding stepsFrom stepsIn stepLineOf stepWordOf letteredFields reasonFields stepFields ifOneField ifNoField split same isDigit takesDigit
     numberFrom numeralOf
 lists-right = refl
 
 pub found-right : AllRight steps.stepAtTable
-unfolding stepsFrom stepsIn stepLineOf stepWordOf letterOf reasonFields stepFields ifOneField ifNoField split same isDigit takesDigit
+unfolding stepsFrom stepsIn stepLineOf stepWordOf letteredFields reasonFields stepFields ifOneField ifNoField split same isDigit takesDigit
     numberFrom numeralOf
 found-right =
     (names-pass mostBuses (own 1) refl, (names-pass mostBuses (near mostBuses 1) refl, tt))

@@ -39,10 +39,10 @@ verdict-right d bs e =
       (v, tt),
       unconfirmed-passes (drawnGrid d) (v .proper) (set bs)
           (within-passes (d .n) (set bs) (set-zero (wordWith bs)) (omega arith)) (omega arith),
+      word-own _,
     )
 
 pub greedy-right : (d : Drawing) (budget : ℕ) (xs : List ℕ)
-      word-own _,
     → validTest (shortCase d) + (budget - mostGreedyBudget) + greedyTest (drawnGrid d) budget xs ≡ 0
     → (entry : List ℕ) → length xs ≤ length entry
     → GreedyReply (drawnCase d) budget entry (xs ++ drop (length xs) entry) (greedy.Added (length xs))

@@ -1,7 +1,8 @@
 -- The tables of steps and of the derivation.
 use mathlib.Core.Path.{_≡_, refl, sym, ap}
 use mathlib.Core.List.{List, [], _∷_}
-use Prim.Native.Nat.{ℕ}
+use mathlib.Core.Logic.{_⊎_, inl, inr}
+use Prim.Native.Nat.{ℕ, _≤_, _<_}
 use native.Mathlib.Omega.{arith}
 use lib.Count.{ones, onesIn}
 use lib.ListN.{length, getD}
@@ -131,18 +132,23 @@ finished-right =
 
 -- ---- the derivation
 
+-- neither of an earlier turn, nor of the same turn with what is wanted of the buses
+later : {a b : ℕ} {A : Type 0} → b ≤ a → (a ≡ b → A → ⊥) → (a < b) ⊎ ((a ≡ b) × A) → ⊥
+later l n (inl s) = omega arith
+later l n (inr q) = n (q .0) (q .1)
+
 pub before-right : AllRight derivation.takenFirstTable
 before-right =
-    tt
-    & (λ h. h)
-    & omega arith
-    & (λ h. omega arith)
-    & tt
-    & (λ h. h)
-    & omega arith
-    & (λ h. omega arith)
-    & (λ h. h)
-    & omega arith
+    inl (omega arith)
+    & later (omega arith) (λ e h. omega arith)
+    & inr (refl, omega arith)
+    & later (omega arith) (λ e h. omega arith)
+    & inl (omega arith)
+    & later (omega arith) (λ e h. omega arith)
+    & inr (refl, omega arith)
+    & later (omega arith) (λ e h. omega arith)
+    & later (omega arith) (λ e h. omega arith)
+    & inr (refl, omega arith)
     & tt
 
 pub next-right : AllRight derivation.nextStepTable
@@ -154,13 +160,13 @@ next-right =
     & next-passes (sevenGrid (3 ∷ [])) (known .at3 .valid .proper) (set (2 ∷ 3 ∷ [])) (zeroAt 1 2) refl
     & (λ h. omega (arith, h .lowest (zeroAt 1 2) (allowed-passes (sevenGrid (3 ∷ [])) (set (2 ∷ 3 ∷ [])) (zeroAt 1 2) refl)))
     & next-passes (sevenGrid (1 ∷ 2 ∷ [])) (known .at12 .valid .proper) (set []) (own 1) refl
-    & (λ h. h .first (own 1) (allowed-passes (sevenGrid (1 ∷ 2 ∷ [])) (set []) (own 1) refl) refl)
+    & (λ h. later (omega arith) (λ e n. omega arith) (h .first (own 1) (allowed-passes (sevenGrid (1 ∷ 2 ∷ [])) (set []) (own 1) refl) refl))
     & next-passes (sevenGrid (1 ∷ 3 ∷ [])) (known .at13 .valid .proper) (set (1 ∷ [])) (near 2 1) refl
-    & (λ h. omega (arith, h .first (near 2 1) (allowed-passes (sevenGrid (1 ∷ 3 ∷ [])) (set (1 ∷ [])) (near 2 1) refl) refl))
+    & (λ h. later (omega arith) (λ e n. omega arith) (h .first (near 2 1) (allowed-passes (sevenGrid (1 ∷ 3 ∷ [])) (set (1 ∷ [])) (near 2 1) refl) refl))
     & next-passes (drawnGrid (ring (3 ∷ 4 ∷ []))) (known .ring34 .valid .proper) (set (2 ∷ 3 ∷ 4 ∷ [])) (near 1 3) refl
-    & (λ h. h .first (near 1 3) (allowed-passes (drawnGrid (ring (3 ∷ 4 ∷ []))) (set (2 ∷ 3 ∷ 4 ∷ [])) (near 1 3) refl) refl)
+    & (λ h. later (omega arith) (λ e n. omega arith) (h .first (near 1 3) (allowed-passes (drawnGrid (ring (3 ∷ 4 ∷ []))) (set (2 ∷ 3 ∷ 4 ∷ [])) (near 1 3) refl) refl))
     & next-passes (drawnGrid (ring (4 ∷ []))) (known .ring4 .valid .proper) (set (2 ∷ 3 ∷ 4 ∷ [])) (zeroAt 1 2) refl
-    & (λ h. omega (arith, h .first (zeroAt 1 2) (allowed-passes (drawnGrid (ring (4 ∷ []))) (set (2 ∷ 3 ∷ 4 ∷ [])) (zeroAt 1 2) refl) refl))
+    & (λ h. later (omega arith) (λ e n. omega arith) (h .first (zeroAt 1 2) (allowed-passes (drawnGrid (ring (4 ∷ []))) (set (2 ∷ 3 ∷ 4 ∷ [])) (zeroAt 1 2) refl) refl))
     & (λ h. omega (arith, h .allowed .holds))
     & tt
 

@@ -6,7 +6,7 @@ use Rattle.text_field.specs.Split.{split, join, after, same, Pieces}
 use Rattle.text_field.specs.Number.{isDigit, takesDigit, numberFrom, numeralOf, digits}
 use Rattle.case_line.specs.Fields.{markOf, ifOneField, ifNoField}
 use Rattle.case_line.specs.Record.{recordWordOf, lineFields, busFields, recordOf, recordText}
-use Rattle.step_line.specs.StepLine.{letterOf, stepWordOf, reasonFields, stepFields, stepLineOf, stepText}
+use Rattle.step_line.specs.StepLine.{letteredFields, stepWordOf, reasonFields, stepFields, stepLineOf, stepText}
 use Rattle.tables.proofs.Rows.{_&_}
 use Rattle.tables.specs.Tables.{AllRight}
 use Rattle.tables.specs.Fields as fields
@@ -69,7 +69,7 @@ formed-right =
     arith & tt & (λ h. h) & tt
 
 pub step-lines-right : records.StepLinesRight
-unfolding stepLineOf stepWordOf letterOf reasonFields stepFields ifOneField ifNoField split same isDigit takesDigit numberFrom numeralOf
+unfolding stepLineOf stepWordOf letteredFields reasonFields stepFields ifOneField ifNoField split same isDigit takesDigit numberFrom numeralOf
 step-lines-right = refl
 
 pub step-texts-right : records.StepTextsRight
