@@ -138,8 +138,8 @@ module _ {M : Type 1} {𝓤 : URA M} {H : Heap 𝓤} {A : Atoms 𝓤} {K : Type 
   -- the steps are passed on with their token, which comes back
   pub calls-follow : K → FmC 𝓤 H (W .laws) C → {rest : Body} (mem : Memory → SProp 𝓤) (run : Routine → Fun 𝓤)
       → Triple 𝓤 (C #list_calls·follow) (Follow 𝓤 H A mem run)
-      → (κ : Lft) (q : Share) (cs : Case) → Is D.the-row cs (LL.vals D.the-type D′.the-laws cs) → (k : Task) (x : RefT (List StepRecord))
-      (l : ℕ)
+      → (κ : Lft) (q : Share) (cs : Case) → Is D.the-row cs (LL.vals D.the-type D′.the-laws cs)
+      → (k : Task) (x : RefT (List StepRecord)) (l : ℕ)
       → ((α : ℕ) (γ : GName) → Opds K W (raw (Follow 𝓤 H A mem run .pre (follow-at 𝓤 H A mem run α γ l κ q cs k x))
       ∷ Kept 𝓤 H A Rows α (rowsIn cs) l rowsAt (cell-with 𝓤 H A cs l) ∷ Γ) E xs
       (Follow 𝓤 H A mem run .args (follow-at 𝓤 H A mem run α γ l κ q cs k x)))
@@ -165,9 +165,8 @@ module _ {M : Type 1} {𝓤 : URA M} {H : Heap 𝓤} {A : Atoms 𝓤} {K : Type 
       (λ st ws. id⊢ 𝓤 _) (os α γ)
       (λ v st ws is e.
       move t (1 ∷ []) $ drop t $ use1 W (‵ (flft (α ∷ []) fullShare) ⊛ ‵ (flft κ q) ⊛ ‵ ftrue) (id⊢ 𝓤 _) $ split t $ move t (1 ∷ []) $
-      split t $
-      move t (1 ∷ []) $ drop t $ move t (1 ∷ 2 ∷ []) $
+      split t $ move t (1 ∷ []) $ drop t $ move t (1 ∷ 2 ∷ []) $
       takes-back t tt Rows refl rows-val rows-tell (rowsIn cs) (rows-part t cs l) $
-      then v st is (subst (λ (rows : List ℕ). StandsAfter (caseOf (cs .n) rows (cs .zero) (cs .site) (cs .units)) k (length (x .now))
-      (x .now) st)
+      then v st is (subst
+      (λ (rows : List ℕ). StandsAfter (caseOf (cs .n) rows (cs .zero) (cs .site) (cs .units)) k (length (x .now)) (x .now) st)
       (rows-in cs) e)))

@@ -148,8 +148,8 @@ pub fn apply(n: usize, nbr: &Rows, zero: BusSet, units: BusSet, st: Following, x
 
 // Whether no step is allowed where s is observed, whatever n and the sites are.
 pub fn is_finished(nbr: &Rows, zero: BusSet, units: BusSet, s: BusSet) -> bool
-    ensures { λ r. ⌜ ((n sites : ℕ) → Decides (Finished (gridWith n (now (nbr .entry)) zero sites units)
-        (setOf s)) r) ⌝ }
+    ensures { λ r. ⌜ ((n sites : ℕ) →
+        Decides (Finished (gridWith n (now (nbr .entry)) zero sites units) (setOf s)) r) ⌝ }
 {
     if !busset::is_subset(grid::with_neighbours(nbr, units), s) {
         return false;

@@ -89,8 +89,8 @@ pub fn tested_at(
     k: usize,
 ) -> Tested
     requires { ⌜ n ≤ width ⌝ }
-    ensures { λ r. ⌜ ((sites : ℕ) → TestedBy (stepChecksAt (gridWith n (now (nbr .entry)) zero sites units) k
-        (setOf s) x) r) ⌝ }
+    ensures { λ r. ⌜ ((sites : ℕ) →
+        TestedBy (stepChecksAt (gridWith n (now (nbr .entry)) zero sites units) k (setOf s) x) r) ⌝ }
 {
     let b = x.bus;
     if !names(n, x) {

@@ -41,8 +41,8 @@ fn follow_text(
     count: usize,
 ) -> Following
     requires { ⌜ (length (now nbr) ≡ mostBuses) × (length (stepsOf (now text)) ≡ count) ⌝ }
-    ensures { λ r. ⌜ StandsAfter (caseOf n (now (nbr .entry)) zero site units) Replay count (stepsOf (now
-        (text .entry))) r ⌝ }
+    ensures { λ r. ⌜ StandsAfter (caseOf n (now (nbr .entry)) zero site units) Replay count
+        (stepsOf (now (text .entry))) r ⌝ }
 {
     let mut st = begin(n, nbr, zero, site, units, Task::Replay, count);
     let mut at: usize = 0;

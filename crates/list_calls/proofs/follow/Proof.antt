@@ -37,7 +37,6 @@ use denote.Plain.{uint-vals, uint-tells, uint-makes}
 use denote.Ref.{RefT, ShrRef, ptr-vals, shr-tells, shr-copy}
 use denote.Slice.{sliceTy, sliceVal, ShrSlice, Room, at-slice, heres, codedHoleys, slice-vals, shr-slice-tells}
 use denote.Index.{place-is, row, elem-out, elem-back, looks-slice, shuts-slice}
-use denote.Signature.{plain, shrRefTo, shrSliceOf}
 use denote.Steps.{owned, nothing}
 use denote.Struct.Laws as LL
 use denote.Enum.Laws as EL
@@ -45,8 +44,7 @@ use denote.Triple.Statement.{Contract, Triple}
 use denote.Triple.Entry.{Vals, alive, onEntry}
 use denote.Triple.Spec.{Meets, tripleOf}
 use denote.Triple.Table.{entered, cited}
-use denote.Triple.Walked.{says, Stays, stay-dropped, walkOf, goes-dropped, ends-at}
-use denote.Exit.{yes}
+use denote.Triple.Walked.{says, Stays, walkOf, ends-at}
 use Rattle.step.specs.Records.{noStep}
 use Rattle.step.specs.declared.Step.{Step}
 use Rattle.step.proofs.Sizes.{recordBytes, offset-fits}
@@ -76,7 +74,7 @@ use Rattle.list_follow.proofs.apply.Symbol as apply-def
 use Rattle.list_follow.proofs.apply.Symbol.{name as #list_follow·apply}
 use Rattle.list_follow.proofs.apply.Met as apply-thm
 use Rattle.list_calls.proofs.Rows.{Rows, following-made, following-typed, task-made, task-typed}
-use Rattle.list_calls.proofs.Asking.{walk-proves-where}
+use Rattle.list_calls.proofs.Asking.{all-dropped, all-go, walk-proves-where}
 use Rattle.list_calls.proofs.follow.Key.{name as #list_calls·follow}
 use Rattle.list_calls.proofs.follow as f
 use Rattle.list_calls.proofs.follow.Statement as stated
@@ -84,22 +82,7 @@ use Rattle.list_calls.proofs.follow.Code as code
 use Rattle.list_calls.proofs.follow.Code.Mir as mir
 
 abbrev stayed : Stays (f.ended .signature .params) (f.ended .kept)
-stayed = (
-  stay-dropped (plain (λ _. usize)) yes,
-  (
-    stay-dropped (shrRefTo (0 ∷ []) tt (plain (λ _. Rows))) yes,
-    (
-      stay-dropped (plain (λ _. u64)) yes,
-      (
-        stay-dropped (plain (λ _. u64)) yes,
-        (
-          stay-dropped (plain (λ _. u64)) yes,
-          (stay-dropped (plain (λ _. K.the-row)) yes, (stay-dropped (shrSliceOf (1 ∷ []) tt (plain (λ _. T.the-row))) yes, tt)),
-        ),
-      ),
-    ),
-  ),
-)
+stayed = all-dropped (f.ended .signature .params) (f.ended .kept)
 
 -- where a turn begins: the index, and where the list is after the steps before it, with its machine value
 record Turn (cs : Case) (k : Task) (ys : List Step) : Type 0 where
@@ -120,10 +103,8 @@ module _ {M : Type 1} (𝓤 : URA M) (H : Heap 𝓤) (A : Atoms 𝓤) (mem : Mem
 
 module _ {M : Type 1} (𝓤 : URA M) (H : Heap 𝓤) (A : Atoms 𝓤) (W : Given 𝓤 H A) (mem : Memory → SProp 𝓤) (run : Routine → Fun 𝓤) (κ₁ κ : Lft)
     (q₁ q : Share) (buses : ℕ) (gbuses : buses < 2 ^ 64) (b₁ o₁ : ℕ) (γ₁ : GName) (rows : List ℕ) (zero : ℕ) (gzero : zero < 2 ^ 64)
-    (site : ℕ)
-    (gsite : site < 2 ^ 64) (units : ℕ) (gunits : units < 2 ^ 64) (k : Task) (gk : Is K.the-row k (EL.vals K.the-type K′.the-laws k))
-    (b o : ℕ)
-    (γ : GName) (ys : List Step) (gn : Room T.the-row (length ys)) (sized : length rows ≡ mostBuses) where
+    (site : ℕ) (gsite : site < 2 ^ 64) (units : ℕ) (gunits : units < 2 ^ 64) (k : Task) (gk : Is K.the-row k (EL.vals K.the-type K′.the-laws k))
+    (b o : ℕ) (γ : GName) (ys : List Step) (gn : Room T.the-row (length ys)) (sized : length rows ≡ mostBuses) where
   abbrev n : ℕ
   n = length ys
 
@@ -446,25 +427,9 @@ module _ {M : Type 1} (𝓤 : URA M) (H : Heap 𝓤) (A : Atoms 𝓤) (W : Given
     (known : Triple 𝓤 (𝓣 .C #list_follow·apply) (Apply 𝓤 H A mem run)) where
   meets : Meets 𝓤 H A f.signature (WpFn 𝓤 H (𝓣 .C) (𝓣 .Λ) code.function) (f.spec 𝓤 H A mem run)
   meets =
-      walk-proves-where 𝓤 H A W f.ended stayed (f.clauses 𝓤 H A mem run) 𝓣 code.function (
-        goes-dropped 𝓤 H A W 2 (plain (λ _. usize)) yes (λ κs x f. refl),
-        (
-          goes-dropped 𝓤 H A W 2 (shrRefTo (0 ∷ []) tt (plain (λ _. Rows))) yes (λ κs x f. refl),
-          (
-            goes-dropped 𝓤 H A W 2 (plain (λ _. u64)) yes (λ κs x f. refl),
-            (
-              goes-dropped 𝓤 H A W 2 (plain (λ _. u64)) yes (λ κs x f. refl),
-              (
-                goes-dropped 𝓤 H A W 2 (plain (λ _. u64)) yes (λ κs x f. refl),
-                (
-                  goes-dropped 𝓤 H A W 2 (plain (λ _. K.the-row)) yes (λ κs x f. refl),
-                  (goes-dropped 𝓤 H A W 2 (shrSliceOf (1 ∷ []) tt (plain (λ _. T.the-row))) yes (λ κs x f. refl), tt),
-                ),
-              ),
-            ),
-          ),
-        ),
-      )
+      walk-proves-where 𝓤 H A W f.ended stayed (f.clauses 𝓤 H A mem run) 𝓣 code.function
+      (all-go 𝓤 H A W 2 (f.ended .signature .params) (f.ended .kept)
+      (λ κs x w. refl, (λ κs x w. refl, (λ κs x w. refl, (λ κs x w. refl, (λ κs x w. refl, (λ κs x w. refl, (λ κs x w. refl, tt))))))))
       (λ κs. (
         uint-vals w64,
         (ptr-vals, (uint-vals w64, (uint-vals w64, (uint-vals w64, (EL.vals K.the-type K′.the-laws, (slice-vals, tt)))))),

@@ -1,5 +1,4 @@
--- `put` meets its contract: a walk of its MIR, by hand. `steps` is looked into and `out` opened once, before the loop; both are shut
--- after it.
+-- `put` meets its contract: a walk of its MIR, by hand. `steps` is looked into and `out` opened before the loop; both are shut after it.
 -- A turn copies step i out of `steps` and stores it, whole, in record k. Of `none`, `with` and `count` only the contracts are known.
 -- The invariant is `PutSoFar`, and the steps to come get fewer.
 use mathlib.Core.Path.{_≡_, refl, sym, ap, subst}
@@ -110,8 +109,7 @@ module _ {M : Type 1} (𝓤 : URA M) (H : Heap 𝓤) (A : Atoms 𝓤) (mem : Mem
 
 module _ {M : Type 1} (𝓤 : URA M) (H : Heap 𝓤) (A : Atoms 𝓤) (W : Given 𝓤 H A) (mem : Memory → SProp 𝓤) (run : Routine → Fun 𝓤) (κ κ′ : Lft)
     (q q′ : Share) (m : ℕ) (gm : m < 2 ^ 64) (b₁ o₁ : ℕ) (γ₁ : GName) (xs : List Step) (gx : Room T.the-row (length xs)) (b o : ℕ)
-    (γ : GName)
-    (ys : List Step) (gn : Room T.the-row (length ys)) (can : CanPut m xs ys) where
+    (γ : GName) (ys : List Step) (gn : Room T.the-row (length ys)) (can : CanPut m xs ys) where
   abbrev n : ℕ
   n = length ys
 
@@ -178,8 +176,7 @@ module _ {M : Type 1} (𝓤 : URA M) (H : Heap 𝓤) (A : Atoms 𝓤) (W : Given
         ∷ (sp (pointee (T.the-row .written)), l₇) ∷ (sp tyBool, l₈) ∷ (sp word, l₉) ∷ (sp tyPtr, l₁₀)
         ∷ (sp (pointee (T.the-row .written)), l₁₁) ∷ (sp tyPtr, l₁₂) ∷ []
 
-    -- [out's row; its open borrow; obs; auth; steps' row; what shuts it; the fractured borrow; res; steps' fact; out's fact; _12; …; …;
-    -- _0; …]
+    -- [out's row; its open borrow; obs; auth; steps' row; what shuts it; the fractured borrow; res; steps' fact; out's fact; _12; …; _0; …]
     abbrev At : Turn m xs ys → List (Item 𝓤)
     At t =
         ‵ (row T.the-row fullShare (t .zs) b o) ∷ ‵ (fobor κ′ q′ (Held T.the-row n b o γ))

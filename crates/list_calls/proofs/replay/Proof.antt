@@ -180,8 +180,7 @@ module _ {M : Type 1} (𝓤 : URA M) (H : Heap 𝓤) (A : Atoms 𝓤) (W : Given
         let-go ! $ let-go ! $ let-go ! $ let-go ! $ let-go ! $ let-go ! $ let-go ! $ let-go ! $ let-go ! $ let-go ! $ let-go ! $ let-go ! $
         free0 ! $
         by ! (exits r v gr (subst (λ (rows : List ℕ). AnswersReplay (caseOf (cs .n) rows (cs .zero) (cs .site) (cs .units)) st r)
-        (rows-in cs)
-        (e₂ (cs .n) (cs .site)) ys e₁)))))))))))))))))
+        (rows-in cs) (e₂ (cs .n) (cs .site)) ys e₁)))))))))))))))))
 
 module _ {M : Type 1} (𝓤 : URA M) (H : Heap 𝓤) (A : Atoms 𝓤) (W : Given 𝓤 H A) (mem : Memory → SProp 𝓤) (run : Routine → Fun 𝓤)
     (𝓣 : Tables 𝓤 H) (follows : Triple 𝓤 (𝓣 .C #list_calls·follow) (Follow 𝓤 H A mem run))

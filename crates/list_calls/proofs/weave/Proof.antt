@@ -1,5 +1,5 @@
 -- `weave` meets its contract: a walk of its MIR, by hand, of four calls, of each of which only the contract is known.
--- The rows are lent out of the local that holds the case, to `follow`. `steps` is passed on to `follow` and to `put`, and `out` to `put`,
+-- The rows are lent to `follow` out of the local that holds the case. `steps` is passed on to `follow` and to `put`, and `out` to `put`,
 -- for good, each with its token, which comes back. What the four ensure is joined by `weave-law`.
 use mathlib.Core.Path.{_≡_, refl, ap, _∙_, subst⁻¹}
 use mathlib.Core.List.{List, [], _∷_}
@@ -147,8 +147,7 @@ module _ {M : Type 1} (𝓤 : URA M) (H : Heap 𝓤) (A : Atoms 𝓤) (W : Given
         enter ! (𝓣 .C) (𝓣 .Λ) code.function (cmach ∷ smach ∷ sliceVal (b′, o′) (length zs) ∷ []) _ $
         alloc1 ! (λ l₀. alloc1 ! (λ l₁. alloc1 ! (λ l₂. alloc1 ! (λ l₃. alloc1 ! (λ l₄. alloc1 ! (λ l₅. alloc1 ! (λ l₆. alloc1 ! (λ l₇.
         alloc1 ! (λ l₈. alloc1 ! (λ l₉. alloc1 ! (λ l₁₀. alloc1 ! (λ l₁₁. alloc1 ! (λ l₁₂. alloc1 ! (λ l₁₃. alloc1 ! (λ l₁₄.
-        alloc1 ! (λ l₁₅.
-        alloc0 ! $ params1 ! $
+        alloc1 ! (λ l₁₅. alloc0 ! $ params1 ! $
         pass1 ! (init ! 28 refl (case-typed 𝓤 H A W cs _ gcs)) $ pass1 ! (init ! 26 refl (tt, (tt, (record { fits = gn .0 }, tt)))) $
         pass1 ! (init ! 24 refl (tt, (tt, (record { fits = gn′ .0 }, tt)))) $ pass0 ! $
         assigns ! (of-opd ! (load ! (from ! (stop !)) (look ! 28 refl))) (from ! (stop !)) (init ! 22 refl (case-typed 𝓤 H A W cs _ gcs)) $

@@ -25,18 +25,13 @@ start c = c .before .before .before .before .before .before .before .before .bef
 valid : (c : tie.Else1) → Valid (c .before .before .before .before .args .t1)
 valid c = c .before .is-valid .ensures .yes (not-false _ (c .if1 .left))
 
-from : (c : tie.Else2) → Bus (c .before .before .before .before .before .before .args .t1 .n)
-    (c .before .before .before .before .before .before .args .i)
+from : (c : tie.Else2) → let asked = c .before .before .before .before .before .before .args in Bus (asked .t1 .n) (asked .i)
 from c = c .before .is-bus .ensures .yes (not-false _ (c .if2 .left))
 
-to : (c : tie.Else3)
-    → Bus (c .before .before .before .before .before .before .before .before .args .t1 .n)
-    (c .before .before .before .before .before .before .before .before .args .j)
+to : (c : tie.Else3) → let asked = c .before .before .before .before .before .before .before .before .args in Bus (asked .t1 .n) (asked .j)
 to c = c .before .is-bus2 .ensures .yes (not-false _ (c .if3 .left))
 
-at-width : (c : tie.Else3)
-    → Bus width (c .before .before .before .before .before .before .before .before .args .i)
-    × Bus width (c .before .before .before .before .before .before .before .before .args .j)
+at-width : (c : tie.Else3) → let asked = c .before .before .before .before .before .before .before .before .args in Bus width (asked .i) × Bus width (asked .j)
 at-width c =
     let most = valid (c .before .before .before .before) .buses .most in
     (bus-more (from (c .before .before)) most, bus-more (to c) most)

@@ -21,8 +21,8 @@ valid c = c .before .is-valid .ensures .yes (not-false _ (c .if1 .left))
 
 -- what the search says, as an answer known by its variant
 answer : (c : tie.After-fewest) (r : Found) → c .fewest .result ≡ r
-    → let s = c .before .before .before .before .before .before .before .before .before in FewestIs (gridOf (s .args .t1))
-    (s .args .budget) r
+    → let s = c .before .before .before .before .before .before .before .before .before in
+    FewestIs (gridOf (s .args .t1)) (s .args .budget) r
 answer c r e =
     let s = c .before .before .before .before .before .before .before .before .before in
     subst (FewestIs (gridOf (s .args .t1)) (s .args .budget)) e (c .fewest .ensures)

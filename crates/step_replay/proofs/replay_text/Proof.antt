@@ -21,8 +21,7 @@ answered : (c : tie.After-ended) {w : Replayed} → c .ended .result ≡ w
 answered c e =
     let at-count = c .before .before .before .before .before .before .before in
     replied _ _ (at-count .before .before .check-steps .ensures) (counted at-count) (at-count .count .given .1)
-    (c .before .before .before .follow-text .ensures)
-    (c .ended .ensures _ _) e
+    (c .before .before .before .follow-text .ensures) (c .ended .ensures _ _) e
 
 check-steps-requires : tie.Need-check-steps-requires
 check-steps-requires c κs = search needs
