@@ -103,8 +103,9 @@ module _ {M : Type 1} (𝓤 : URA M) (H : Heap 𝓤) (A : Atoms 𝓤) (mem : Mem
 
 module _ {M : Type 1} (𝓤 : URA M) (H : Heap 𝓤) (A : Atoms 𝓤) (W : Given 𝓤 H A) (mem : Memory → SProp 𝓤) (run : Routine → Fun 𝓤) (κ₁ κ : Lft)
     (q₁ q : Share) (buses : ℕ) (gbuses : buses < 2 ^ 64) (b₁ o₁ : ℕ) (γ₁ : GName) (rows : List ℕ) (zero : ℕ) (gzero : zero < 2 ^ 64)
-    (site : ℕ) (gsite : site < 2 ^ 64) (units : ℕ) (gunits : units < 2 ^ 64) (k : Task) (gk : Is K.the-row k (EL.vals K.the-type K′.the-laws k))
-    (b o : ℕ) (γ : GName) (ys : List Step) (gn : Room T.the-row (length ys)) (sized : length rows ≡ mostBuses) where
+    (site : ℕ) (gsite : site < 2 ^ 64) (units : ℕ) (gunits : units < 2 ^ 64) (k : Task)
+    (gk : Is K.the-row k (EL.vals K.the-type K′.the-laws k)) (b o : ℕ) (γ : GName)
+    (ys : List Step) (gn : Room T.the-row (length ys)) (sized : length rows ≡ mostBuses) where
   abbrev n : ℕ
   n = length ys
 

@@ -31,7 +31,8 @@ from c = c .before .is-bus .ensures .yes (not-false _ (c .if2 .left))
 to : (c : tie.Else3) → let asked = c .before .before .before .before .before .before .before .before .args in Bus (asked .t1 .n) (asked .j)
 to c = c .before .is-bus2 .ensures .yes (not-false _ (c .if3 .left))
 
-at-width : (c : tie.Else3) → let asked = c .before .before .before .before .before .before .before .before .args in Bus width (asked .i) × Bus width (asked .j)
+at-width : (c : tie.Else3) → let asked = c .before .before .before .before .before .before .before .before .args in
+    Bus width (asked .i) × Bus width (asked .j)
 at-width c =
     let most = valid (c .before .before .before .before) .buses .most in
     (bus-more (from (c .before .before)) most, bus-more (to c) most)
