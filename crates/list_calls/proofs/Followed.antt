@@ -15,16 +15,15 @@ use prog.Wp.{Heap, Env, Calls, Loops}
 use ghost.Atoms.{Atoms}
 use contract.Monad.{Fun, factI}
 use sound.WpLaws.{FmC}
-use types.Kit.{Given, Item, ‵, raw, _⊛_, Post, Goal, Soaks, runs, lands, Seq, Step, _$_, move, drop, use1, split, join, fjoin}
+use types.Kit.{Given, Item, ‵, raw, _⊛_, Post, runs, lands, Seq, _$_, move, drop, use1, split, join, fjoin}
 use types.Part.{Part, whole, sub}
 use types.Run.{Opds}
-use borrow.Table.OneValue.{One}
 use denote.Array.{array-vals, array-tells, array-makes}
 use denote.Builtin.{u64, usize}
 use denote.Laws.{Is, Tells, Makes}
 use denote.Memory.{lone}
 use denote.Plain.{uint-vals, uint-tells, uint-makes}
-use denote.Ref.{RefT, ShrRef}
+use denote.Ref.{RefT}
 use denote.Slice.{sliceVal, ShrSlice}
 use denote.Steps.{only, nothing, owned}
 use denote.Struct.Laws as LL

@@ -10,7 +10,7 @@ use lib.Dec.{eqb}
 use lib.ListN.{length, take, getD, length-append, length-take}
 use lib.Seq.{take-suc, take-all}
 use borrow.Author.Tests.{eq-eqb, ne-eqb}
-use Rattle.busset.specs.Sets.{In, Out, With, add, setOf}
+use Rattle.busset.specs.Sets.{In, With, add, setOf}
 use Rattle.busset.proofs.Members.{in-or, with-add, add-again}
 use Rattle.step.specs.Records.{noStep}
 use Rattle.step.specs.declared.Step.{Step}

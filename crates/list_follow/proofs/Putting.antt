@@ -11,7 +11,7 @@ use lib.Seq.{take-suc, take-all, take-at, drop-cons, set-at, set-set, append-sno
 use Rattle.basics.specs.Lists.{Each}
 use Rattle.basics.proofs.Tests.{below-or}
 use Rattle.busset.specs.Sets.{Bus, In, Out, With, Counted, bit, width, empty, add, size, setOf}
-use Rattle.busset.proofs.Members.{in-or, with-add, add-again}
+use Rattle.busset.proofs.Members.{in-or, with-add}
 use Rattle.step.specs.Records.{noStep, writtenInto}
 use Rattle.step.specs.declared.Step.{Step}
 use Rattle.rules.specs.Steps.{reached}

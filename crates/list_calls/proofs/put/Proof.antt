@@ -3,7 +3,7 @@
 -- The invariant is `PutSoFar`, and the steps to come get fewer.
 use mathlib.Core.Path.{_≡_, refl, sym, ap, subst}
 use mathlib.Core.Bool.{Bool, true, false}
-use Prim.Native.Nat.{ℕ, _+_, _≤_, _<_, _^_}
+use Prim.Native.Nat.{ℕ, _+_, _<_, _^_}
 use mathlib.Core.List.{List, [], _∷_}
 use lib.ListN.{length, getD, set as put-at}
 use lib.Dec.{ltb, lit<}
@@ -31,7 +31,7 @@ use sound.WpLaws.{fmOf}
 use denote.RattleType.{owns}
 use denote.Memory.{pointee, shares}
 use denote.Shadow.{pureI}
-use denote.Builtin.{u64, usize}
+use denote.Builtin.{usize}
 use denote.Laws.{Is, shows}
 use denote.Plain.{Nothing, nothing-makes, uint-makes, uint-lawful, uint-vals, uint-tells}
 use denote.Ref.{RefT}
