@@ -45,7 +45,7 @@ use Rattle.list_follow.specs.declared.Following.{Following}
 use Rattle.list_follow.proofs.Following as S
 use Rattle.list_follow.proofs.Task as task
 use Rattle.list_follow.proofs.Task.Laws as task′
-use Rattle.list_calls.proofs.Rows.{Rows, task-made, task-is}
+use Rattle.list_calls.proofs.Rows.{RowArray, task-made, task-is}
 use Rattle.list_calls.proofs.Lending.{ref, Kept, lends, takes-back}
 use Rattle.list_calls.proofs.follow as follow
 use Rattle.list_calls.proofs.follow.Symbol.{name as #list_calls·follow}
@@ -68,7 +68,7 @@ rows-in cs = map-id (cs .nbr)
 module _ (cs : Case) (gcs : Is D.the-row cs (LL.vals D.the-type D′.the-laws cs)) where
   -- the facts of its parts
   pub case-facts : Is usize (cs .n) (vint w64 (cs .n) ∷ [])
-      × (Is Rows (rowsIn cs) (rows-val (rowsIn cs) ∷ [])
+      × (Is RowArray (rowsIn cs) (rows-val (rowsIn cs) ∷ [])
       × (Is u64 (cs .zero) (vint w64 (cs .zero) ∷ [])
       × (Is u64 (cs .site) (vint w64 (cs .site) ∷ []) × (Is u64 (cs .units) (vint w64 (cs .units) ∷ []) × Unit {0}))))
   case-facts = LL.owed D.the-type D′.the-laws cs _ gcs
@@ -87,14 +87,14 @@ module _ {M : Type 1} (𝓤 : URA M) (H : Heap 𝓤) (A : Atoms 𝓤) where
       ‵ (fat fullShare D′.mir l 0 (vstruct (ofList words)))
 
   module _ (W : Given 𝓤 H A) where
-    pub rows-made : Makes 𝓤 H A Rows (Is Rows)
+    pub rows-made : Makes 𝓤 H A RowArray (Is RowArray)
     rows-made = array-makes 𝓤 H A W u64 (uint-makes 𝓤 H A W w64) mostBuses
 
-pub rows-tell : Tells Rows (Is Rows) (λ rows. rows-val rows ∷ [])
+pub rows-tell : Tells RowArray (Is RowArray) (λ rows. rows-val rows ∷ [])
 rows-tell = array-tells u64 (uint-vals w64) (uint-tells w64) mostBuses
 
 module _ {M : Type 1} {𝓤 : URA M} {H : Heap 𝓤} {A : Atoms 𝓤} {K : Type 0} {W : Given 𝓤 H A} where
-  pub rows-part : K → (cs : Case) (l : ℕ) → Part K W (cell 𝓤 H A cs l) fullShare (lone (Rows .mir)) l rowsAt (rows-val (rowsIn cs))
+  pub rows-part : K → (cs : Case) (l : ℕ) → Part K W (cell 𝓤 H A cs l) fullShare (lone (RowArray .mir)) l rowsAt (rows-val (rowsIn cs))
       (cell-with 𝓤 H A cs l)
   rows-part t cs l = sub t 1 refl (whole t)
 
@@ -140,7 +140,7 @@ module _ {M : Type 1} {𝓤 : URA M} {H : Heap 𝓤} {A : Atoms 𝓤} {K : Type 
       → (κ : Lft) (q : Share) (cs : Case) → Is D.the-row cs (LL.vals D.the-type D′.the-laws cs)
       → (k : Task) (x : RefT (List StepRecord)) (l : ℕ)
       → ((α : ℕ) (γ : GName) → Opds K W (raw (Follow 𝓤 H A mem run .pre (follow-at 𝓤 H A mem run α γ l κ q cs k x))
-      ∷ Kept 𝓤 H A Rows α (rowsIn cs) l rowsAt (cell-with 𝓤 H A cs l) ∷ Γ) E xs
+      ∷ Kept 𝓤 H A RowArray α (rowsIn cs) l rowsAt (cell-with 𝓤 H A cs l) ∷ Γ) E xs
       (Follow 𝓤 H A mem run .args (follow-at 𝓤 H A mem run α γ l κ q cs k x)))
       → ((v : Val) (st : Following) → Is S.the-row st (v ∷ []) → StandsAfter cs k (length (x .now)) (x .now) st
       → Seq K W (cell 𝓤 H A cs l ∷ ‵ (flft κ q) ∷ Γ) (lands C Λ E d v rest p))
@@ -148,7 +148,7 @@ module _ {M : Type 1} {𝓤 : URA M} {H : Heap 𝓤} {A : Atoms 𝓤} {K : Type 
       (runs C Λ E (seq (call #list_calls·follow xs d) rest) p)
   calls-follow t fm mem run known κ q cs gcs k x l os then =
       let facts = case-facts cs gcs in
-      lends t tt Rows refl rows-val (rows-made 𝓤 H A W) (rowsIn cs) (facts .1 .0) (rows-part t cs l) (λ α γ.
+      lends t tt RowArray refl rows-val (rows-made 𝓤 H A W) (rowsIn cs) (facts .1 .0) (rows-part t cs l) (λ α γ.
       -- [the rows' token; what they own; what is kept; the steps' token; what they own]
       nothing t $ move t (4 ∷ 0 ∷ []) $ join t $ move t (1 ∷ 0 ∷ []) $ join t $
       use1 W (raw (alive 𝓤 H A follow.signature (α ∷ [], (κ, tt)) (fullShare, (q, tt)))) (id⊢ 𝓤 _) $
@@ -165,7 +165,7 @@ module _ {M : Type 1} {𝓤 : URA M} {H : Heap 𝓤} {A : Atoms 𝓤} {K : Type 
       (λ v st ws is e.
       move t (1 ∷ []) $ drop t $ use1 W (‵ (flft (α ∷ []) fullShare) ⊛ ‵ (flft κ q) ⊛ ‵ ftrue) (id⊢ 𝓤 _) $ split t $ move t (1 ∷ []) $
       split t $ move t (1 ∷ []) $ drop t $ move t (1 ∷ 2 ∷ []) $
-      takes-back t tt Rows refl rows-val rows-tell (rowsIn cs) (rows-part t cs l) $
+      takes-back t tt RowArray refl rows-val rows-tell (rowsIn cs) (rows-part t cs l) $
       then v st is (subst
       (λ (rows : List ℕ). StandsAfter (caseOf (cs .n) rows (cs .zero) (cs .site) (cs .units)) k (length (x .now)) (x .now) st)
       (rows-in cs) e)))

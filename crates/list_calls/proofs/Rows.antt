@@ -31,8 +31,8 @@ use Rattle.list_follow.proofs.Replayed as replayed
 use Rattle.list_follow.proofs.Replayed.Laws as replayed′
 
 -- the neighbours of all buses, as their type is lent
-abbrev pub Rows : RattleType
-Rows = Array u64 mostBuses
+abbrev pub RowArray : RattleType
+RowArray = Array u64 mostBuses
 
 -- a task's fact
 pub task-is : (k : Task) → Is task.the-row k (EL.vals task.the-type task′.the-laws k)

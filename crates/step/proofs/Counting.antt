@@ -1,19 +1,11 @@
--- The loops count up to a bound: their numbers and measure, and what is left of a list at an index.
-use mathlib.Core.Path.{_≡_, refl, sym, subst}
+-- The loops count up to a bound: their numbers and measure.
+use mathlib.Core.Path.{_≡_, sym, subst}
 use mathlib.Core.Bool.{true, false}
-use mathlib.Core.List.{List, [], _∷_}
 use mathlib.Core.WellFounded.{WellFounded, InvImage·wf}
-use Prim.Native.Nat.{ℕ, zero, suc, _+_, _-_, _≤_, _<_, _^_}
-use native.Mathlib.Nat.{not-suc-le-zero, le-of-suc-le-suc}
-use native.Mathlib.Numerals.{add-one}
+use Prim.Native.Nat.{ℕ, _+_, _-_, _≤_, _<_, _^_}
 use native.Mathlib.Omega.{arith}
 use lib.Dec.{T as Holds, ltb, lt→ltb, ltb→lt}
-use lib.ListN.{length, getD, drop}
 use lib.WfN.{Nat·lt-wfRel}
-use Rattle.step.specs.Records.{noStep}
-use Rattle.step.specs.declared.Step.{Step}
-
--- ---- an index below n
 
 pub next-fits : (n i : ℕ) → n < 2 ^ 64 → i < n → i + 1 < 2 ^ 64
 next-fits n i g l = omega arith
@@ -42,13 +34,3 @@ above i n e = stopped n i (λ l. subst Holds e (lt→ltb i n l))
 
 pub inside : (i m n : ℕ) → i < m → m ≤ n → i < n
 inside i m n l h = omega arith
-
--- ---- what is left of a list
-
-drop-suc : (ys : List Step) (i : ℕ) → i < length ys → drop i ys ≡ getD ys i noStep ∷ drop (suc i) ys
-drop-suc [] i l = absurd (not-suc-le-zero l)
-drop-suc (y ∷ ys) zero l = refl
-drop-suc (y ∷ ys) (suc i) l = drop-suc ys i (le-of-suc-le-suc l)
-
-pub drop-next : (ys : List Step) (i : ℕ) → i < length ys → drop i ys ≡ getD ys i noStep ∷ drop (i + 1) ys
-drop-next ys i l = subst (λ (k : ℕ). drop i ys ≡ getD ys i noStep ∷ drop k ys) (sym (add-one i)) (drop-suc ys i l)

@@ -103,12 +103,16 @@ module _ (g : Grid) (v : Proper g) where
 
   units-lack : (s b k : ℕ) → noUnit g s b (k - 1) ≡ 0 → Lacks (λ p. Holds g s b (NeighbourOf p)) k
   units-lack s b k e = record {
-    below = λ p l h. no-unit s b (k - 1) p e (let n = holds-names g s b v (NeighbourOf p) h .some in record { some = n; most = omega arith }) h;
+    below =
+        λ p l h. no-unit s b (k - 1) p e
+        (let n = holds-names g s b v (NeighbourOf p) h .some in record { some = n; most = omega arith }) h;
   }
 
   zeros-lack : (s b k : ℕ) → noZero g s b (k - 1) ≡ 0 → Lacks (λ w. Holds g s b (ZeroInjection w)) k
   zeros-lack s b k e = record {
-    below = λ w l h. no-zero s b (k - 1) w e (let n = holds-names g s b v (ZeroInjection w) h .some in record { some = n; most = omega arith }) h;
+    below =
+        λ w l h. no-zero s b (k - 1) w e
+        (let n = holds-names g s b v (ZeroInjection w) h .some in record { some = n; most = omega arith }) h;
   }
 
   units-fail : (s b : ℕ) → FailsBefore g s b 1 → noUnit g s b (g .n) ≡ 0 → FailsBefore g s b 2

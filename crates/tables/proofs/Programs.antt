@@ -124,7 +124,8 @@ not-unread (listed.Reached s f) q e = let z : _≡_ {A = ℕ} 0 1 = cc in omega 
 not-unread (listed.Refused r) q e = let z : _≡_ {A = ℕ} 0 1 = cc in omega arith
 
 pub replays-right : AllRight tables.textReplayTable
-unfolding readSteps stepLines stepInRange stepsFrom stepsIn stepLineOf stepWordOf letteredFields reasonFields stepFields ifOneField ifNoField
+unfolding readSteps stepLines stepInRange stepsFrom stepsIn stepLineOf stepWordOf letteredFields reasonFields stepFields ifOneField
+    ifNoField
     split same isBus isDigit takesDigit numberFrom numeralOf
 replays-right =
     (listed.Reached _ true, replies.replays-right .0, refl)
@@ -137,7 +138,8 @@ replays-right =
     & tt
 
 pub readings-right : AllRight tables.stepsReadTable
-unfolding readSteps stepLines stepInRange stepsFrom stepsIn stepLineOf stepWordOf letteredFields reasonFields stepFields ifOneField ifNoField
+unfolding readSteps stepLines stepInRange stepsFrom stepsIn stepLineOf stepWordOf letteredFields reasonFields stepFields ifOneField
+    ifNoField
     split same isBus isDigit takesDigit numberFrom numeralOf
 readings-right =
     (refl, refl)

@@ -160,13 +160,17 @@ next-right =
     & next-passes (sevenGrid (3 ∷ [])) (known .at3 .valid .proper) (set (2 ∷ 3 ∷ [])) (zeroAt 1 2) refl
     & (λ h. omega (arith, h .lowest (zeroAt 1 2) (allowed-passes (sevenGrid (3 ∷ [])) (set (2 ∷ 3 ∷ [])) (zeroAt 1 2) refl)))
     & next-passes (sevenGrid (1 ∷ 2 ∷ [])) (known .at12 .valid .proper) (set []) (own 1) refl
-    & (λ h. later (omega arith) (λ e n. omega arith) (h .first (own 1) (allowed-passes (sevenGrid (1 ∷ 2 ∷ [])) (set []) (own 1) refl) refl))
+    & (λ h. later (omega arith) (λ e n. omega arith)
+    (h .first (own 1) (allowed-passes (sevenGrid (1 ∷ 2 ∷ [])) (set []) (own 1) refl) refl))
     & next-passes (sevenGrid (1 ∷ 3 ∷ [])) (known .at13 .valid .proper) (set (1 ∷ [])) (near 2 1) refl
-    & (λ h. later (omega arith) (λ e n. omega arith) (h .first (near 2 1) (allowed-passes (sevenGrid (1 ∷ 3 ∷ [])) (set (1 ∷ [])) (near 2 1) refl) refl))
+    & (λ h. later (omega arith) (λ e n. omega arith)
+    (h .first (near 2 1) (allowed-passes (sevenGrid (1 ∷ 3 ∷ [])) (set (1 ∷ [])) (near 2 1) refl) refl))
     & next-passes (drawnGrid (ring (3 ∷ 4 ∷ []))) (known .ring34 .valid .proper) (set (2 ∷ 3 ∷ 4 ∷ [])) (near 1 3) refl
-    & (λ h. later (omega arith) (λ e n. omega arith) (h .first (near 1 3) (allowed-passes (drawnGrid (ring (3 ∷ 4 ∷ []))) (set (2 ∷ 3 ∷ 4 ∷ [])) (near 1 3) refl) refl))
+    & (λ h. later (omega arith) (λ e n. omega arith)
+    (h .first (near 1 3) (allowed-passes (drawnGrid (ring (3 ∷ 4 ∷ []))) (set (2 ∷ 3 ∷ 4 ∷ [])) (near 1 3) refl) refl))
     & next-passes (drawnGrid (ring (4 ∷ []))) (known .ring4 .valid .proper) (set (2 ∷ 3 ∷ 4 ∷ [])) (zeroAt 1 2) refl
-    & (λ h. later (omega arith) (λ e n. omega arith) (h .first (zeroAt 1 2) (allowed-passes (drawnGrid (ring (4 ∷ []))) (set (2 ∷ 3 ∷ 4 ∷ [])) (zeroAt 1 2) refl) refl))
+    & (λ h. later (omega arith) (λ e n. omega arith)
+    (h .first (zeroAt 1 2) (allowed-passes (drawnGrid (ring (4 ∷ []))) (set (2 ∷ 3 ∷ 4 ∷ [])) (zeroAt 1 2) refl) refl))
     & (λ h. omega (arith, h .allowed .holds))
     & tt
 

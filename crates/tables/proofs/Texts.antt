@@ -69,7 +69,8 @@ formed-right =
     arith & tt & (λ h. h) & tt
 
 pub step-lines-right : records.StepLinesRight
-unfolding stepLineOf stepWordOf letteredFields reasonFields stepFields ifOneField ifNoField split same isDigit takesDigit numberFrom numeralOf
+unfolding stepLineOf stepWordOf letteredFields reasonFields stepFields ifOneField ifNoField split same isDigit takesDigit numberFrom
+    numeralOf
 step-lines-right = refl
 
 pub step-texts-right : records.StepTextsRight

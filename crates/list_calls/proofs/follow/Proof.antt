@@ -73,7 +73,7 @@ use Rattle.list_follow.proofs.apply as apply
 use Rattle.list_follow.proofs.apply.Symbol as apply-def
 use Rattle.list_follow.proofs.apply.Symbol.{name as #list_follow·apply}
 use Rattle.list_follow.proofs.apply.Met as apply-thm
-use Rattle.list_calls.proofs.Rows.{Rows, following-made, following-typed, task-made, task-typed}
+use Rattle.list_calls.proofs.Rows.{RowArray, following-made, following-typed, task-made, task-typed}
 use Rattle.list_calls.proofs.Asking.{all-dropped, all-go, walk-proves-where}
 use Rattle.list_calls.proofs.follow.Key.{name as #list_calls·follow}
 use Rattle.list_calls.proofs.follow as f
@@ -142,7 +142,7 @@ module _ {M : Type 1} (𝓤 : URA M) (H : Heap 𝓤) (A : Atoms 𝓤) (W : Given
 
   -- what nbr owns, and the token that is passed on with it
   abbrev Lent : Fml
-  Lent = ShrRef (named 0) κ₁ Rows .own r (vptr b₁ o₁ ∷ [])
+  Lent = ShrRef (named 0) κ₁ RowArray .own r (vptr b₁ o₁ ∷ [])
 
   abbrev rows-alive : SProp 𝓤
   rows-alive = alive 𝓤 H A apply.signature (κ₁, tt) (q₁, tt)
@@ -162,7 +162,7 @@ module _ {M : Type 1} (𝓤 : URA M) (H : Heap 𝓤) (A : Atoms 𝓤) (W : Given
   -- what `begin` and `apply` take; nbr is kept
   abbrev Began : Fml
   Began =
-      owns (usize ∷ ShrRef (named 0) κ₁ Rows ∷ u64 ∷ u64 ∷ u64 ∷ K.the-row ∷ usize ∷ [])
+      owns (usize ∷ ShrRef (named 0) κ₁ RowArray ∷ u64 ∷ u64 ∷ u64 ∷ K.the-row ∷ usize ∷ [])
       (buses, (r, (zero, (site, (units, (k, (n, tt))))))) (
         vint w64 buses ∷ [],
         (
@@ -188,7 +188,7 @@ module _ {M : Type 1} (𝓤 : URA M) (H : Heap 𝓤) (A : Atoms 𝓤) (W : Given
 
   begins : ent 𝓤 (sem 𝓤 H A Lent) (sep 𝓤 (sem 𝓤 H A Began) (sem 𝓤 H A Lent))
   begins =
-      qed W (‵ Lent ∷ []) ∵ use1 W (‵ Lent ⊛ ‵ Lent) (shr-copy 𝓤 H A W (named 0) κ₁ Rows .twice r (vptr b₁ o₁ ∷ [])) $ split ! $
+      qed W (‵ Lent ∷ []) ∵ use1 W (‵ Lent ⊛ ‵ Lent) (shr-copy 𝓤 H A W (named 0) κ₁ RowArray .twice r (vptr b₁ o₁ ∷ [])) $ split ! $
       nothing ! $ owned ! usize (Is usize) (uint-makes 𝓤 H A W w64) n _ (refl, gn .0) $ fjoin ! $
       owned ! K.the-row (Is K.the-row) (task-made 𝓤 H A) k _ gk $ fjoin ! $
       owned ! u64 (Is u64) (uint-makes 𝓤 H A W w64) units _ (refl, gunits) $ fjoin ! $
@@ -198,7 +198,7 @@ module _ {M : Type 1} (𝓤 : URA M) (H : Heap 𝓤) (A : Atoms 𝓤) (W : Given
 
   abbrev Applied : Following → Val → Step → Fml
   Applied st u y =
-      owns (usize ∷ ShrRef (named 0) κ₁ Rows ∷ u64 ∷ u64 ∷ S.the-row ∷ T.the-row ∷ []) (buses, (r, (zero, (units, (st, (y, tt)))))) (
+      owns (usize ∷ ShrRef (named 0) κ₁ RowArray ∷ u64 ∷ u64 ∷ S.the-row ∷ T.the-row ∷ []) (buses, (r, (zero, (units, (st, (y, tt)))))) (
         vint w64 buses ∷ [],
         (
           vptr b₁ o₁ ∷ [],
@@ -221,7 +221,7 @@ module _ {M : Type 1} (𝓤 : URA M) (H : Heap 𝓤) (A : Atoms 𝓤) (W : Given
   applies : (st : Following) (u : Val) (y : Step) → Is S.the-row st (u ∷ []) → Is T.the-row y (LL.vals T.the-type T′.the-laws y)
       → ent 𝓤 (sem 𝓤 H A Lent) (sep 𝓤 (sem 𝓤 H A (Applied st u y)) (sem 𝓤 H A Lent))
   applies st u y is g =
-      qed W (‵ Lent ∷ []) ∵ use1 W (‵ Lent ⊛ ‵ Lent) (shr-copy 𝓤 H A W (named 0) κ₁ Rows .twice r (vptr b₁ o₁ ∷ [])) $ split ! $
+      qed W (‵ Lent ∷ []) ∵ use1 W (‵ Lent ⊛ ‵ Lent) (shr-copy 𝓤 H A W (named 0) κ₁ RowArray .twice r (vptr b₁ o₁ ∷ [])) $ split ! $
       nothing ! $ owned ! T.the-row (Is T.the-row) (step-made 𝓤 H A) y _ g $ fjoin ! $
       owned ! S.the-row (Is S.the-row) (following-made 𝓤 H A) st _ is $ fjoin ! $
       owned ! u64 (Is u64) (uint-makes 𝓤 H A W w64) units _ (refl, gunits) $ fjoin ! $
@@ -235,7 +235,7 @@ module _ {M : Type 1} (𝓤 : URA M) (H : Heap 𝓤) (A : Atoms 𝓤) (W : Given
   slice = sliceTy (tyRef (named 1) imm (pointee (T.the-row .written)))
 
   abbrev rows-ref : Ty
-  rows-ref = tyRef (named 0) imm (pointee (Rows .written))
+  rows-ref = tyRef (named 0) imm (pointee (RowArray .written))
 
   abbrev word : Ty
   word = tyInt w64
@@ -371,7 +371,7 @@ module _ {M : Type 1} (𝓤 : URA M) (H : Heap 𝓤) (A : Atoms 𝓤) (W : Given
         (vint w64 buses ∷ vptr b₁ o₁ ∷ vint w64 zero ∷ vint w64 site ∷ vint w64 units ∷ kmach ∷ sliceVal (b, o) n ∷ []) Post)
     walk =
         qed W ((‵ (flft κ₁ q₁) ⊛ ‵ (flft κ q) ⊛ ‵ ftrue)
-        ∷ ‵ (owns (usize ∷ ShrRef (named 0) κ₁ Rows ∷ u64 ∷ u64 ∷ u64 ∷ K.the-row ∷ ShrSlice (named 1) κ T.the-row ∷ []) a at) ∷ []) ∵
+        ∷ ‵ (owns (usize ∷ ShrRef (named 0) κ₁ RowArray ∷ u64 ∷ u64 ∷ u64 ∷ K.the-row ∷ ShrSlice (named 1) κ T.the-row ∷ []) a at) ∷ []) ∵
         enter ! (𝓣 .C) (𝓣 .Λ) code.function
         (vint w64 buses ∷ vptr b₁ o₁ ∷ vint w64 zero ∷ vint w64 site ∷ vint w64 units ∷ kmach ∷ sliceVal (b, o) n ∷ []) _ $
         alloc1 ! (λ l₀. alloc1 ! (λ l₁. alloc1 ! (λ l₂. alloc1 ! (λ l₃. alloc1 ! (λ l₄. alloc1 ! (λ l₅. alloc1 ! (λ l₆. alloc1 ! (λ l₇.
@@ -438,7 +438,7 @@ module _ {M : Type 1} (𝓤 : URA M) (H : Heap 𝓤) (A : Atoms 𝓤) (W : Given
       (λ κs. (
         uint-tells w64,
         (
-          shr-tells (named 0) (κs .0) Rows,
+          shr-tells (named 0) (κs .0) RowArray,
           (
             uint-tells w64,
             (

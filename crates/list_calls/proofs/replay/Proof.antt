@@ -53,7 +53,7 @@ use Rattle.list_follow.proofs.ended as ended
 use Rattle.list_follow.proofs.ended.Symbol as ended-def
 use Rattle.list_follow.proofs.ended.Symbol.{name as #list_follow·ended}
 use Rattle.list_follow.proofs.ended.Met as ended-thm
-use Rattle.list_calls.proofs.Rows.{Rows, case-typed, following-made, following-typed}
+use Rattle.list_calls.proofs.Rows.{RowArray, case-typed, following-made, following-typed}
 use Rattle.list_calls.proofs.Rows.{task-is, task-typed, replayed-made, replayed-typed}
 use Rattle.list_calls.proofs.Lending.{ref, lends, takes-back}
 use Rattle.list_calls.proofs.Followed.{rows-val, rowsAt, rowsIn, rows-in, case-facts, rows-made, rows-tell, rows-part}
@@ -146,7 +146,7 @@ module _ {M : Type 1} (𝓤 : URA M) (H : Heap 𝓤) (A : Atoms 𝓤) (W : Given
         (store ! 10 refl (tt, record { fits = facts .1 .1 .0 .1 })) $
         assigns ! (of-opd ! (load ! (from ! (fld ! refl (stop !))) (look-in ! 0 (sub ! 4 refl (whole !))))) (from ! (stop !))
         (store ! 8 refl (tt, record { fits = facts .1 .1 .1 .1 .0 .1 })) $
-        lends ! tt Rows refl rows-val (rows-made 𝓤 H A W) (rowsIn cs) (facts .1 .0) (rows-part ! cs l₃) (λ α δ.
+        lends ! tt RowArray refl rows-val (rows-made 𝓤 H A W) (rowsIn cs) (facts .1 .0) (rows-part ! cs l₃) (λ α δ.
         -- [the rows' token; what they own; what is kept; the steps' token; the locals]
         nothing ! $ move ! (1 ∷ 0 ∷ []) $ join ! $ use1 W (raw (alive 𝓤 H A ended.signature (α ∷ [], tt) (fullShare, tt))) (id⊢ 𝓤 _) $
         nothing ! $ owned ! S.the-row (Is S.the-row) (following-made 𝓤 H A) st _ gst $ fjoin ! $
@@ -172,7 +172,7 @@ module _ {M : Type 1} (𝓤 : URA M) (H : Heap 𝓤) (A : Atoms 𝓤) (W : Given
         (and-then ! (load ! (from ! (stop !)) (look ! 9 refl)) (and-then ! (load ! (from ! (stop !)) (look ! 17 refl)) (no-more !)))))
         (λ v r ws gr e₂.
         move ! (1 ∷ []) $ drop ! $ use1 W (‵ (flft (α ∷ []) fullShare) ⊛ ‵ ftrue) (id⊢ 𝓤 _) $ split ! $ move ! (1 ∷ []) $ drop ! $
-        takes-back ! tt Rows refl rows-val rows-tell (rowsIn cs) (rows-part ! cs l₃) $
+        takes-back ! tt RowArray refl rows-val rows-tell (rowsIn cs) (rows-part ! cs l₃) $
         land ! (from ! (stop !)) (init ! 23 refl (replayed-typed 𝓤 H A W r _ gr)) $
         -- [the case's local; the token; _11; …; _4; …; what _3 dies of; _2; …; _0; …]
         returns ! (look ! 23 refl) $ move ! (23 ∷ 24 ∷ 21 ∷ 22 ∷ 19 ∷ 20 ∷ 0 ∷ 18 ∷ 16 ∷ 17 ∷ 14 ∷ 15 ∷ 12 ∷ 13 ∷ 10 ∷ 11 ∷ 8 ∷ 9 ∷ 6
