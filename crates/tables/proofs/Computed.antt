@@ -7,14 +7,15 @@ use Rattle.busset.specs.Sets.{add, lack, less, upTo, setOf}
 use Rattle.busset.specs.Held.{wordOf, hold}
 use Rattle.rules.specs.Grids.{total}
 use Rattle.rules.specs.Observation.{ObservedSet}
-use Rattle.tables.proofs.Tests.{gap, isOne, above, withinTest, given, subTest, holdsTest}
-use Rattle.tables.proofs.Tests.{acceptedTest, closedTest, leastTest, least-passes}
-use Rattle.tables.proofs.Sought.{derived, pick, reasonFor, reasonAt, stepFor, passFrom, extended, derive}
+use Rattle.tables.proofs.Tests.{gap, isOne, above, withinTest, given, subTest}
+use Rattle.tables.proofs.Tests.{closedTest}
 use Rattle.grid.specs.Rows.{neighbours}
 use Rattle.grid.specs.Cases.{Valid}
 use Rattle.tables.proofs.Drawn.{rowTest, linesTest, validTest, filled-passes}
 use Rattle.tables.specs.Starred.{Drawing, shortCase, drawnCase, seven, path}
 use Rattle.tables.specs.Drawings.{set, drawnGrid, pathWith, sweep, leaf, lone, ring}
+use Rattle.tables.proofs.Deriving.{holdsTest, acceptedTest, leastTest, least-passes, derived, pick, reasonFor, reasonAt, stepFor}
+use Rattle.tables.proofs.Deriving.{passFrom, extended, derive}
 
 -- a valid case, and the set that is observed in it
 pub record ObservedIn (d : Drawing) (s : ℕ) : Type 0 where

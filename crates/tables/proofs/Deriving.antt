@@ -1,22 +1,120 @@
--- Tests that a step is the next and that a list is the derivation, which the checker computes: 0 where they pass.
-use mathlib.Core.Path.{_≡_, ap, _∙_, subst}
+-- Tests of reasons, of steps and of lists, which the checker computes: 0 where they pass.
+-- One more reason adds a clause here, and to no other proof of the tables.
+use mathlib.Core.Path.{_≡_, ap, _∙_, subst, subst⁻¹}
 use mathlib.Core.List.{List, [], _∷_}
 use mathlib.Core.Logic.{⊎-elim}
 use Prim.Native.Nat.{ℕ, zero, suc, _+_, _-_, _≤_, _<_}
 use native.Mathlib.Omega.{arith}
 use Rattle.list_derive.proofs.Nexting.{Lacks, FailsBefore, fails-none, fails-alone, fails-named, none-holds, first-alone, first-named}
 use Rattle.step.proofs.Reasons.{own-turn, neighbour-turn, zero-turn}
-use Rattle.busset.specs.Sets.{Bus, bit, Out, add, lack, size}
-use Rattle.basics.proofs.Tests.{below-or}
+use Rattle.busset.specs.Sets.{Bus, bit, In, Out, Sub, Within, empty, add, lack, less, size}
+use Rattle.basics.proofs.Tests.{same-or, below-or}
+use Rattle.busset.proofs.Members.{in-or, less-here, less-there, less-sub}
 use Rattle.step.specs.declared.Reason.{Reason}
 use Rattle.step.specs.declared.Reason.the-variants.{OwnUnit, NeighbourOf, ZeroInjection}
+use Rattle.step.specs.declared.NamedBus.{NamedBus}
+use Rattle.step.specs.declared.NamedBus.the-variants.{Nothing, Bus as BusNamed}
 use Rattle.step.specs.declared.Step.{Step}
+use Rattle.step.specs.Reasons.{namedBy}
 use Rattle.rules.specs.Grids.{Grid, Proper, total}
-use Rattle.rules.specs.Steps.{Holds, Allowed, Finished}
+use Rattle.rules.specs.Observation.{ObservedSet}
+use Rattle.rules.specs.Steps.{Holds, Allowed, BusIfNamed, Names, AcceptedFrom, reached, Finished}
 use Rattle.rules.specs.Derivation.{TakenFirst, NextIs, DerivedFrom, finished, next}
 use Rattle.rules.proofs.Firing.{others-in}
+use Rattle.rules.proofs.Lists.{accepted-inside}
 use Rattle.rules.proofs.Reasons.{holds-names, allowed-bus}
-use Rattle.tables.proofs.Tests.{total-none, gap, gap-none, given, holdsTest, holds-tests}
+use Rattle.tables.proofs.Tests.{total-none, total-pass, gap, gap-none, given, subTest, sub-passes}
+use Rattle.tables.proofs.Tests.{busTest, bus-passes, closedTest, closed-passes}
+
+-- ---- the buses that a step names
+
+-- what is named, if anything is, is a bus 1 to n
+abbrev pub namedTest : ℕ → NamedBus → ℕ
+namedTest n Nothing = 0
+namedTest n (BusNamed b) = busTest n b
+
+-- the step, in its bus and its reason, names buses 1 to n
+abbrev pub namesTest : ℕ → Step → ℕ
+namesTest n x = busTest n (x .bus) + namedTest n (namedBy (x .reason))
+
+pub names-pass : (n : ℕ) (x : Step) → namesTest n x ≡ 0 → Names n x
+names-pass n x e = record { bus = bus-passes n (x .bus) (omega arith); reason = go (namedBy (x .reason)) (omega arith) }
+  where
+    go : (b : NamedBus) → namedTest n b ≡ 0 → BusIfNamed n b
+    go Nothing e = tt
+    go (BusNamed b) e = bus-passes n b e
+
+-- ---- a reason, and a list of steps
+
+-- the reason holds for bus b where s is observed
+unfoldable pub holdsTest : Grid → ℕ → ℕ → Reason → ℕ
+holdsTest g s b OwnUnit = 1 - bit (g .units) b
+holdsTest g s b (NeighbourOf p) = (1 - bit (g .units) p) + (1 - bit (g .neighbours p) b)
+holdsTest g s b (ZeroInjection w) =
+    (1 - bit (g .zeros) w) + (1 - bit s w) + (1 - bit (g .neighbours w) b) + subTest (g .n) (less (g .neighbours w) b) s
+
+holds-passes : (g : Grid) (s b : ℕ) → Proper g → (r : Reason) → holdsTest g s b r ≡ 0 → Holds g s b r
+unfolding holdsTest
+holds-passes g s b v OwnUnit e = omega arith
+holds-passes g s b v (NeighbourOf p) e = record { unit = omega arith; joined = omega arith }
+holds-passes g s b v (ZeroInjection w) e = record {
+  class = omega arith;
+  observed = omega arith;
+  joined = omega arith;
+  others = λ a h ne.
+      let m : In (less (g .neighbours w) b) a = omega (arith, less-there (g .neighbours w) b a ne) in
+      omega (arith, sub-passes (g .n) (less (g .neighbours w) b) s within (omega arith) a);
+}
+  where
+    within : Within (g .n) (less (g .neighbours w) b)
+    within a h = v .lines w a (omega (arith, less-sub (g .neighbours w) b a)) .to
+
+-- and the test passes wherever the reason holds
+pub holds-tests : (g : Grid) (s b : ℕ) → Proper g → (r : Reason) → Holds g s b r → holdsTest g s b r ≡ 0
+unfolding holdsTest subTest
+holds-tests g s b v OwnUnit h = omega arith
+holds-tests g s b v (NeighbourOf p) h = omega (arith, h .unit, h .joined)
+holds-tests g s b v (ZeroInjection w) h =
+    omega (arith, h .class, h .observed, h .joined, total-pass (g .n) (λ a. bit (less (g .neighbours w) b) a - bit s a) known)
+  where
+    known : (a : ℕ) → bit (less (g .neighbours w) b) a - bit s a ≡ 0
+    known a =
+        ⊎-elim
+        (λ (e : a ≡ b). subst⁻¹ (λ (x : ℕ). bit (less (g .neighbours w) b) x - bit s x ≡ 0) e
+        (omega (arith, less-here (g .neighbours w) b)))
+        (λ (ne : a ≡ b → ⊥). ⊎-elim
+        (λ (p : In (g .neighbours w) a). omega (arith, h .others a p ne))
+        (λ (p : Out (g .neighbours w) a). omega (arith, less-there (g .neighbours w) b a ne))
+        (in-or (g .neighbours w) a))
+        (same-or a b)
+
+-- each step is allowed where it stands
+unfoldable pub acceptedTest : Grid → ℕ → List Step → ℕ
+acceptedTest g s [] = 0
+acceptedTest g s (x ∷ xs) = bit s (x .bus) + holdsTest g s (x .bus) (x .reason) + acceptedTest g (add s (x .bus)) xs
+
+accepted-passes : (g : Grid) (s : ℕ) (xs : List Step) → Proper g → acceptedTest g s xs ≡ 0 → AcceptedFrom g s xs
+unfolding acceptedTest
+accepted-passes g s [] v e = tt
+accepted-passes g s (x ∷ xs) v e = (
+  record { new = omega arith; holds = holds-passes g s (x .bus) v (x .reason) (omega arith) },
+  accepted-passes g (add s (x .bus)) xs v (omega arith),
+)
+
+-- ---- the observed set
+
+-- s is the observed set, as the list xs derives it
+unfoldable pub leastTest : Grid → List Step → ℕ → ℕ
+leastTest g xs s = acceptedTest g empty xs + gap (reached xs) s + closedTest g s
+
+pub least-passes : (g : Grid) (xs : List Step) (s : ℕ) → Proper g → leastTest g xs s ≡ 0 → ObservedSet g s
+unfolding leastTest
+least-passes g xs s v e = record {
+  closed = closed-passes g s v (omega arith);
+  least =
+      λ t cl. subst (λ (r : ℕ). Sub r t) (gap-none (reached xs) s (omega arith))
+      (accepted-inside g t xs cl (accepted-passes g empty xs v (omega arith)));
+}
 
 -- ---- a step that is allowed
 
@@ -156,3 +254,48 @@ module _ (g : Grid) (v : Proper g) where
   unfolding derivedTest
   derived-passes s [] e = finished (finished-passes s e)
   derived-passes s (x ∷ xs) e = next (next-passes s x (omega arith)) (derived-passes (add s (x .bus)) xs (omega arith))
+
+-- ---- a list that derives the observed set
+
+-- x at 0, y elsewhere
+unfoldable pub pick : ℕ → ℕ → ℕ → ℕ
+pick zero x y = x
+pick (suc d) x y = y
+
+-- the reason that holds for b: 0 none, 1 its own unit, 2 + 2 p a neighbour, 3 + 2 w a zero injection
+unfoldable pub reasonFor : Grid → ℕ → ℕ → ℕ → ℕ
+reasonFor g s b zero = 0
+reasonFor g s b (suc p) =
+    pick (holdsTest g s b (NeighbourOf (suc p))) (2 + (suc p + suc p))
+    (pick (holdsTest g s b (ZeroInjection (suc p))) (3 + (suc p + suc p)) (reasonFor g s b p))
+
+unfoldable pub reasonAt : ℕ → ℕ → Reason
+reasonAt p zero = NeighbourOf p
+reasonAt p (suc zero) = ZeroInjection p
+reasonAt p (suc (suc d)) = reasonAt (suc p) d
+
+unfoldable pub stepFor : ℕ → ℕ → List Step → List Step
+stepFor b zero xs = xs
+stepFor b (suc zero) xs = record { bus = b; reason = OwnUnit } ∷ xs
+stepFor b (suc (suc d)) xs = record { bus = b; reason = reasonAt 0 d } ∷ xs
+
+-- one pass over the buses b, from k of them left
+unfoldable pub passFrom : Grid → ℕ → ℕ → ℕ → ℕ
+passFrom g s b zero = 0
+passFrom g s b (suc k) =
+    pick (bit s b + given (holdsTest g s b OwnUnit) (1 - reasonFor g s b (g .n))) b (passFrom g s (suc b) k)
+
+-- the list that goes on with a step for b, if there is one
+unfoldable pub extended : ℕ → ℕ → List Step → List Step
+extended zero r xs = []
+extended (suc i) r xs = stepFor (suc i) r xs
+
+-- the list, step after step
+unfoldable pub derive : Grid → ℕ → ℕ → List Step
+derive g zero s = []
+derive g (suc f) s =
+    let i = passFrom g s 1 (g .n) in
+    extended i (pick (holdsTest g s i OwnUnit) 1 (reasonFor g s i (g .n))) (derive g f (add s i))
+
+abbrev pub derived : Grid → List Step
+derived g = derive g (g .n) empty

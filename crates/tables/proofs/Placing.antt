@@ -17,8 +17,8 @@ use Rattle.rules.proofs.Choices.{best-unique, greedy-unique}
 use Rattle.rules.proofs.Covering.{covers-full, full-covers}
 use Rattle.rules.proofs.Leasts.{least-unique}
 use Rattle.rules.proofs.Ordering.{before-antisym, earlier-antisym, fewest-set-unique, fewest-some}
-use Rattle.tables.proofs.Tests.{gap, isOne, above, withinTest, given, subTest, holdsTest, acceptedTest, closedTest, leastTest}
-use Rattle.tables.proofs.Sought.{Sought, PlanIs, pick, reasonFor, reasonAt, stepFor, passFrom, extended, derive}
+use Rattle.tables.proofs.Tests.{gap, isOne, above, withinTest, given, subTest, closedTest}
+use Rattle.tables.proofs.Sought.{Sought, PlanIs}
 use Rattle.tables.proofs.Sought.{noBetter, bestTest, noneTest, greedyTest, greedy-passes, none, some}
 use Rattle.tables.proofs.Sought.{soughtFrom, judge, orElse, choose, seek, firstOf, smallest, fewest-passes}
 use Rattle.grid.specs.declared.Case.{Case}
@@ -32,6 +32,8 @@ use Rattle.tables.proofs.Computed.{known}
 use Rattle.tables.specs.Tables.{AllRight}
 use Rattle.tables.specs.Drawings.{set, drawnGrid, sevenGrid, shortValue, apart, barred, trio, hub}
 use Rattle.tables.specs.Placing as tables
+use Rattle.tables.proofs.Deriving.{holdsTest, acceptedTest, leastTest, pick, reasonFor, reasonAt, stepFor, passFrom, extended}
+use Rattle.tables.proofs.Deriving.{derive}
 
 -- ---- additions
 

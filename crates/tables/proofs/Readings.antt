@@ -24,13 +24,13 @@ use Rattle.case_write.specs.Lines.{lineText}
 use Rattle.report_lines.specs.Printing.{refusedText}
 use Rattle.report_day.specs.Day.{stepsText}
 use Rattle.plan_input.specs.Asking.{planFields, budgetOf, planLines, readPlan}
-use Rattle.tables.proofs.Tests.{names-pass}
 use Rattle.tables.proofs.Rows.{_&_}
 use Rattle.tables.specs.Tables.{AllRight, block}
 use Rattle.tables.specs.Drawings.{own, near}
 use Rattle.tables.specs.CaseTexts as case
 use Rattle.tables.specs.StepTexts as steps
 use Rattle.tables.specs.Reports as reports
+use Rattle.tables.proofs.Deriving.{names-pass}
 
 -- ---- case texts
 

@@ -24,7 +24,7 @@ use Rattle.rules.proofs.Derivations.{derived-accepted}
 use Rattle.rules.proofs.Leasts.{least-unique}
 use Rattle.rules.proofs.Lists.{closed-finished}
 use Rattle.rules.proofs.Ordering.{fewest-some}
-use Rattle.tables.proofs.Tests.{above, withinTest, bus-passes, names-pass}
+use Rattle.tables.proofs.Tests.{above, withinTest, bus-passes}
 use Rattle.refusals.specs.declared.Refusal.the-variants.{InvalidCase, NoSuchBus, ReasonFails, OverBudget, NoCover}
 use Rattle.grid.specs.Limits.{mostBudget}
 use Rattle.grid.specs.Rows.{neighbours}
@@ -52,6 +52,7 @@ use Rattle.tables.specs.Tables.{AllRight}
 use Rattle.tables.specs.Drawings.{set, own, near, zeroAt, sevenGrid, shortValue, value}
 use Rattle.tables.specs.Steps.{derivationSteps}
 use Rattle.tables.specs.Replies as tables
+use Rattle.tables.proofs.Deriving.{names-pass}
 
 -- the bad case value has no bus
 pub invalid : Valid tables.badCase → ⊥

@@ -9,9 +9,6 @@ use Rattle.basics.proofs.Tests.{below-or}
 use Rattle.busset.proofs.Digits.{ext}
 use Rattle.busset.proofs.Members.{out-of, empty-of, add-of, meet-at}
 use Rattle.busset.proofs.Sizes.{size-empty, size-some, one-more}
-use Rattle.step.specs.declared.Reason.{Reason}
-use Rattle.step.specs.declared.Reason.the-variants.{OwnUnit, NeighbourOf, ZeroInjection}
-use Rattle.step.specs.declared.Step.{Step}
 use Rattle.rules.specs.Grids.{Grid, Proper, total}
 use Rattle.rules.specs.Observation.{ObservedSet}
 use Rattle.rules.specs.Steps.{reached}
@@ -20,19 +17,14 @@ use Rattle.rules.specs.Placing.{withUnits, Full, Free, SomeAddition, FewestSite
 use Rattle.rules.specs.Choosing as choosing
 use Rattle.rules.specs.Choosing.{GreedyList}
 use Rattle.tables.proofs.Tests.{total-none, total-pass, gap, gap-none, above, after-in, after-out, given, given-passes}
-use Rattle.tables.proofs.Tests.{holdsTest, leastTest, least-passes}
 use Rattle.rules.proofs.Leasts.{least-unique}
 use Rattle.rules.proofs.Covering.{covers-full, full-covers}
 use Rattle.place_light.specs.Ways.{NoWay, FirstWay}
 use Rattle.place_light.proofs.Searching.{way-none, no-way-none, no-way-left, first-take, passed-lowest, passed-no}
 use Rattle.place_light.proofs.Searching.{passed-first, NoFewer, no-fewer-none, no-fewer-more, first-fewest, no-addition}
+use Rattle.tables.proofs.Deriving.{leastTest, least-passes, derived}
 
 -- ---- what helps to compute
-
--- x at 0, y elsewhere
-unfoldable pub pick : ℕ → ℕ → ℕ → ℕ
-pick zero x y = x
-pick (suc d) x y = y
 
 given-some : (d x : ℕ) → 0 < d → given d x ≡ 0 → x ≡ 0
 unfolding given
@@ -44,47 +36,9 @@ unfolding given
 given-none zero x h = refl
 given-none (suc d) x h = h (omega arith)
 
--- ---- the observed set, with a list that derives it
+-- ---- the observed set
 
--- the reason that holds for b: 0 none, 1 its own unit, 2 + 2 p a neighbour, 3 + 2 w a zero injection
-unfoldable pub reasonFor : Grid → ℕ → ℕ → ℕ → ℕ
-reasonFor g s b zero = 0
-reasonFor g s b (suc p) =
-    pick (holdsTest g s b (NeighbourOf (suc p))) (2 + (suc p + suc p))
-    (pick (holdsTest g s b (ZeroInjection (suc p))) (3 + (suc p + suc p)) (reasonFor g s b p))
-
-unfoldable pub reasonAt : ℕ → ℕ → Reason
-reasonAt p zero = NeighbourOf p
-reasonAt p (suc zero) = ZeroInjection p
-reasonAt p (suc (suc d)) = reasonAt (suc p) d
-
-unfoldable pub stepFor : ℕ → ℕ → List Step → List Step
-stepFor b zero xs = xs
-stepFor b (suc zero) xs = record { bus = b; reason = OwnUnit } ∷ xs
-stepFor b (suc (suc d)) xs = record { bus = b; reason = reasonAt 0 d } ∷ xs
-
--- one pass over the buses b, from k of them left
-unfoldable pub passFrom : Grid → ℕ → ℕ → ℕ → ℕ
-passFrom g s b zero = 0
-passFrom g s b (suc k) =
-    pick (bit s b + given (holdsTest g s b OwnUnit) (1 - reasonFor g s b (g .n))) b (passFrom g s (suc b) k)
-
--- the list that goes on with a step for b, if there is one
-unfoldable pub extended : ℕ → ℕ → List Step → List Step
-extended zero r xs = []
-extended (suc i) r xs = stepFor (suc i) r xs
-
--- the list, step after step
-unfoldable pub derive : Grid → ℕ → ℕ → List Step
-derive g zero s = []
-derive g (suc f) s =
-    let i = passFrom g s 1 (g .n) in
-    extended i (pick (holdsTest g s i OwnUnit) 1 (reasonFor g s i (g .n))) (derive g f (add s i))
-
-abbrev pub derived : Grid → List Step
-derived g = derive g (g .n) empty
-
--- the set that it reaches, and the test that this is the observed set
+-- the set that the derived list reaches, and the test that this is the observed set
 abbrev pub seen : Grid → ℕ
 seen g = reached (derived g)
 

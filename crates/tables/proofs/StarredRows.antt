@@ -13,9 +13,9 @@ use Rattle.busset.proofs.Holding.{word-own}
 use Rattle.busset.proofs.Digits.{bit-zero}
 use Rattle.rules.specs.Grids.{total}
 use Rattle.rules.specs.Figures.{figure}
-use Rattle.tables.proofs.Tests.{gap, gap-none, isOne, above, withinTest, given, subTest, holdsTest, acceptedTest}
-use Rattle.tables.proofs.Tests.{closedTest, leastTest, least-passes, holds-tests, busTest, bus-passes, namesTest, names-pass}
-use Rattle.tables.proofs.Sought.{Sought, derived, pick, reasonFor, reasonAt, stepFor, passFrom, extended, derive, confirmTest}
+use Rattle.tables.proofs.Tests.{gap, gap-none, isOne, above, withinTest, given, subTest}
+use Rattle.tables.proofs.Tests.{closedTest, busTest, bus-passes}
+use Rattle.tables.proofs.Sought.{Sought, confirmTest}
 use Rattle.tables.proofs.Sought.{aloneTest, unconfirmedTest, noBetter, bestTest, noneTest, greedyTest, none}
 use Rattle.tables.proofs.Sought.{some, unsure, soughtFrom, judge, orElse, choose, seek, firstOf, smallest}
 use Rattle.refusals.proofs.Orders.{itself}
@@ -28,6 +28,8 @@ use Rattle.tables.specs.Drawings.{set, drawnGrid}
 use Rattle.tables.proofs.StarredSites.{free, verdict-right, greedy-right, fewest-right, uncovered-right}
 use Rattle.tables.specs.Starred.{wordWith, shortCase, drawnCase, StarredRow, observes, figures, fails, unconfirmed}
 use Rattle.tables.specs.Starred.{adds, fewestIs, uncovered, StarredRight, AllStarredRight, starredTable}
+use Rattle.tables.proofs.Deriving.{holdsTest, acceptedTest, leastTest, least-passes, holds-tests, namesTest, names-pass, derived}
+use Rattle.tables.proofs.Deriving.{pick, reasonFor, reasonAt, stepFor, passFrom, extended, derive}
 
 -- how far two integers are apart
 abbrev gapZ : ℤ → ℤ → ℕ

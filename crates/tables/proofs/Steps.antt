@@ -16,7 +16,7 @@ use Rattle.rules.specs.Derivation.{Derivation}
 use Rattle.rules.proofs.Reasons.{closed-reasoned}
 use Rattle.rules.proofs.Lists.{closed-finished}
 use Rattle.rules.proofs.Derivations.{derived-unique, derived-accepted}
-use Rattle.tables.proofs.Tests.{gap, given, subTest, holdsTest, bus-passes, names-pass}
+use Rattle.tables.proofs.Tests.{gap, given, subTest, bus-passes}
 use Rattle.grid.specs.Rows.{neighbours}
 use Rattle.list_value.specs.declared.StepList.{StepList}
 use Rattle.tables.proofs.Rows.{_&_}
@@ -27,6 +27,7 @@ use Rattle.tables.specs.Tables.{AllRight}
 use Rattle.tables.specs.Drawings.{set, own, near, zeroAt, drawnGrid, sevenGrid, sweep, ring}
 use Rattle.tables.specs.Steps as steps
 use Rattle.tables.specs.Derivation as derivation
+use Rattle.tables.proofs.Deriving.{holdsTest, names-pass}
 
 -- ---- computed
 

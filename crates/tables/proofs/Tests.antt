@@ -1,22 +1,16 @@
 -- Tests of a grid that is written out, which the checker computes: each is a number that is 0 where it passes.
 use mathlib.Core.Path.{_≡_, refl, sym, ap, _∙_, subst, subst⁻¹}
-use mathlib.Core.List.{List, [], _∷_}
 use mathlib.Core.Logic.{⊎-elim}
 use Prim.Native.Nat.{ℕ, zero, suc, _+_, _-_, _≤_, _<_, zero-le}
 use native.Mathlib.Omega.{arith}
-use Rattle.busset.specs.Sets.{Bus, bit, In, Out, Sub, Within, empty, add, lack, less, upTo, size}
+use Rattle.busset.specs.Sets.{Bus, bit, In, Out, Sub, Within, lack, upTo, size}
 use Rattle.basics.proofs.Tests.{same-or, below-or}
 use Rattle.busset.proofs.Digits.{ext}
-use Rattle.busset.proofs.Members.{in-or, sub-of, empty-of, lack-at, upTo-in, upTo-out, less-here, less-there, less-sub}
+use Rattle.busset.proofs.Members.{in-or, sub-of, empty-of, lack-at, upTo-in, upTo-out}
 use Rattle.busset.proofs.Sizes.{size-empty, size-some, one-more}
-use Rattle.step.specs.declared.Reason.{Reason}
-use Rattle.step.specs.declared.Reason.the-variants.{OwnUnit, NeighbourOf, ZeroInjection}
-use Rattle.step.specs.declared.Step.{Step}
 use Rattle.rules.specs.Grids.{Grid, Proper, total}
-use Rattle.rules.specs.Observation.{Closed, ObservedSet}
-use Rattle.rules.specs.Steps.{Holds, ReasonNames, Names, AcceptedFrom, reached}
+use Rattle.rules.specs.Observation.{Closed}
 use Rattle.rules.proofs.Firing.{fired-by}
-use Rattle.rules.proofs.Lists.{accepted-inside}
 
 -- ---- sums of tests over the buses
 
@@ -151,87 +145,12 @@ busTest n b = (1 - b) + (b - n)
 pub bus-passes : (n b : ℕ) → busTest n b ≡ 0 → Bus n b
 bus-passes n b e = record { some = omega arith; most = omega arith }
 
--- the reason names buses 1 to n
-abbrev pub reasonNamesTest : ℕ → Reason → ℕ
-reasonNamesTest n OwnUnit = 0
-reasonNamesTest n (NeighbourOf p) = busTest n p
-reasonNamesTest n (ZeroInjection w) = busTest n w
-
--- and so does the step
-abbrev pub namesTest : ℕ → Step → ℕ
-namesTest n x = busTest n (x .bus) + reasonNamesTest n (x .reason)
-
-pub names-pass : (n : ℕ) (x : Step) → namesTest n x ≡ 0 → Names n x
-names-pass n x e = record { bus = bus-passes n (x .bus) (omega arith); reason = go (x .reason) (omega arith) }
-  where
-    go : (r : Reason) → reasonNamesTest n r ≡ 0 → ReasonNames n r
-    go OwnUnit e = tt
-    go (NeighbourOf p) e = bus-passes n p e
-    go (ZeroInjection w) e = bus-passes n w e
-
--- ---- steps and lists
-
--- the reason holds for bus b where s is observed
-unfoldable pub holdsTest : Grid → ℕ → ℕ → Reason → ℕ
-holdsTest g s b OwnUnit = 1 - bit (g .units) b
-holdsTest g s b (NeighbourOf p) = (1 - bit (g .units) p) + (1 - bit (g .neighbours p) b)
-holdsTest g s b (ZeroInjection w) =
-    (1 - bit (g .zeros) w) + (1 - bit s w) + (1 - bit (g .neighbours w) b) + subTest (g .n) (less (g .neighbours w) b) s
-
-holds-passes : (g : Grid) (s b : ℕ) → Proper g → (r : Reason) → holdsTest g s b r ≡ 0 → Holds g s b r
-unfolding holdsTest
-holds-passes g s b v OwnUnit e = omega arith
-holds-passes g s b v (NeighbourOf p) e = record { unit = omega arith; joined = omega arith }
-holds-passes g s b v (ZeroInjection w) e = record {
-  class = omega arith;
-  observed = omega arith;
-  joined = omega arith;
-  others = λ a h ne.
-      let m : In (less (g .neighbours w) b) a = omega (arith, less-there (g .neighbours w) b a ne) in
-      omega (arith, sub-passes (g .n) (less (g .neighbours w) b) s within (omega arith) a);
-}
-  where
-    within : Within (g .n) (less (g .neighbours w) b)
-    within a h = v .lines w a (omega (arith, less-sub (g .neighbours w) b a)) .to
-
--- and the test passes wherever the reason holds
 pub total-pass : (n : ℕ) (f : ℕ → ℕ) → ((b : ℕ) → f b ≡ 0) → total n f ≡ 0
 unfolding total
 total-pass zero f h = refl
 total-pass (suc n) f h = omega (arith, total-pass n f h, h (suc n))
 
-pub holds-tests : (g : Grid) (s b : ℕ) → Proper g → (r : Reason) → Holds g s b r → holdsTest g s b r ≡ 0
-unfolding holdsTest subTest
-holds-tests g s b v OwnUnit h = omega arith
-holds-tests g s b v (NeighbourOf p) h = omega (arith, h .unit, h .joined)
-holds-tests g s b v (ZeroInjection w) h =
-    omega (arith, h .class, h .observed, h .joined, total-pass (g .n) (λ a. bit (less (g .neighbours w) b) a - bit s a) known)
-  where
-    known : (a : ℕ) → bit (less (g .neighbours w) b) a - bit s a ≡ 0
-    known a =
-        ⊎-elim
-        (λ (e : a ≡ b). subst⁻¹ (λ (x : ℕ). bit (less (g .neighbours w) b) x - bit s x ≡ 0) e
-        (omega (arith, less-here (g .neighbours w) b)))
-        (λ (ne : a ≡ b → ⊥). ⊎-elim
-        (λ (p : In (g .neighbours w) a). omega (arith, h .others a p ne))
-        (λ (p : Out (g .neighbours w) a). omega (arith, less-there (g .neighbours w) b a ne))
-        (in-or (g .neighbours w) a))
-        (same-or a b)
-
--- each step is allowed where it stands
-unfoldable pub acceptedTest : Grid → ℕ → List Step → ℕ
-acceptedTest g s [] = 0
-acceptedTest g s (x ∷ xs) = bit s (x .bus) + holdsTest g s (x .bus) (x .reason) + acceptedTest g (add s (x .bus)) xs
-
-accepted-passes : (g : Grid) (s : ℕ) (xs : List Step) → Proper g → acceptedTest g s xs ≡ 0 → AcceptedFrom g s xs
-unfolding acceptedTest
-accepted-passes g s [] v e = tt
-accepted-passes g s (x ∷ xs) v e = (
-  record { new = omega arith; holds = holds-passes g s (x .bus) v (x .reason) (omega arith) },
-  accepted-passes g (add s (x .bus)) xs v (omega arith),
-)
-
--- ---- the observed set
+-- ---- the two rules
 
 -- s satisfies O1 and O2
 unfoldable pub closedTest : Grid → ℕ → ℕ
@@ -239,7 +158,7 @@ closedTest g s =
     subTest (g .n) (g .units) s + total (g .n) (λ b. given (bit (g .units) b) (subTest (g .n) (g .neighbours b) s))
     + total (g .n) (λ w. given (bit (g .zeros) w) (given (bit s w) (isOne (size (lack (g .neighbours w) s)))))
 
-closed-passes : (g : Grid) (s : ℕ) → Proper g → closedTest g s ≡ 0 → Closed g s
+pub closed-passes : (g : Grid) (s : ℕ) → Proper g → closedTest g s ≡ 0 → Closed g s
 unfolding closedTest
 closed-passes g s v e = record {
   direct = record {
@@ -258,17 +177,4 @@ closed-passes g s v e = record {
         (given-passes (bit (g .zeros) w) (given (bit s w) (isOne (size (lack (g .neighbours w) s)))) z
         (total-none (g .n) f (omega arith) w (v .zeros w z)))));
   };
-}
-
--- s is the observed set, as the list xs derives it
-unfoldable pub leastTest : Grid → List Step → ℕ → ℕ
-leastTest g xs s = acceptedTest g empty xs + gap (reached xs) s + closedTest g s
-
-pub least-passes : (g : Grid) (xs : List Step) (s : ℕ) → Proper g → leastTest g xs s ≡ 0 → ObservedSet g s
-unfolding leastTest
-least-passes g xs s v e = record {
-  closed = closed-passes g s v (omega arith);
-  least =
-      λ t cl. subst (λ (r : ℕ). Sub r t) (gap-none (reached xs) s (omega arith))
-      (accepted-inside g t xs cl (accepted-passes g empty xs v (omega arith)));
 }

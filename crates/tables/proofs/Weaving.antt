@@ -16,7 +16,6 @@ use Rattle.rules.specs.Steps.{Names, reached, Accepted}
 use Rattle.basics.specs.Lists.{Each}
 use Rattle.rules.specs.Weaving.{TakenFromOne, here, there, Shuffle, none, next}
 use Rattle.rules.specs.Figures.{figure}
-use Rattle.tables.proofs.Tests.{names-pass}
 use Rattle.rules.proofs.Shuffles.{weaving-shuffles}
 use Rattle.grid.specs.Rows.{neighbours}
 use Rattle.list_follow.specs.declared.Wove.the-variants as wove
@@ -29,6 +28,7 @@ use Rattle.tables.specs.Tables.{AllRight}
 use Rattle.tables.specs.Drawings.{set, own, near, sevenGrid}
 use Rattle.tables.specs.Weaving as weaving
 use Rattle.tables.specs.Figures as figures
+use Rattle.tables.proofs.Deriving.{names-pass}
 
 -- ---- computed
 
