@@ -2,7 +2,7 @@
 ghost use mathlib.Core.Path.{_≡_};
 ghost use Rattle.busset.specs.Sets.{Bus, width};
 ghost use Rattle.busset.specs.Held.{holdIf};
-ghost use Rattle.case_build.specs.Building.{withEnd, withLine, nextRows, nextMarks, noMarks, noCase};
+ghost use Rattle.case_build.specs.Building.{withLine, nextRows, nextMarks, noMarks, noCase};
 ghost use Rattle.case_judge.specs.Judging.{Fit};
 use busset::BusSet;
 use case_judge::Place;
@@ -54,22 +54,13 @@ fn hold_if(t: bool, w: BusSet, b: usize) -> BusSet
     w
 }
 
-// b becomes a neighbour of a.
-fn add_end(rows: &mut Rows, a: usize, b: usize)
-    requires { ⌜ Bus width a × Bus width b ⌝ }
-    ensures { λ _. ⌜ now (rows .exit) ≡ withEnd (now (rows .entry)) a b ⌝ }
-{
-    let near = busset::with(grid::row(rows, a), b);
-    grid::set_row(rows, a, near);
-}
-
 // A line of a and b: each becomes a neighbour of the other.
 fn add_line(rows: &mut Rows, a: usize, b: usize)
     requires { ⌜ Bus width a × Bus width b ⌝ }
     ensures { λ _. ⌜ now (rows .exit) ≡ withLine (now (rows .entry)) a b ⌝ }
 {
-    add_end(rows, a, b);
-    add_end(rows, b, a);
+    grid::add_neighbour(rows, a, b);
+    grid::add_neighbour(rows, b, a);
 }
 
 // The rows after a record; the place is where the reader stood before it.

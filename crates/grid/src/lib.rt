@@ -1,8 +1,9 @@
 // The case value, its view and when it is valid; buses with their neighbours; whether a set has all buses.
 ghost use mathlib.Core.Path.{_≡_};
 ghost use Prim.Native.Nat.{_≤_};
+ghost use Rattle.busset.specs.Held.{wordOf};
 ghost use Rattle.basics.specs.Deciding.{Decides};
-ghost use Rattle.busset.specs.Sets.{Bus, width, setOf};
+ghost use Rattle.busset.specs.Sets.{Bus, width, setOf, add};
 ghost use Rattle.rules.specs.Placing.{Full};
 ghost use Rattle.grid.specs.Rows.{neighbours, withRow, noRows};
 ghost use Rattle.grid.specs.Near.{WithNeighbours};
@@ -39,6 +40,15 @@ pub fn set_row(rows: &mut Rows, b: usize, s: BusSet)
     ensures { λ _. ⌜ now (rows .exit) ≡ withRow (now (rows .entry)) b s ⌝ }
 {
     rows[b - 1] = s;
+}
+
+// b becomes a neighbour of a.
+pub fn add_neighbour(rows: &mut Rows, a: usize, b: usize)
+    requires { ⌜ Bus width a × Bus width b ⌝ }
+    ensures { λ _. ⌜ now (rows .exit)
+        ≡ withRow (now (rows .entry)) a (wordOf (add (neighbours (now (rows .entry)) a) b)) ⌝ }
+{
+    rows[a - 1] = busset::with(rows[a - 1], b);
 }
 
 // No line.

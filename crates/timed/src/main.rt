@@ -1,6 +1,7 @@
 // Asks one call again and again, and prints the last answer as one number. The first line of standard input says the
 // call and how often it is asked; the rest is a case text. In a set, bus b is the bit b - 1.
 ghost use mathlib.Core.Path.{_≡_};
+use grid::limits::LARGEST_BUDGET;
 use wozgrzyt::Case;
 use wozgrzyt::Fewest;
 use wozgrzyt::Observed;
@@ -28,6 +29,14 @@ fn read(text: &[u8]) -> u64 {
     }
 }
 
+fn reads(text: &[u8], turns: usize) -> u64 {
+    let mut answer: u64 = 0;
+    for _i in 0..turns {
+        answer = read(text);
+    }
+    answer
+}
+
 // The observed set; 0 if the case is refused.
 fn observed(case: Case) -> u64 {
     match wozgrzyt::observed_set(case) {
@@ -36,31 +45,37 @@ fn observed(case: Case) -> u64 {
     }
 }
 
-// The fewest new sites within a budget of 8; 0 for a refusal.
+fn observes(case: Case, turns: usize) -> u64 {
+    let mut answer: u64 = 0;
+    for _i in 0..turns {
+        answer = observed(case);
+    }
+    answer
+}
+
+// The fewest new sites within the largest budget; 0 for a refusal.
 fn fewest(case: Case) -> u64 {
-    match wozgrzyt::place_fewest(case, 8) {
+    match wozgrzyt::place_fewest(case, LARGEST_BUDGET) {
         Fewest::Sites(s) => s,
         Fewest::Refused(_) => 0,
     }
 }
 
-// o: the observed set. p: the fewest. Any other: reading.
-fn once(letter: u8, case: Case, text: &[u8]) -> u64 {
-    match letter {
-        b'o' => observed(case),
-        b'p' => fewest(case),
-        _ => read(text),
-    }
-}
-
-fn last(letter: u8, turns: usize, text: &[u8]) -> u64 {
-    let r = wozgrzyt::read_case(text);
-    let case = r.case;
+fn searches(case: Case, turns: usize) -> u64 {
     let mut answer: u64 = 0;
     for _i in 0..turns {
-        answer = once(letter, case, text);
+        answer = fewest(case);
     }
     answer
+}
+
+// o: the observed set. p: the fewest. Any other: reading.
+fn last(letter: u8, turns: usize, text: &[u8]) -> u64 {
+    match letter {
+        b'o' => observes(wozgrzyt::read_case(text).case, turns),
+        b'p' => searches(wozgrzyt::read_case(text).case, turns),
+        _ => reads(text, turns),
+    }
 }
 
 fn whole(input: &[u8]) -> u64 {
