@@ -1,7 +1,7 @@
 // The day report of a case text.
 ghost use Prim.Native.Nat.{_≤_};
 ghost use Rattle.busset.specs.Sets.{width};
-ghost use Rattle.grid.specs.Cases.{Valid};
+ghost use Rattle.grid.specs.Cases.{caseOf, Valid};
 ghost use Rattle.list_value.specs.Lists.{listedSteps};
 ghost use Rattle.report_lines.specs.Printing.{Printed, PrintedReply};
 ghost use Rattle.report_day.specs.Day.{IsDayText, DayReport, DayPrinted};
@@ -9,8 +9,9 @@ ghost use Rattle.report_day.specs.Listing.{Named};
 
 pub mod lines;
 
+use busset::BusSet;
 use case_read::ReadAnswer;
-use grid::Case;
+use grid::Rows;
 use grid::limits::MOST_BUSES;
 use lines::put_day;
 use list_value::StepList;
@@ -32,13 +33,20 @@ fn print_day(out: &mut [u8], n: usize, list: StepList, alone: usize) -> Written
 }
 
 // The report of a case, in the bytes lent.
-fn report(case: Case, out: &mut [u8]) -> Written
-    requires { ⌜ Valid case ⌝ }
-    ensures { λ r. ⌜ PrintedReply (DayReport case) (now (out .entry)) (now (out .exit)) r ⌝ }
+fn report(
+    n: usize,
+    nbr: &Rows,
+    zero: BusSet,
+    site: BusSet,
+    units: BusSet,
+    out: &mut [u8],
+) -> Written
+    requires { ⌜ Valid (caseOf n (now nbr) zero site units) ⌝ }
+    ensures { λ r. ⌜ PrintedReply (DayReport (caseOf n (now (nbr .entry)) zero site units)) (now (out .entry))
+        (now (out .exit)) r ⌝ }
 {
-    let n = case.n;
-    let list = list_derive::derive(n, &case.nbr, case.zero, case.units);
-    let alone = place_confirm::unconfirmed(n, &case.nbr, case.units);
+    let list = list_derive::derive(n, nbr, zero, units);
+    let alone = place_confirm::unconfirmed(n, nbr, units);
     print_day(out, n, list, busset::count(alone))
 }
 
@@ -51,7 +59,7 @@ pub fn day_report(text: &[u8], out: &mut [u8]) -> Written
     match answer {
         ReadAnswer::Read => {
             let case = read.case;
-            report(case, out)
+            report(case.n, &case.nbr, case.zero, case.site, case.units, out)
         }
         ReadAnswer::Refused(q) => report_lines::print_refused(out, q),
     }

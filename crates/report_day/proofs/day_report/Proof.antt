@@ -12,7 +12,9 @@ enum-told : tie.Need-enum-told
 enum-told c = search needs
 
 report-requires : tie.Need-report-requires
-report-requires c κs = search read-good
+report-requires c κs =
+    let told = c .before .before .before .before in
+    read-good _ _ (told .before .before .read-case .ensures) (told .enum-told .given .1)
 
 enum-known-answer : tie.Need-enum-known-answer
 enum-known-answer c = search needs

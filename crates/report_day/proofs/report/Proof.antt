@@ -16,8 +16,8 @@ count-requires c κs = search needs
 
 print-day-requires : tie.Need-print-day-requires
 print-day-requires c κs =
-    let at-derive = c .before .before .before .before .before in
-    let at-args = at-derive .before .before .before .before in
+    let at-derive = c .before .before .before in
+    let at-args = at-derive .before .before in
     (at-args .pre .buses .most, derived-named (at-args .pre) (at-derive .derive .ensures _), c .count .ensures .most)
 
 same-length : tie.Need-same-length
@@ -25,7 +25,7 @@ same-length c = search needs
 
 returns : tie.Need-returns
 returns c =
-    let at-derive = c .before .before .before .before .before .before .before .before in
+    let at-derive = c .before .before .before .before .before .before in
     search (printed-by, reported, at-derive .derive .ensures)
 
 pub report-spec : {M : Type 1} → statement M
