@@ -49,7 +49,7 @@ crossValidateCall = record {
 abbrev pub HasRoom : Case → ℕ → List ℕ → Type 0
 HasRoom c budget room = (xs : List ℕ) → choosing.GreedyList (gridOf c) budget xs → length xs ≤ length room
 
--- 5; the budget is at most 64, or 10; the answer has room, or 6
+-- 5; the budget is at most its limit, or 10; the answer has room, or 6
 abbrev pub greedyChecks : Case → ℕ → List ℕ → List Check
 greedyChecks c budget room =
     checkThat (Valid c) 5 0 ∷ checkThat (budget ≤ mostGreedyBudget) 10 0 ∷ checkThat (HasRoom c budget room) 6 0 ∷ []
@@ -79,7 +79,7 @@ placeGreedyCall = record {
 
 -- ---- the fewest
 
--- 5; the budget is at most 8, or 10; some addition within it covers, or 11
+-- 5; the budget is at most the grid's limit, or 10; some addition within it covers, or 11
 abbrev pub fewestChecks : Case → ℕ → List Check
 fewestChecks c budget =
     checkThat (Valid c) 5 0 ∷ checkThat (budget ≤ mostBudget (c .n)) 10 0 ∷ checkThat (placing.SomeAddition (gridOf c) budget) 11 0 ∷ []

@@ -1,4 +1,4 @@
--- From 64 on the answer is the blank step. Below 64 the array has the place.
+-- Past the array the answer is the blank step. Below its length the array has the place.
 use Rattle.list_value.proofs.Listing.{nth-past, nth-in}
 use borrow.Author.Needs.{needs}
 use Rattle.list_value.proofs.nth.Statement.{statement}

@@ -1,4 +1,4 @@
--- A case that is read is valid, as `report` requires. A refused text has its place on a line, so it has at most 4 digits.
+-- A case that is read is valid, as `report` requires. The place of a refused text is a line of it, so it prints.
 use Rattle.report_lines.proofs.Printed.{printed-by}
 use Rattle.report_day.proofs.Reports.{read-good, read-bad, day-by}
 use borrow.Author.Needs.{needs}

@@ -1,4 +1,4 @@
--- A case that is read is valid, as `report` requires. A refused input has its place on a line, so it has at most 4 digits.
+-- A case that is read is valid, as `report` requires. The place of a refused input is a line of it, so it prints.
 use mathlib.Core.Path.{refl}
 use native.Mathlib.Omega.{arith}
 use Rattle.report_lines.proofs.Printed.{printed-by}
