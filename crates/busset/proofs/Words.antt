@@ -1,21 +1,22 @@
 -- The set that a word holds, and what each operation on the word does to it. Over any width k.
 use mathlib.Core.Path.{_≡_, refl, sym, ap, ap₂, _∙_, subst⁻¹}
 use mathlib.Core.Bool.{Bool}
+use mathlib.Core.Logic.{⊎-elim}
 use Prim.Native.Nat.{ℕ, zero, suc, _+_, _-_, _*_, _/_, _%_, _^_, _≤_, _<_, max, min}
-use native.Mathlib.Nat.{one-mul, mod-eq-of-lt}
+use native.Mathlib.Nat.{one-mul, mod-eq-of-lt, div-lt-iff-lt-mul, pow-suc}
 use native.Mathlib.Numerals.{add-one}
 use native.Mathlib.Omega.{arith}
 use lib.Bits.{bitAnd, bitOr, and-mask}
-use lib.Count.{trailingZeros, under}
+use lib.Count.{trailingZeros, under, leadingZeros, leading-top}
 use lib.Dec.{eqb}
 use lib.Pow.{pow-lt, pow-pos, ones-lt}
 use Rattle.busset.specs.Held.{SetWord, emptyWord}
 use Rattle.basics.specs.Deciding.{Decides}
-use Rattle.busset.specs.Sets.{Bus, bit, In, Out, Sub, empty, size, setOf, Union, Both, Minus, With, Without, Lowest, All}
-use Rattle.basics.proofs.Tests.{decides-eq, decides-by}
+use Rattle.busset.specs.Sets.{Bus, bit, In, Out, Sub, empty, size, setOf, Union, Both, Minus, With, Without, Lowest, Highest, All}
+use Rattle.basics.proofs.Tests.{decides-eq, decides-by, below-or}
 use Rattle.busset.proofs.Digits.{bit-suc, bit-low, bit-or, bit-and, and-not, bit-in}
 use Rattle.busset.proofs.Digits.{bit-zero, bit-ones, bit-one-same, bit-one-other, half-lt}
-use Rattle.busset.proofs.Members.{empty-of}
+use Rattle.busset.proofs.Members.{empty-of, out-of}
 use Rattle.busset.proofs.Sizes.{one-more, size-double, size-most}
 
 -- ---- the word and its set
@@ -153,20 +154,43 @@ low-digit (suc k) w p h = go (w % 2) refl (λ q. low-digit k (w / 2) q (half-lt 
     go (suc zero) e ih = record { has = bit-low w ∙ e; below = λ j l. absurd (omega arith) }
     go (suc (suc r)) e ih = absurd (omega arith)
 
+-- a word whose set is not empty is not 0
+some-word : (w : ℕ) → (setOf w ≡ empty → ⊥) → 0 < w
+some-word zero n = absurd (n set-empty)
+some-word (suc v) n = omega arith
+
 pub lowest-law : (k w : ℕ) → (setOf w ≡ empty → ⊥) → w < 2 ^ k → Lowest k (setOf w) (trailingZeros k w + 1)
 lowest-law k w ne h =
     let t = trailingZeros k w in
-    let l = low-digit k w (some w ne) h in
+    let l = low-digit k w (some-word w ne) h in
     subst⁻¹ (Lowest k (setOf w)) (add-one t)
     (record { has = set-suc w t ∙ l .has; below = below l; bus = set-bus k (suc t) h (set-suc w t ∙ l .has) })
   where
-    some : (w : ℕ) → (setOf w ≡ empty → ⊥) → 0 < w
-    some zero n = absurd (n set-empty)
-    some (suc v) n = omega arith
-
     below : Low w (trailingZeros k w) → (a : ℕ) → a < suc (trailingZeros k w) → Out (setOf w) a
     below l zero m = set-zero w
     below l (suc j) m = set-suc w j ∙ l .below j (omega arith)
+
+-- ---- the highest bus
+
+-- the digit at j of a number from 2 ^ j to below 2 ^ (j + 1)
+top-digit : (w j : ℕ) → 2 ^ j ≤ w → w < 2 ^ suc j → In w j
+top-digit w j low high =
+    let two = div-lt-iff-lt-mul {k = 2 ^ j} {x = w} {y = 2} (pow-pos j) .1 (omega (arith, pow-suc 2 j)) in
+    ⊎-elim
+    (λ (l : w / 2 ^ j < 1). absurd (omega (arith, div-lt-iff-lt-mul {k = 2 ^ j} {x = w} {y = 1} (pow-pos j) .0 l)))
+    (λ (l : 1 ≤ w / 2 ^ j). omega arith)
+    (below-or (w / 2 ^ j) 1)
+
+pub highest-law : (k w : ℕ) → (setOf w ≡ empty → ⊥) → w < 2 ^ k → Highest k (setOf w) (k - leadingZeros k w)
+highest-law k w ne h =
+    let t = leading-top k w (some-word w ne) h in
+    let has = set-suc w (t .0) ∙ top-digit w (t .0) (t .2) (t .3) in
+    subst⁻¹ (Highest k (setOf w)) (omega (arith, t .1))
+    (record {
+      has = has;
+      above = λ a l. out-of (setOf w) a (λ i. omega (arith, set-bus (suc (t .0)) a (t .3) i .most));
+      bus = set-bus k (suc (t .0)) h has;
+    })
 
 -- ---- the buses 1 to n
 

@@ -92,6 +92,12 @@ pub record Lowest (n s b : ℕ) : Type 0 where
   pub below : (a : ℕ) → a < b → Out s a
   pub bus : Bus n b
 
+-- b is the highest bus of s, 1 to n
+pub record Highest (n s b : ℕ) : Type 0 where
+  pub has : In s b
+  pub above : (a : ℕ) → b < a → Out s a
+  pub bus : Bus n b
+
 -- r is how many buses are in s, at most n
 pub record Counted (n s r : ℕ) : Type 0 where
   pub is : r ≡ size s

@@ -5,7 +5,7 @@ ghost use Rattle.busset.specs.Held.{emptyWord};
 ghost use Rattle.busset.specs.Bytes.{byteOf, setLength};
 ghost use Rattle.basics.specs.Deciding.{Decides};
 ghost use Rattle.busset.specs.Sets.{Bus, In, Sub, Within, empty, upTo, width, setOf};
-ghost use Rattle.busset.specs.Sets.{Union, Both, Minus, With, Without, Lowest, Counted, All};
+ghost use Rattle.busset.specs.Sets.{Union, Both, Minus, With, Without, Lowest, Highest, Counted, All};
 
 pub type BusSet = u64;
 
@@ -98,6 +98,13 @@ pub fn lowest(s: BusSet) -> usize
     ensures { λ r. ⌜ Lowest width (setOf s) r ⌝ }
 {
     u64::trailing_zeros(s) as usize + 1
+}
+
+pub fn highest(s: BusSet) -> usize
+    requires { ⌜ (setOf s ≡ empty → ⊥) ⌝ }
+    ensures { λ r. ⌜ Highest width (setOf s) r ⌝ }
+{
+    WIDTH - u64::leading_zeros(s) as usize
 }
 
 // The buses 1 to n.

@@ -1,3 +1,2 @@
-pub mod Thinning
 pub mod Grouping
-pub mod Cutting
+pub mod Trying

@@ -1,2 +1,4 @@
-pub mod Rows
+-- how a group is found
 pub mod Shrinking
+-- which sites are tried
+pub mod Branches

@@ -1,4 +1,3 @@
-// The cut of the search for the fewest units: sites that are not needed, groups of sites, and when no cover is left.
-pub mod dominated;
+// The cut of the search for the fewest units: how a group of sites is found, and when no cover is left.
 pub mod groups;
 pub mod hopeless;

@@ -5,21 +5,19 @@ use Rattle.busset.specs.Sets.{Lowest, With, Without, add, setOf}
 use Rattle.busset.specs.Held.{SetWord}
 use Rattle.busset.proofs.Members.{with-add}
 use Rattle.rules.specs.Grids.{Grid}
-use Rattle.rules.specs.Observation.{ObservedSet}
 use Rattle.rules.specs.Placing.{withUnits}
-use Rattle.place_light.specs.Lights.{Lit}
 use Rattle.place_light.specs.Ways.{FirstWay}
-use Rattle.place_light.proofs.Lighting.{lit-least}
 use Rattle.place_light.proofs.Searching.{KeepsWays, first-take, passed-lowest}
 use Rattle.place_fewest.specs.declared.Found.{Found}
 use Rattle.place_fewest.specs.declared.Found.the-variants.{Sites, Nothing}
 use Rattle.place_fewest.specs.Answers.{FoundIs}
 
-module _ (g : Grid) {n sites x rest k s t : ℕ} (some : 0 < k) (low : Lowest n sites x) (w : Without sites x rest)
-    (l : ObservedSet g s) (lit : Lit (g .neighbours) (g .zeros) s x t)
-    (r : Found) (f : ObservedSet (withUnits g (add (g .units) x)) t → FoundIs (withUnits g (add (g .units) x)) rest (k - 1) r) where
+module _ (g : Grid) {n sites x rest k units : ℕ} (some : 0 < k) (low : Lowest n sites x) (w : Without sites x rest)
+    (u : With (g .units) x units) (r : Found) (f : FoundIs (withUnits g units) rest (k - 1) r) where
   found : (r′ : Found) → r ≡ r′ → FoundIs (withUnits g (add (g .units) x)) rest (k - 1) r′
-  found r′ q = subst (FoundIs (withUnits g (add (g .units) x)) rest (k - 1)) q (f (lit-least l lit))
+  found r′ q =
+      subst (FoundIs (withUnits g (add (g .units) x)) rest (k - 1)) q
+      (subst (λ (v : ℕ). FoundIs (withUnits g v) rest (k - 1) r) (with-add u) f)
 
   pub found-take : (m : SetWord) {more : ℕ} → r ≡ Sites m → With (setOf m) x more → FirstWay g sites k more
   found-take m q more = subst⁻¹ (FirstWay g sites k) (with-add more) (first-take low w some (found (Sites m) q))

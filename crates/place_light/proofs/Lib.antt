@@ -1,4 +1,3 @@
 pub mod Lighting
 pub mod Searching
 pub mod Covers
-pub mod Sparing

@@ -1,6 +1,4 @@
 -- what is observed with units added
 pub mod Lights
--- on the way: ways, covers, and sites in which a unit would be idle
+-- on the way: ways, covers, and groups of which every cover has one
 pub mod Ways
--- on the way: sites that are not needed
-pub mod Spares

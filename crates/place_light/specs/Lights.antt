@@ -10,10 +10,3 @@ pub record Lit (nbr : ℕ → ℕ) (zeros s x r : ℕ) : Type 0 where
   pub near : Sub (nbr x) r
   pub fired : ZeroRules nbr zeros r
   pub least : (t : ℕ) → Sub s t → In t x → Sub (nbr x) t → ZeroRules nbr zeros t → Sub r t
-
--- r is what is observed where s is and units stand at the buses u, and maybe more
-pub record LitAll (nbr : ℕ → ℕ) (zeros s u r : ℕ) : Type 0 where
-  pub grows : Sub s r
-  pub own : Sub u r
-  pub near : (b : ℕ) → In u b → Sub (nbr b) r
-  pub fired : ZeroRules nbr zeros r

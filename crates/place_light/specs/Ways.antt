@@ -2,9 +2,9 @@
 use mathlib.Core.Path.{_≡_}
 use mathlib.Core.Bool.{Bool, true}
 use mathlib.Core.List.{List}
-use Prim.Native.Nat.{ℕ, _≤_}
+use Prim.Native.Nat.{ℕ, _≤_, _<_}
 use lib.ListN.{length}
-use Rattle.busset.specs.Sets.{In, Out, Sub, empty, size}
+use Rattle.busset.specs.Sets.{In, Sub, empty, add, meet, size}
 use Rattle.rules.specs.Grids.{Grid, withSitesAndUnits}
 use Rattle.rules.specs.Observation.{Closed}
 use Rattle.rules.specs.Placing.{Full, Covers, Rising, placed, Before}
@@ -32,23 +32,29 @@ pub record FirstWay (g : Grid) (sites k m : ℕ) : Type 0 where
   pub way : Way g sites k list
   pub first : (ys : List ℕ) → Way g sites k ys → Before list ys
 
--- ---- covers: what a cut excludes
+-- ---- covers: what a cut excludes. An item is what a unit may be put on, and `gives` says what a unit there observes directly
 
--- a unit at x is idle in c: it observes no bus outside c directly
-pub record Idle (nbr : ℕ → ℕ) (c x : ℕ) : Type 0 where
-  pub own : In c x
-  pub near : Sub (nbr x) c
-
--- r is some of the sites, and has all of them that are not idle in c
-pub record Group (nbr : ℕ → ℕ) (sites c r : ℕ) : Type 0 where
-  pub of : Sub r sites
-  pub rest : (x : ℕ) → In sites x → Out r x → Idle nbr c x
-
--- v is at most k of the sites, and makes all buses observed: a set that satisfies the rules, and in which units at v are idle, has them
-pub record Cover (g : Grid) (sites k v : ℕ) : Type 0 where
-  pub of : Sub v sites
+-- v is at most k of the items, and units on them make all buses observed: a set that satisfies the rules and has what they give has all
+pub record ItemCover (g : Grid) (gives : ℕ → ℕ) (items k v : ℕ) : Type 0 where
+  pub of : Sub v items
   pub few : size v ≤ k
-  pub full : (s : ℕ) → Closed g s → ((x : ℕ) → In v x → Idle (g .neighbours) s x) → Full (g .n) s
+  pub full : (s : ℕ) → Closed g s → ((x : ℕ) → In v x → Sub (gives x) s) → Full (g .n) s
+
+-- v has one of the items w
+pub record Meets (w v : ℕ) : Type 0 where
+  pub some : 0 < size (meet w v)
+
+-- w is a group: every cover has one of it
+pub record Group (g : Grid) (gives : ℕ → ℕ) (items w : ℕ) : Type 0 where
+  pub met : (k v : ℕ) → ItemCover g gives items k v → Meets w v
+
+-- what a unit at bus x observes directly: x and its neighbours
+abbrev pub direct : (ℕ → ℕ) → ℕ → ℕ
+direct nbr x = add (nbr x) x
+
+-- v is at most k of the sites, and units there make all buses observed
+abbrev pub Cover : Grid → ℕ → ℕ → ℕ → Type 0
+Cover g sites k v = ItemCover g (direct (g .neighbours)) sites k v
 
 -- there is no cover
 abbrev pub Uncoverable : Grid → ℕ → ℕ → Type 0
@@ -57,7 +63,3 @@ Uncoverable g sites k = (v : ℕ) → Cover g sites k v → ⊥
 -- a cut: where it says true there is no cover
 abbrev pub Cut : Grid → ℕ → ℕ → Bool → Type 0
 Cut g sites k r = r ≡ true → Uncoverable g sites k
-
--- the other sites are not needed: where rest has no cover, the sites have none
-abbrev pub Spared : Grid → ℕ → ℕ → ℕ → Type 0
-Spared g sites k rest = Uncoverable g rest k → Uncoverable g sites k

@@ -1,7 +1,7 @@
 // Observed sets made from one another, as units are added.
 ghost use Rattle.busset.specs.Sets.{Bus, width, setOf};
 ghost use Rattle.grid.specs.Rows.{neighbours};
-ghost use Rattle.place_light.specs.Lights.{Lit, LitAll};
+ghost use Rattle.place_light.specs.Lights.{Lit};
 use busset::BusSet;
 use grid::Rows;
 
@@ -12,11 +12,4 @@ pub fn lit(nbr: &Rows, zero: BusSet, s: BusSet, x: usize) -> BusSet
 {
     let here = busset::with(grid::row(nbr, x), x);
     observe::set::spread(nbr, zero, busset::union(s, here))
-}
-
-// What is observed if s is and units are at the buses u.
-pub fn lit_all(nbr: &Rows, zero: BusSet, s: BusSet, u: BusSet) -> BusSet
-    ensures { λ r. ⌜ LitAll (neighbours (now (nbr .entry))) (setOf zero) (setOf s) (setOf u) (setOf r) ⌝ }
-{
-    observe::set::spread(nbr, zero, busset::union(s, grid::with_neighbours(nbr, u)))
 }

@@ -1,4 +1,5 @@
--- A site that is neither dark nor next to a dark bus observes nothing outside c. This needs that each line is seen from both ends.
+-- A unit at a site that is neither dark nor next to a dark bus observes nothing outside c.
+-- This needs that each line is seen from both ends.
 use Rattle.place_bound.proofs.Grouping.{group-by}
 use borrow.Author.Needs.{needs}
 use Rattle.place_bound.proofs.groups.group.Statement.{statement}

@@ -1,4 +1,4 @@
--- Invariant: r is `Shrunk` from c, and each trial unit keeps that. A turn takes a bus from `left`, so its size falls.
+-- Invariant: r is `Shrunk` from c, and each trial unit keeps that. A turn takes a site from `left`, so its size falls.
 use native.Mathlib.Omega.{arith}
 use borrow.Author.Tests.{not-true}
 use Rattle.busset.specs.Sets.{setOf, size}
@@ -11,16 +11,10 @@ use Rattle.place_bound.proofs.groups.shrunk.Statement.{statement}
 use Rattle.place_bound.proofs.groups.shrunk.Tie as tie
 
 abbrev Inv-loop : tie.InvT-loop
-Inv-loop n nbr zero c r₀ left₀ r left = Shrunk n (neighbours nbr) (setOf zero) (setOf c) (setOf r)
+Inv-loop n nbr zero c sites r₀ left₀ r left = Shrunk n (neighbours nbr) (setOf zero) (setOf c) (setOf r)
 
 abbrev μ-loop : tie.MeasureT-loop
-μ-loop n nbr zero c r₀ left₀ r left = size (setOf left)
-
-all-requires : tie.Need-all-requires Inv-loop μ-loop
-all-requires c κs = search needs
-
-minus-requires : tie.Need-minus-requires Inv-loop μ-loop
-minus-requires c κs = search needs
+μ-loop n nbr zero c sites r₀ left₀ r left = size (setOf left)
 
 loop-holds : tie.Need-loop-holds Inv-loop μ-loop
 loop-holds c = shrunk-same _ _ _ _
@@ -28,8 +22,8 @@ loop-holds c = shrunk-same _ _ _ _
 is-none-requires : tie.Need-is-none-requires Inv-loop μ-loop
 is-none-requires c κs = search needs
 
-lowest-requires : tie.Need-lowest-requires Inv-loop μ-loop
-lowest-requires c κs = refutes (c .before .is-none .ensures) (not-true _ (c .if1 .taken))
+highest-requires : tie.Need-highest-requires Inv-loop μ-loop
+highest-requires c κs = refutes (c .before .is-none .ensures) (not-true _ (c .if1 .taken))
 
 tried-requires : tie.Need-tried-requires Inv-loop μ-loop
 tried-requires c κs = search needs
@@ -38,7 +32,7 @@ without-requires : tie.Need-without-requires Inv-loop μ-loop
 without-requires c κs = search needs
 
 loop-less : tie.Need-loop-less Inv-loop μ-loop
-loop-less c = omega (arith, c .without .ensures .fewer (c .before .before .lowest .ensures .has))
+loop-less c = omega (arith, c .without .ensures .fewer (c .before .before .highest .ensures .has))
 
 loop-again : tie.Need-loop-again Inv-loop μ-loop
 loop-again c = shrunk-more (c .before .before .before .before .before .loop .inv) (c .before .tried .ensures)
@@ -52,11 +46,9 @@ shrunk-spec =
     (tie.spec
     Inv-loop
     μ-loop
-    all-requires
-    minus-requires
     loop-holds
     is-none-requires
-    lowest-requires
+    highest-requires
     tried-requires
     without-requires
     loop-less
