@@ -14,7 +14,6 @@ from command.speaking import Misused, Stop, murmur, named, quoted, say, show_tex
 
 WELL, DOES_NOT_FIT, WRONG = 0, 1, 2
 MOST_BYTES = 16 * 1024 * 1024
-USAGE = "usage: wozgrzyt import [--names FILE] FILE\n"
 UNKNOWN = "neither a MATPOWER case ('mpc.bus = [') nor the IEEE common data format ('BUS DATA FOLLOWS')"
 
 
@@ -85,8 +84,6 @@ def import_file(name, names):
 def main(arguments):
     """Imports the file that the words after `import` name. Answers the status."""
     try:
-        if list(arguments) in (["--help"], ["-h"]):
-            return show_text(USAGE)
         return import_file(*arguments_of(arguments))
     except Stop as stop:
         say(str(stop))
