@@ -49,12 +49,23 @@ def of_line(number, case, lines, at, is_open):
     """What is wrong with line `at`, after the case that the lines before it say; None if no reason is found."""
     if at > len(lines):
         return nothing_left(case)
-    line = lines[at - 1]
+    line, *later = lines[at - 1:]
+    if case.ended:
+        return after_end(line, later)
     if number == 2:
         return of_form(case, line, at == 1, is_open)
     word, *fields = line.split(b"\t")
+    if word == b"bus" and number == 4:
+        return of_next_bus(case, int(fields[0]), later)
     numbers = [int(field) for field in fields[:1 if word == b"bus" else None]]
     return of_range(case, word, numbers) if number == 3 else of_order(case, word, numbers)
+
+
+def after_end(line, later):
+    """Refusal 2 at what follows `end`."""
+    if any(records.squeeze(rest.rstrip(b"\r")) for rest in [line] + later):
+        return "%s follows 'end', which is to be the last line" % ("something" if line else "an empty line")
+    return Mendable("an empty line follows 'end', which is to be the last line")
 
 
 def nothing_left(case):
@@ -73,8 +84,6 @@ def missing_bus(case):
 
 def of_form(case, line, first, is_open):
     """Refusal 2 at a line that is there."""
-    if case.ended:
-        return "%s follows 'end', which is to be the last line" % ("something" if line else "an empty line")
     wrong = records.wrong_bytes(line, first) or records.wrong_word(line) or misplaced(case, line)
     wrong = wrong or records.wrong_fields(line)
     if not is_open:
@@ -113,9 +122,7 @@ def of_range(case, word, numbers):
 
 
 def of_order(case, word, numbers):
-    """Refusal 4."""
-    if word == b"bus":
-        return of_next_bus(case, numbers[0])
+    """Refusal 4 at a line or a unit."""
     if word == b"line":
         return of_lines(case, *numbers)
     unit = numbers[0]
@@ -126,11 +133,14 @@ def of_order(case, word, numbers):
     return None
 
 
-def of_next_bus(case, number):
-    """Refusal 4 at a bus."""
-    if number <= len(case.buses):
-        return "bus %d is here again: bus %d is the next" % (number, len(case.buses) + 1)
-    return "bus %d is the next, and this is bus %d" % (len(case.buses) + 1, number)
+def of_next_bus(case, number, later):
+    """Refusal 4 at a bus. The lines after it say whether the next bus comes too late or is missing."""
+    wanted = len(case.buses) + 1
+    if number < wanted:
+        return "bus %d is here again: bus %d is the next" % (number, wanted)
+    if any(line.startswith(b"bus\t%d\t" % wanted) for line in later):
+        return Mendable("bus %d comes after bus %d: buses rise by one" % (wanted, number))
+    return missing_bus(case) + " before this bus %d" % number
 
 
 def of_lines(case, a, b):

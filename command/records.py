@@ -95,18 +95,36 @@ def wrong_fields(line):
 def wrong_bytes(line, first):
     """What is wrong with a line because of how it was written down, in words; None if nothing is."""
     if first and line.startswith(MARK):
-        return Mendable("the text begins with a byte order mark, which does not belong to it")
+        return Mendable("the text begins with a byte order mark, which is no part of a case text")
     if first and line.startswith(WIDE_MARKS):
-        return "the text is in UTF-16: plain ASCII is wanted"
+        return "the text is in UTF-16, and plain ASCII is wanted"
+    if b"\r" in line.rstrip(b"\r"):
+        return "there is a carriage return in the line: a line feed ends a line, and nothing else does"
     if line.endswith(b"\r"):
-        return Mendable("the line ends with a carriage return and a line feed (CRLF): a line feed alone is wanted")
+        return Mendable("the line ends with a carriage return, as in CRLF: a line feed alone is wanted")
     if not line:
         return Mendable("the line is empty")
     if not line.strip(b" \t"):
-        return Mendable("the line has only blanks")
-    if b" " in line and line.split()[0] in FIELDS:
-        return Mendable("there are blanks in the line: fields are separated by one tab and nothing else")
-    return None
+        return Mendable("there are only blanks in the line")
+    return wrong_blanks(line)
+
+
+def wrong_blanks(line):
+    """What is wrong with what separates the fields, in words; None if nothing is."""
+    squeezed = squeeze(line)
+    word = squeezed.split(b"\t")[0]
+    if squeezed == line or word not in FIELDS:
+        return None
+    wrong = "there are blanks in the line" if b" " in line else "there is a tab too many in the line"
+    wrong += ": one tab separates two fields, and nothing else does"
+    if wrong_fields(squeezed) is None:
+        return Mendable(wrong)
+    return wrong if b" " in line else None
+
+
+def squeeze(line):
+    """A line with one tab between two fields, and no other blanks."""
+    return b"\t".join(field for field in line.replace(b" ", b"\t").split(b"\t") if field)
 
 
 def wrong_word(line):

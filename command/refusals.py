@@ -1,5 +1,7 @@
 """The refusals in one table: when each is given, what its place is, and who gives it. docs/CALLS.md has the same."""
-from command.speaking import Misused, show_text
+import textwrap
+
+from command.speaking import Misused, named, show_text
 
 ALL_C = "wz_observed wz_unconfirmed wz_fewest wz_replay"
 CASES = "observed_set firing_figure test_step derivation replay weave cross_validate place_greedy place_fewest"
@@ -60,20 +62,36 @@ REFUSALS = {
     13: Refusal(
         "a firing figure is asked for two buses that are not joined", "0",
         calls="firing_figure"),
+    51: Refusal(
+        "the step text has more than 16,384 bytes", "0", "", "wz_replay"),
+    52: Refusal(
+        "step text: a word, field count, reason or number form is wrong, a record or a line feed is missing, or "
+        "something follows `end`", "line of the step text", "", "wz_replay"),
+    53: Refusal(
+        "step text: a number is 0 or above 64", "line of the step text", "", "wz_replay"),
+    62: Refusal(
+        "step text: this is the 1,025th step", "line of the step text, 1,025", "", "wz_replay"),
 }
-ADDED_FOR_STEP_TEXTS = 50
-STEP_TEXTS = {ADDED_FOR_STEP_TEXTS + number: number for number in (1, 2, 3, 12)}
+NOTES = {
+    1: "a case text has at most 8,192 bytes, with the plan line in the planning program, and a step text 16,384",
+    3: "n is the number in the first line of the case text",
+    10: "the limit is 8 for the fewest units, and 64 for greedy",
+    11: "new units go only to sites Y that have none, and installed units stay",
+}
+WIDTH = 96
 
 
 def described(number):
     """What a refusal says, as lines."""
-    row = REFUSALS[STEP_TEXTS.get(number, number)]
+    row = REFUSALS[number]
+    parts = {"given when": row.when, "place": row.place}
+    parts.update((kind, ", ".join(names.split())) for kind, names in row.givers.items() if names)
+    if number in NOTES:
+        parts["note"] = NOTES[number]
     lines = ["refusal %d" % number]
-    if number in STEP_TEXTS:
-        lines.append("  of the C function wz_replay: in reading the step text, refusal %d" % STEP_TEXTS[number])
-    lines += ["  given when   " + row.when, "  place        " + row.place]
-    givers = {C_CALLS: "wz_replay"} if number in STEP_TEXTS else row.givers
-    lines += ["  %-12s %s" % (kind, ", ".join(names.split())) for kind, names in givers.items() if names]
+    for kind, words in parts.items():
+        first, *others = textwrap.wrap(words, WIDTH)
+        lines += ["  %-15s%s" % (kind, first)] + ["  %15s%s" % ("", other) for other in others]
     return "\n".join(lines) + "\n"
 
 
@@ -81,9 +99,8 @@ def main(arguments):
     """Prints what a refusal says, or each of them if none is named."""
     if len(arguments) > 1:
         raise Misused("'refusal' takes one number")
-    if not arguments:
-        return show_text("\n".join(map(described, list(REFUSALS) + list(STEP_TEXTS))))
-    known = {str(number): number for number in list(REFUSALS) + list(STEP_TEXTS)}
-    if arguments[0] not in known:
-        raise Misused("there is no refusal '%s': they are 1 to 13, and 51, 52, 53 and 62 of a C function" % arguments[0])
-    return show_text(described(known[arguments[0]]))
+    known = {str(number): number for number in REFUSALS}
+    if arguments and arguments[0] not in known:
+        raise Misused("there is no refusal '%s': they are 1 to 13, and 51, 52, 53 and 62 of a C function" %
+                      named(arguments[0]))
+    return show_text("\n".join(described(known[name]) for name in arguments or known))
