@@ -2,19 +2,20 @@
 
 The status is 0 after a report, 1 after a refusal, and 2 if the command is called wrongly or something is missing.
 """
+import importlib
 import signal
 
-from command import helping, mapping, refusals, reporting, tidying
 from command.speaking import Misused, Stop, hold_streams, named, say
 
 PARTS = {
-    "day": reporting.day,
-    "plan": reporting.plan,
-    "map": mapping.main,
-    "tidy": tidying.main,
-    "refusal": refusals.main,
-    "help": helping.main,
-    "version": helping.version,
+    "day": ("reporting", "day"),
+    "plan": ("reporting", "plan"),
+    "map": ("mapping", "main"),
+    "tidy": ("tidying", "main"),
+    "import": ("importing", "main"),
+    "refusal": ("refusals", "main"),
+    "help": ("helping", "main"),
+    "version": ("helping", "version"),
 }
 OTHER_NAMES = {"-h": "help", "--help": "help", "--version": "version"}
 HELP_WORDS = "-h", "--help"
@@ -35,14 +36,12 @@ def main(arguments):
 
 
 def call(arguments):
-    """Calls the part that the first word names, with the others."""
+    """Calls the part that the first word names, with the other words."""
     word, *rest = arguments
     word = OTHER_NAMES.get(word, word)
-    if word != "help" and any(argument in HELP_WORDS for argument in rest):
-        return helping.main([word])
-    if word == "import":
-        from command import importing
-        return importing.main(rest)
     if word not in PARTS:
         raise Misused("there is no '%s'" % named(word))
-    return PARTS[word](rest)
+    if word != "help" and any(argument in HELP_WORDS for argument in rest):
+        word, rest = "help", [word]
+    module, function = PARTS[word]
+    return getattr(importlib.import_module("command." + module), function)(rest)

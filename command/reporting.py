@@ -2,17 +2,17 @@
 from command import programs
 from command.explaining import explain
 from command.reading import read_text
-from command.speaking import Misused, say, show
+from command.speaking import Misused, named, say, show
 
 
 def one_case(word, arguments):
     """The case that the arguments name: none or one, which is no option."""
+    for argument in arguments:
+        if argument.startswith("-") and argument != "-":
+            raise Misused("'%s' has no option '%s'" % (word, named(argument)))
     if len(arguments) > 1:
         raise Misused("'%s' takes one case" % word)
-    name = arguments[0] if arguments else "-"
-    if name.startswith("-") and name != "-":
-        raise Misused("'%s' has no option '%s'" % (word, name))
-    return name
+    return arguments[0] if arguments else "-"
 
 
 def day(arguments):
