@@ -10,7 +10,7 @@ def read_text(name, most=MOST_BYTES + 1):
     """The text of a file, or of standard input for '-', as far as its first `most` bytes; and its name in words."""
     if name == "-":
         if 0 in CLOSED:
-            raise Stop("standard input cannot be read: it is closed")
+            raise Stop("standard input cannot be read: it is closed, or a folder")
         return read_bytes(0, most, "standard input"), "standard input"
     if os.path.isdir(name):
         raise Stop("'%s' is a folder: a case is a file" % named(name))
