@@ -60,8 +60,8 @@ DAMAGED = [
      "line 52: 'branch' is changed by a program, and import reads matrices only"),
     ("odd.m", "mpc.bus(:, [PD, QD]) = mpc.bus(:, [PD, QD]) / 1e3;", "mpc.bus(:, PD = 3;",
      "line 52: a '(' is not closed on its line"),
-    ("odd.m", "mpc.dcline = [ 50 20", "mpc.dcline = [ 50 21", "line 38: there is no bus 21"),
-    ("odd.m", "40\t1001\t0.01", "40\t40\t0.01", "line 36: a branch joins bus 40 to itself"),
+    ("odd.m", "mpc.dcline = [ 50 20", "mpc.dcline = [ 50 21", "line 23: there is no bus 21"),
+    ("odd.m", "40\t1001\t0.01", "40\t40\t0.01", "line 37: a branch joins bus 40 to itself"),
     # IEEE common data format: the sections
     ("ieee14.cdf", "BUS DATA FOLLOWS", "BUS DATE FOLLOWS",
      "line 47: the file ends, and there was no 'BUS DATA FOLLOWS'"),

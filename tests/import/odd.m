@@ -20,6 +20,7 @@ mpc.bus=[1001 3 0 0 0 0 1 1.06 0 345 1 1.1 .9 % the swing bus has a generator
 	40 4 0 0 0 0 1 1 0 345 1 Inf -Inf;
 	50 1 0 0 0 0 1 1 0 345 1 1.1 0.9 ];
 
+mpc.dcline = [ 50 20 1 10 8.9 0 0 1.01 1 1 10 -10 10 -10 10 1 0.01 ]; % feeds 50 and 20
 mpc.gen = [ % the second is out of service: it could be started, so bus 7 is I
 	1001	163	6.5	300	-300	1.06	100	1	250	10	0	0	0	0	0	0	0	0	0	0	0;
 	7	0	0	300	-300	1	100	0	250	10	0	0	0	0	0	0	0	0	0	0	0;
@@ -35,7 +36,6 @@ mpc.branch = [
 	7	1001	0.01	0.085	0.176	250	250	250	0	0	0	-360	360;   % out of service
 	40	1001	0.01	0.085	0.176	250	250	250	0	0	1	-360	360;   % bus 40 is isolated by its type
 ];
-mpc.dcline = [ 50 20 1 10 8.9 0 0 1.01 1 1 10 -10 10 -10 10 1 0.01 ]; % feeds 50 and 20
 
 mpc.gencost = [2 1500 0 3 0.11 5 150
 	2 2000 0 3 0.085 1.2 600];
