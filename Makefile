@@ -24,17 +24,19 @@ help:
 
 build: $(PROGRAMS) $(ARCHIVE)
 
-# rt proves what has changed. It links no binary again that was removed while its stamp was kept, so that stamp goes too.
-# A file that is touched is known to be made from these sources.
+# rt proves what has changed. It does not link again a binary that was removed while its stamp was kept, so that the
+# stamp goes too. A file that is touched is known to be made from these sources.
 $(PROGRAMS): $(SOURCES)
 	@name=$(@F)
 	[ -e "$@" ] || rm -f "target/stamp/$$name"
 	rt check "$$name"
+	[ -x "$@" ] || { echo "make: rt made no $@" >&2; exit 2; }
 	touch "$@"
 	rt version >target/kit
 
 $(ARCHIVE): $(SOURCES)
 	@rt staticlib estimator
+	[ -f "$@" ] || { echo "make: rt made no $@" >&2; exit 2; }
 	touch "$@"
 	rt version >target/kit
 
@@ -53,7 +55,7 @@ install:
 	new=$$(mktemp)
 	trap 'rm -f "$$new"' EXIT
 	[ -e "$$root" ] || echo ./ >>"$$new"
-	mkdir -p -- "$$root"
+	mkdir -p -m 755 -- "$$root"
 	before=$$root/$$list
 	[ ! -e "$$before" ] || sed -n '/\/$$/p' "$$before" >>"$$new"
 

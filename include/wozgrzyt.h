@@ -68,16 +68,16 @@
  *
  * MEMORY
  *
- * The texts are only read. They must not change during a call, and `set` must not overlap them. A pointer may be NULL if
- * its length is 0. A call allocates nothing and keeps no state: calls may run at once from many threads on different
+ * The texts are only read. They must not change during a call, and `set` must not overlap them. A pointer may be NULL
+ * if its length is 0. A call allocates nothing and keeps no state: calls may run at once from many threads on different
  * sets, and the same input always gives the same reply.
  *
  * STACK
  *
- * WZ_OBSERVED_STACK, WZ_UNCONFIRMED_STACK, WZ_FEWEST_STACK and WZ_REPLAY_STACK (below) are the most bytes that each call
- * takes of the caller's stack. This is measured and not proved: tests/c/boundary_stack.c runs each call on a painted
- * stack, on 64 buses, with a budget of 8 or with 1,024 steps, and prints what it took. The dynamic linker takes some
- * 3,000 bytes at the first call of a program, for which they have room.
+ * WZ_OBSERVED_STACK, WZ_UNCONFIRMED_STACK, WZ_FEWEST_STACK and WZ_REPLAY_STACK (below) are the most bytes that each
+ * call takes of the caller's stack. This is measured and not proved: tests/c/boundary_stack.c runs each call on a
+ * painted stack, on 64 buses, with a budget of 8 or with 1,024 steps, and prints what it took. The dynamic linker takes
+ * some 3,000 bytes at the first call of a program, for which they have room.
  *
  * TIME
  *
