@@ -31,6 +31,11 @@ def lines_of(text):
     return lines[:-1] if lines[-1] == "" else lines
 
 
+def one_line(name):
+    """A bus's name for the side table: one blank between two words, and no character that a terminal would obey."""
+    return "".join(c if c.isprintable() else "?" for c in " ".join(name.split()))
+
+
 def figure(word):
     """The number that a word is, None if it is none. FORTRAN and MATLAB write an exponent with D too."""
     if not FIGURE.fullmatch(word):
@@ -61,7 +66,7 @@ class Grid:
     def add_bus(self, line, number, name, is_zero):
         if number in self._new:
             raise Damaged(line, "bus %d is there a second time" % number)
-        self.buses.append(Bus(number, name, is_zero))
+        self.buses.append(Bus(number, one_line(name), is_zero))
         self._new[number] = len(self.buses)
 
     def new_number(self, line, number):

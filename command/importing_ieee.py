@@ -86,7 +86,7 @@ def read_bus(grid, line, card):
     figures = figures_of(line, card)
     check_columns(line, card, figures)
     is_zero = kind == "0" and all(value == 0 for value in figures)
-    grid.add_bus(line, number, " ".join(field(card, NAME).split()), is_zero)
+    grid.add_bus(line, number, field(card, NAME), is_zero)
 
 
 def read_branch(grid, line, card):

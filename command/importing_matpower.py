@@ -242,7 +242,7 @@ def add_buses(grid, rows, names):
         if kind not in (1, 2, 3, 4):
             raise Damaged(row.line, "column 2: %g is no type of a bus (1 to 4)" % kind)
         is_zero = kind == LOAD_BUS and all(row.numbers[column] == 0 for column in BUS_FIGURES)
-        grid.add_bus(row.line, row.bus(0), " ".join(name.split()), is_zero)
+        grid.add_bus(row.line, row.bus(0), name, is_zero)
 
 
 def add_branches(grid, rows, isolated):

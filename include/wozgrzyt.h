@@ -81,9 +81,9 @@
  *
  * TIME
  *
- * wz_observed, wz_unconfirmed and wz_replay take microseconds, on any input: docs/SPEED.md has figures.
- * wz_fewest searches. The search is exponential in the worst case; docs/SPEED.md says the worst times seen. A smaller
- * budget makes it shorter. It cannot be interrupted, so a caller who must not wait asks it from a thread of its own.
+ * wz_observed, wz_unconfirmed and wz_replay take some microseconds: docs/SPEED.md has figures.
+ * wz_fewest searches. The search is exponential in the worst case; docs/SPEED.md says the worst times seen. It cannot be
+ * interrupted, so a caller who must not wait asks it in a process of its own.
  *
  * EXAMPLE
  *
