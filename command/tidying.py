@@ -136,7 +136,7 @@ def check_twice(rows):
     for at, fields in rows:
         key = fields[0].decode(), *([] if fields[0] == b"grid" else numbers_of(fields))
         if key in known:
-            raise Unmendable("lines %d and %d: '%s' is there twice" % (known[key], at, " ".join(map(str, key))))
+            raise Unmendable("lines %d and %d: '%s' is there twice" % (*sorted((known[key], at)), " ".join(map(str, key))))
         known[key] = at
 
 

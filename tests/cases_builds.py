@@ -152,7 +152,7 @@ def check_no_whole_reply(checks):
         ("#!/absent/sh\n", "cannot be run: No such file"),
     ]:
         write(checkout.at("target", "bin", "day"), script or "#!/bin/sh\nexit 0\n", 0o755)
-        for part in ("day", "map", "tidy"):
+        for part in ("day", "map", "tidy")[:1 if script else 3]:
             called = checkout.call(part, text=ONE_BUS)
             checks.stops("%s of %r" % (part, script), called, "the program 'day'", words)
 

@@ -2,6 +2,8 @@
 import glob
 import os
 import random
+import shutil
+import subprocess
 
 from cases_support import TOP, stored
 from command import helping, tidying
@@ -58,24 +60,38 @@ UNMENDABLE = [
 def check_mended(checks):
     """What is nearly right becomes right, and each change is said in a line."""
     for name, text, changes in NEARLY:
+        checks.that("tidy: " + name, tidying.tidy(text) == (SEVEN, changes))
+    for name, text, changes in NEARLY[::5]:
         called = checks.call("tidy", text=text)
         said = "".join("wozgrzyt: standard input: %s\n" % change for change in changes)
-        checks.that("tidy: " + name, called == (0, SEVEN, said.encode()), called)
+        checks.that("tidy called: " + name, called == (0, SEVEN, said.encode()), called)
     long = SEVEN.replace(b"\n", b" " * 900 + b"\n")
     called = checks.call("tidy", text=long)
     checks.that("tidy: a text that fits only afterwards", len(long) > 8192 and called[:2] == (0, SEVEN), called)
 
 
+def fault(text):
+    """What tidy cannot mend, in words; None if it mends all."""
+    try:
+        tidying.tidy(text)
+    except tidying.Unmendable as found:
+        return str(found)
+    return None
+
+
 def check_unmended(checks):
     """What could mean one thing or another is not mended: nothing is printed, and the status is 1."""
     for name, text, words in UNMENDABLE:
+        said = fault(text)
+        checks.that("tidy: %s: %s" % (name, said), said is not None and said.startswith(words))
+    for name, text, words in UNMENDABLE[::4]:
         called = checks.call("tidy", text=text)
-        checks.refuses("tidy: " + name, called, b"", "wozgrzyt: standard input: " + words)
+        checks.refuses("tidy called: " + name, called, b"", "wozgrzyt: standard input: " + words)
     buses = "".join("bus %d I Y\n" % bus for bus in range(1, 25))
     ends = [(a, b) for a in range(1, 25) for b in range(a + 1, 25)]
     lines = "".join("line %d %d\n" % two for two in ends)
-    called = checks.call("tidy", text=("grid 24\n" + buses + lines + "end\n").encode())
-    checks.refuses("tidy: too many lines", called, b"", "there are 276 lines, and a grid has at most 256")
+    said = fault(("grid 24\n" + buses + lines + "end\n").encode())
+    checks.that("tidy: too many lines: %s" % said, said == "there are 276 lines, and a grid has at most 256")
 
 
 def check_valid(checks):
@@ -134,11 +150,13 @@ def check_help(checks):
 
 
 def check_version(checks):
-    """The version is the project's and the kit's."""
+    """The version is the project's, and the kit's identity is what `rt version` prints."""
     called = checks.call("--version")
-    lines = called.out.decode().splitlines()
-    named = lines[:1] == ["wozgrzyt " + stored("VERSION").decode().strip()]
-    checks.that("--version", called.status == 0 and named and len(lines) == 2 and "logic" in lines[1], called)
+    version, kit = called.out.decode().splitlines()
+    checks.that("--version", called.status == 0 and version == "wozgrzyt " + stored("VERSION").decode().strip(), called)
+    if shutil.which("rt"):
+        printed = subprocess.run(["rt", "version"], stdout=subprocess.PIPE, check=True).stdout.decode().strip()
+        checks.that("the kit's identity is '%s'" % kit, kit == printed, called)
 
 
 CHECKS = [check_mended, check_unmended, check_valid, check_meaning, check_help, check_version]
