@@ -79,7 +79,8 @@ def one_at_a_time():
         os.makedirs(places.target(), exist_ok=True)
         file = os.open(places.lock(), os.O_RDWR | os.O_CREAT, 0o666)
     except OSError as error:
-        raise Stop("a program is to be built, and %s cannot be written: %s" % (places.target(), error.strerror)) from None
+        reason = places.target(), error.strerror
+        raise Stop("a program is to be built, and %s cannot be written: %s" % reason) from None
     try:
         try:
             fcntl.flock(file, fcntl.LOCK_EX | fcntl.LOCK_NB)

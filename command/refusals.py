@@ -24,8 +24,8 @@ REFUSALS = {
         "a text is over its byte limit", "0",
         "day plan", ALL_C, "read_case check_steps read_steps replay_text"),
     2: Refusal(
-        "a record's word, field count, class, site, reason or number form is wrong; a record or a line feed is missing; "
-        "something follows `end`", "line",
+        "a record's word, field count, class, site, reason or number form is wrong; a record or a line feed is "
+        "missing; something follows `end`", "line",
         "day plan", ALL_C, "read_case check_steps read_steps replay_text"),
     3: Refusal(
         "the `grid` number is not 1 to 64; another number of a case text is 0 or above n; a number of a step text is 0 "

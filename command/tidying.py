@@ -136,7 +136,8 @@ def check_twice(rows):
     for at, fields in rows:
         key = fields[0].decode(), *([] if fields[0] == b"grid" else numbers_of(fields))
         if key in known:
-            raise Unmendable("lines %d and %d: '%s' is there twice" % (known[key], at, " ".join(map(str, key))))
+            first, second = sorted((known[key], at))
+            raise Unmendable("lines %d and %d: '%s' is there twice" % (first, second, " ".join(map(str, key))))
         known[key] = at
 
 

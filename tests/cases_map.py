@@ -86,11 +86,11 @@ def check_drawn(checks):
 def check_refused(checks):
     """A refused text is refused as by the day report."""
     text = stored("cases", "seven.case")[:-1]
-    wanted_call = checks.call("day", text=text)
-    checks.that("the day report refuses", wanted_call.status == 1 and wanted_call.out == b"refused\t2\t16\n", wanted_call)
+    refused = checks.call("day", text=text)
+    checks.that("the day report refuses", refused[:2] == (1, b"refused\t2\t16\n"), refused)
     for option in ([], ["--svg"], ["--dot"]):
         called = checks.call("map", *option, text=text)
-        checks.that("a refused map %s" % option, called == wanted_call, called)
+        checks.that("a refused map %s" % option, called == refused, called)
 
 
 def check_count(checks):
@@ -127,7 +127,9 @@ def check_dot(checks):
 
 def check_marks(checks):
     """A bus with site N is marked, and so is a unit that no other confirms."""
-    text = stored("cases", "seven.case").replace(b"bus\t6\tI\tY", b"bus\t6\tI\tN").replace(b"bus\t3\tZ\tY", b"bus\t3\tZ\tN")
+    text = stored("cases", "seven.case")
+    for record in (b"bus\t6\tI\t", b"bus\t3\tZ\t"):
+        text = text.replace(record + b"Y", record + b"N")
     source = drawing.dot(observed(text))
     marks = dict(re.findall(r'^  (\d+) \[label=<\d+<BR/><FONT POINT-SIZE="9">(.*)</FONT>>', source, re.M))
     checks.that("marks: %s" % marks, marks == {"3": "N ?", "6": "N"})
@@ -159,7 +161,8 @@ def check_svg(checks):
 
 def check_kept_picture(checks):
     """The picture that README shows is a drawing of the case of seven buses: its lines, and its dark buses dashed."""
-    parts = re.findall(r'class="(node|edge)">\s*<title>(.*?)</title>(.*?)</g>', stored("docs", "map-seven.svg").decode(), re.S)
+    picture = stored("docs", "map-seven.svg").decode()
+    parts = re.findall(r'class="(node|edge)">\s*<title>(.*?)</title>(.*?)</g>', picture, re.S)
     lines = re.findall(rb"^line\t(\d+)\t(\d+)$", stored("cases", "seven.case"), re.M)
     joined = {title.replace("&#45;", "-") for kind, title, _ in parts if kind == "edge"}
     checks.that("docs/map-seven.svg has the lines", joined == {"%s--%s" % (a.decode(), b.decode()) for a, b in lines})

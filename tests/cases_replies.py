@@ -40,11 +40,11 @@ def check_budgets(checks):
     for budget in ("9", "9999"):
         called = checks.call("plan", budget, SEVEN)
         checks.refuses("plan " + budget, called, b"refused\t10\t1\n", "the budget is above 8: it is " + budget)
-    for budget, words in (("00", "has a leading zero"), ("10000", "has over 4 digits"), ("0008", "'0008' has a leading")):
+    for budget, words in (("00", "has a leading zero"), ("10000", "has over 4 digits"), ("0008", "'0008' has")):
         called = checks.call("plan", budget, SEVEN)
         checks.refuses("plan " + budget, called, b"refused\t2\t1\n", "a budget is a number of 0 to 8: ", words)
     called = checks.call("plan", "1", BARE)
-    checks.refuses("no cover", called, b"refused\t11\t0\n", "no addition within the budget, 1 unit at most, makes every")
+    checks.refuses("no cover", called, b"refused\t11\t0\n", "no addition within the budget, 1 unit at most")
     called = checks.call("plan", os.path.join(TOP, "cases", "ieee57.case"))
     checks.refuses("no cover of 8", called, b"refused\t11\t0\n", "budget, 8 units at most, makes every bus observed")
 

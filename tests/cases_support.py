@@ -22,7 +22,9 @@ echo "begin $2" >>"{home}/calls"
 sum=$(cat crates/grid/lib.rt | cksum)
 mkdir -p target/bin target/stamp
 [ ! -e target/stamp/$2 ] || old=$(cat target/stamp/$2)
-if [ "${{old-}}" != "$sum" ]; then cp program target/bin/$2 && chmod 755 target/bin/$2 && echo "$sum" >target/stamp/$2; fi
+if [ "${{old-}}" != "$sum" ]; then
+    cp program target/bin/$2 && chmod 755 target/bin/$2 && echo "$sum" >target/stamp/$2
+fi
 echo "rt: $2 proved"
 echo "end $2" >>"{home}/calls"
 """

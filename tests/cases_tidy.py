@@ -2,6 +2,8 @@
 import glob
 import os
 import random
+import shutil
+import subprocess
 
 from cases_support import TOP, stored
 from command import helping, tidying
@@ -11,11 +13,13 @@ COMMANDS = "day", "plan", "map", "tidy", "import", "refusal"
 LINES = SEVEN.splitlines(True)
 TURNED = b"".join([LINES[0], LINES[7], *LINES[1:7], *LINES[14:15], *LINES[8:14], LINES[15]])
 
+BLANKS = "blanks become one tab between two fields in %s"
+
 # What is nearly the text of seven buses, and what tidy says that it changed.
 NEARLY = [
-    ("blanks for tabs", SEVEN.replace(b"\t", b"  "), ["blanks become one tab between two fields in 15 lines"]),
-    ("blanks and tabs", SEVEN.replace(b"bus\t3\t", b" bus\t 3 \t"), ["blanks become one tab between two fields in 1 line"]),
-    ("blanks at the end", SEVEN.replace(b"end", b"end \t"), ["blanks become one tab between two fields in 1 line"]),
+    ("blanks for tabs", SEVEN.replace(b"\t", b"  "), [BLANKS % "15 lines"]),
+    ("blanks and tabs", SEVEN.replace(b"bus\t3\t", b" bus\t 3 \t"), [BLANKS % "1 line"]),
+    ("blanks at the end", SEVEN.replace(b"end", b"end \t"), [BLANKS % "1 line"]),
     ("CRLF", SEVEN.replace(b"\n", b"\r\n"), ["carriage returns are dropped at the end of 16 lines"]),
     ("a byte order mark", b"\xef\xbb\xbf" + SEVEN, ["the byte order mark is dropped"]),
     ("no last line feed", SEVEN[:-1], ["the line feed at the end of the last line is added"]),
@@ -25,7 +29,7 @@ NEARLY = [
     ("b before a", SEVEN.replace(b"line\t3\t7", b"line\t7\t3"), ["the lower bus is put first in 1 line"]),
     ("all of it", b"\xef\xbb\xbf" + TURNED.replace(b"\t", b" ").replace(b"3 7", b"7 3").replace(b"\n", b"\r\n")[:-2], [
         "the byte order mark is dropped", "the line feed at the end of the last line is added",
-        "carriage returns are dropped at the end of 15 lines", "blanks become one tab between two fields in 15 lines",
+        "carriage returns are dropped at the end of 15 lines", BLANKS % "15 lines",
         "the lower bus is put first in 1 line", "the records are put in order"]),
 ]
 
@@ -33,7 +37,7 @@ NEARLY = [
 UNMENDABLE = [
     ("an empty text", b"", "the text is empty"),
     ("blanks alone", b" \r\n\n", "the text is empty"),
-    ("a line twice", SEVEN.replace(b"line\t2\t3\n", b"line\t2\t3\nline 3 2\n"), "lines 10 and 11: 'line 2 3' is there twice"),
+    ("a line twice", SEVEN.replace(b"line\t3\t4\n", b"line 3 2\n"), "lines 10 and 11: 'line 2 3' is there twice"),
     ("a bus twice", SEVEN.replace(b"bus\t4\tI\tY\n", b"bus\t3\tI\tY\n"), "lines 4 and 5: 'bus 3' is there twice"),
     ("a unit twice", SEVEN.replace(b"pmu\t3\n", b"pmu\t3\npmu\t3\n"), "lines 15 and 16: 'pmu 3' is there twice"),
     ("two grids", b"grid\t8\n" + SEVEN, "lines 1 and 2: 'grid' is there twice"),
@@ -58,24 +62,38 @@ UNMENDABLE = [
 def check_mended(checks):
     """What is nearly right becomes right, and each change is said in a line."""
     for name, text, changes in NEARLY:
+        checks.that("tidy: " + name, tidying.tidy(text) == (SEVEN, changes))
+    for name, text, changes in NEARLY[::5]:
         called = checks.call("tidy", text=text)
         said = "".join("wozgrzyt: standard input: %s\n" % change for change in changes)
-        checks.that("tidy: " + name, called == (0, SEVEN, said.encode()), called)
+        checks.that("tidy called: " + name, called == (0, SEVEN, said.encode()), called)
     long = SEVEN.replace(b"\n", b" " * 900 + b"\n")
     called = checks.call("tidy", text=long)
     checks.that("tidy: a text that fits only afterwards", len(long) > 8192 and called[:2] == (0, SEVEN), called)
 
 
+def fault(text):
+    """What tidy cannot mend, in words; None if it mends all."""
+    try:
+        tidying.tidy(text)
+    except tidying.Unmendable as found:
+        return str(found)
+    return None
+
+
 def check_unmended(checks):
     """What could mean one thing or another is not mended: nothing is printed, and the status is 1."""
     for name, text, words in UNMENDABLE:
+        said = fault(text)
+        checks.that("tidy: %s: %s" % (name, said), said is not None and said.startswith(words))
+    for name, text, words in UNMENDABLE[::4]:
         called = checks.call("tidy", text=text)
-        checks.refuses("tidy: " + name, called, b"", "wozgrzyt: standard input: " + words)
+        checks.refuses("tidy called: " + name, called, b"", "wozgrzyt: standard input: " + words)
     buses = "".join("bus %d I Y\n" % bus for bus in range(1, 25))
     ends = [(a, b) for a in range(1, 25) for b in range(a + 1, 25)]
     lines = "".join("line %d %d\n" % two for two in ends)
-    called = checks.call("tidy", text=("grid 24\n" + buses + lines + "end\n").encode())
-    checks.refuses("tidy: too many lines", called, b"", "there are 276 lines, and a grid has at most 256")
+    said = fault(("grid 24\n" + buses + lines + "end\n").encode())
+    checks.that("tidy: too many lines: %s" % said, said == "there are 276 lines, and a grid has at most 256")
 
 
 def check_valid(checks):
@@ -97,7 +115,8 @@ def untidy(text, rng):
     rows = [[row[0], row[2], row[1]] if row[0] == b"line" and rng.random() < 0.5 else row for row in rows]
     blanks = [b" ", b"\t", b"\t ", b"   "]
     lines = [rng.choice([b"", b" "]) + rng.choice(blanks).join(row) + rng.choice([b"", b"\t"]) for row in rows]
-    return rng.choice([b"", b"\xef\xbb\xbf"]) + rng.choice([b"\n", b"\r\n", b"\n\n"]).join(lines) + rng.choice([b"", b"\n"])
+    feed, mark = rng.choice([b"\n", b"\r\n", b"\n\n"]), rng.choice([b"", b"\xef\xbb\xbf"])
+    return mark + feed.join(lines) + rng.choice([b"", b"\n"])
 
 
 def check_meaning(checks):
@@ -120,7 +139,8 @@ def check_help(checks):
     for word in COMMANDS:
         checks.that("help names " + word, b"wozgrzyt %s " % word.encode() in usage.out)
         called = checks.call("help", word)
-        checks.that("help " + word, called.status == 0 and called.out.startswith(b"usage: wozgrzyt " + word.encode()), called)
+        usage_of = b"usage: wozgrzyt " + word.encode()
+        checks.that("help " + word, called.status == 0 and called.out.startswith(usage_of), called)
     for arguments in (["day", "--help"], ["plan", "2", "-h"], ["map", "--svg", "--help"], ["import", "--help"]):
         called = checks.call(*arguments)
         checks.that(" ".join(arguments), called == (0, helping.TEXTS[arguments[0]].encode(), b""), called)
@@ -134,11 +154,13 @@ def check_help(checks):
 
 
 def check_version(checks):
-    """The version is the project's and the kit's."""
+    """The version is the project's, and the kit's identity is what `rt version` prints."""
     called = checks.call("--version")
-    lines = called.out.decode().splitlines()
-    named = lines[:1] == ["wozgrzyt " + stored("VERSION").decode().strip()]
-    checks.that("--version", called.status == 0 and named and len(lines) == 2 and "logic" in lines[1], called)
+    version, kit = called.out.decode().splitlines()
+    checks.that("--version", called.status == 0 and version == "wozgrzyt " + stored("VERSION").decode().strip(), called)
+    if shutil.which("rt"):
+        printed = subprocess.run(["rt", "version"], stdout=subprocess.PIPE, check=True).stdout.decode().strip()
+        checks.that("the kit's identity is '%s'" % kit, kit == printed, called)
 
 
 CHECKS = [check_mended, check_unmended, check_valid, check_meaning, check_help, check_version]

@@ -85,8 +85,9 @@ def check_documents(checks):
             in_c[int(number)].add(name)
     checks.that("docs/CALLS.md and the header name calls", any(given.values()) and any(in_c.values()))
     for number, row in REFUSALS.items():
-        checks.that("who gives refusal %d: %s" % (number, given[number]), set(row.givers[CALLS].split()) == given[number])
-        checks.that("who gives %d in C: %s" % (number, in_c[number]), set(row.givers[C_CALLS].split()) == in_c[number])
+        calls, functions = set(row.givers[CALLS].split()), set(row.givers[C_CALLS].split())
+        checks.that("who gives refusal %d: %s" % (number, given[number]), calls == given[number])
+        checks.that("who gives refusal %d in C: %s" % (number, in_c[number]), functions == in_c[number])
 
 
 def check_refusal(checks):

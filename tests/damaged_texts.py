@@ -5,6 +5,8 @@ SEVEN = stored("cases", "seven.case")
 LINES = SEVEN.splitlines(True)
 TIDY = "; 'wozgrzyt tidy' mends that"
 TAB_RULE = ": one tab separates two fields, and nothing else does"
+CR_RULE = "the line ends with a carriage return, as in CRLF: a line feed alone is wanted"
+AFTER_END = "follows 'end', which is to be the last line"
 CUT = "; its line feed is missing too, so that the text may be cut off"
 WORDS = ": the words are grid, bus, line, pmu and end"
 
@@ -44,11 +46,10 @@ WHOLE = [
     ("a byte order mark", b"\xef\xbb\xbf" + SEVEN, 2, 1, "line 1: the text begins with a byte order mark, which is no "
      r"part of a case text; the line is '\xef\xbb\xbfgrid\t7'" + TIDY),
     ("UTF-16", b"\xff\xfe" + SEVEN.decode().encode("utf-16-le"), 2, 1,
-     r"line 1: the text is in UTF-16, and plain ASCII is wanted; the line is '\xff\xfeg\x00r\x00i\x00d\x00\t\x007\x00'"),
-    ("CRLF", SEVEN.replace(b"\n", b"\r\n"), 2, 1, "line 1: the line ends with a carriage return, as in CRLF: a line feed "
-     r"alone is wanted; the line is 'grid\t7\r'" + TIDY),
-    ("CR alone", SEVEN.replace(b"\n", b"\r"), 2, 1, "line 1: there is a carriage return in the line: a line feed ends a "
-     r"line, and nothing else does" + CUT + r"; the line is 'grid\t7\rbus\t1\tI\tY\rbus\t2\tZ\tY\rbus'.."),
+     "line 1: the text is in UTF-16, and plain ASCII is wanted" + quote(r"\xff\xfeg\x00r\x00i\x00d\x00\t\x007\x00")),
+    ("CRLF", SEVEN.replace(b"\n", b"\r\n"), 2, 1, "line 1: " + CR_RULE + quote(r"grid\t7\r") + TIDY),
+    ("CR alone", SEVEN.replace(b"\n", b"\r"), 2, 1, "line 1: there is a carriage return in the line: a line feed ends "
+     "a line, and nothing else does" + CUT + r"; the line is 'grid\t7\rbus\t1\tI\tY\rbus\t2\tZ\tY\rbus'.."),
     ("blanks for tabs", SEVEN.replace(b"\t", b" "), 2, 1,
      "line 1: there are blanks in the line" + TAB_RULE + quote("grid 7") + TIDY),
     ("a line feed first", b"\n" + SEVEN, 2, 1, "line 1: the line is empty" + TIDY),
@@ -80,15 +81,14 @@ MISSING = [
      r"line 9: the line feed at the end of the line is missing; the line is 'line\t1\t2'" + TIDY),
     ("half of 'end'", SEVEN[:-2], 2, 16, "line 16: no record begins with 'en'" + WORDS + CUT + quote("en")),
     ("a unit after 'end'", SEVEN + b"pmu\t4\n", 2, 17,
-     "line 17: something follows 'end', which is to be the last line" + quote(r"pmu\t4")),
-    ("'end' twice", SEVEN + b"end\n", 2, 17, "line 17: something follows 'end', which is to be the last line; the line "
-     "is 'end'"),
+     "line 17: something " + AFTER_END + quote(r"pmu\t4")),
+    ("'end' twice", SEVEN + b"end\n", 2, 17, "line 17: something " + AFTER_END + quote("end")),
     ("an empty line after 'end'", SEVEN + b"\n", 2, 17,
-     "line 17: an empty line follows 'end', which is to be the last line" + TIDY),
+     "line 17: an empty line " + AFTER_END + TIDY),
     ("an empty line and more after 'end'", SEVEN + b"\npmu\t4\n", 2, 17,
-     "line 17: an empty line follows 'end', which is to be the last line"),
+     "line 17: an empty line " + AFTER_END),
     ("a byte after 'end'", SEVEN + b"\x1a", 2, 17,
-     "line 17: something follows 'end', which is to be the last line" + quote(r"\x1a")),
+     "line 17: something " + AFTER_END + quote(r"\x1a")),
 ]
 
 # of the form of one line
@@ -96,8 +96,7 @@ FORM = [
     ("an empty line", put(9, b"\n", LINES[8]), 2, 9, "line 9: the line is empty" + TIDY),
     ("a line of blanks", put(9, b" \t \n", LINES[8]), 2, 9,
      r"line 9: there are only blanks in the line; the line is ' \t '" + TIDY),
-    ("CR at one line", put(4, b"bus\t3\tZ\tY\r\n"), 2, 4, "line 4: the line ends with a carriage return, as in CRLF: a line "
-     r"feed alone is wanted; the line is 'bus\t3\tZ\tY\r'" + TIDY),
+    ("CR at one line", put(4, b"bus\t3\tZ\tY\r\n"), 2, 4, "line 4: " + CR_RULE + quote(r"bus\t3\tZ\tY\r") + TIDY),
     ("a blank at the end", put(4, b"bus\t3\tZ\tY \n"), 2, 4,
      "line 4: there are blanks in the line" + TAB_RULE + quote(r"bus\t3\tZ\tY ") + TIDY),
     ("blanks and a bad class", put(4, b"bus 3 Q Y\n"), 2, 4,
@@ -141,13 +140,14 @@ FORM = [
     ("a negative number", put(15, b"pmu\t-3\n"), 2, 15, "line 15: '-3' is no number" + quote(r"pmu\t-3")),
     ("an empty number", put(15, b"pmu\t\n"), 2, 15, "line 15: a number is missing: its field is empty" + quote(
         r"pmu\t")),
-    ("a quote and a backslash", put(15, b"pmu\t'\\\n"), 2, 15, r"line 15: '\'\\' is no number; the line is 'pmu\t\'\\'"),
+    ("a quote and a backslash", put(15, b"pmu\t'\\\n"), 2, 15,
+     r"line 15: '\'\\' is no number; the line is 'pmu\t\'\\'"),
     ("'grid' again", put(2, b"grid\t7\n", LINES[1]), 2, 2,
      "line 2: 'grid' is here again: it is the first line, and no other" + quote(r"grid\t7")),
     ("a bus after the lines", put(16, b"bus\t8\tI\tY\n", LINES[15]), 2, 16,
      "line 16: there is a bus too many: 'grid' says 7, and all were read" + quote(r"bus\t8\tI\tY")),
-    ("a line after a unit", put(16, b"line\t6\t7\n", LINES[15]), 2, 16, "line 16: a 'line' comes after a 'pmu': every line "
-     "comes before the first pmu" + quote(r"line\t6\t7")),
+    ("a line after a unit", put(16, b"line\t6\t7\n", LINES[15]), 2, 16,
+     "line 16: a 'line' comes after a 'pmu': every line comes before the first pmu" + quote(r"line\t6\t7")),
 ]
 
 # of ranges and of order
@@ -172,8 +172,8 @@ NUMBERS = [
      "joins bus 1 to itself" + quote(r"line\t1\t1")),
     ("a line twice", put(10, LINES[8], LINES[9]), 4, 10, "line 10: the line of buses 1 and 2 is here again" + quote(
         r"line\t1\t2")),
-    ("a line twice, turned", put(11, b"line\t2\t1\n"), 4, 11, "line 11: the line of buses 1 and 2 is here again" + quote(
-        r"line\t2\t1")),
+    ("a line twice, turned", put(11, b"line\t2\t1\n"), 4, 11,
+     "line 11: the line of buses 1 and 2 is here again" + quote(r"line\t2\t1")),
     ("a line too late", put(11, LINES[10], b"line\t1\t7\n"), 4, 12,
      "line 12: the line 1 7 comes after 3 4: lines rise by a, and then by b" + quote(r"line\t1\t7") + TIDY),
     ("a unit twice", put(15, LINES[14], LINES[14]), 4, 16, "line 16: the unit at bus 3 is here again" + quote(
