@@ -82,8 +82,8 @@
  * TIME
  *
  * wz_observed, wz_unconfirmed and wz_replay take some microseconds: docs/SPEED.md has figures.
- * wz_fewest searches. The search is exponential in the worst case; docs/SPEED.md says the worst times seen. It cannot be
- * interrupted, so a caller who must not wait asks it in a process of its own.
+ * wz_fewest searches. The search is exponential in the worst case; docs/SPEED.md says the worst times seen. It cannot
+ * be interrupted, so a caller who must not wait asks it in a process of its own.
  *
  * EXAMPLE
  *
