@@ -98,7 +98,7 @@ def find_header(lines, header, name):
     """The number of the line with this header, which is there once."""
     found = [number for number, line in enumerate(lines, 1) if header.match(line)]
     if not found:
-        raise Damaged(max(len(lines), 1), "the file ends, and there was no '%s DATA FOLLOWS'" % name)
+        raise Damaged(len(lines), "the file ends, and there was no '%s DATA FOLLOWS'" % name)
     if len(found) > 1:
         raise Damaged(found[1], "'%s DATA FOLLOWS' is there a second time" % name)
     return found[0]

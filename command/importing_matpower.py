@@ -256,11 +256,12 @@ def add_branches(grid, rows, isolated):
 
 
 def read(text):
-    reader = Reader(lines_of(text)).read()
+    lines = lines_of(text)
+    reader = Reader(lines).read()
     matrices = reader.matrices
     for name in ("bus", "gen", "branch"):
         if name not in matrices:
-            raise Damaged(max(len(lines_of(text)), 1), "the file ends, and there was no matrix '%s'" % name)
+            raise Damaged(len(lines), "the file ends, and there was no matrix '%s'" % name)
     buses = matrices["bus"]
     if not buses:
         raise Damaged(1, "the matrix 'bus' has no row")
