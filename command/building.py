@@ -78,18 +78,23 @@ def one_at_a_time():
     try:
         os.makedirs(places.target(), exist_ok=True)
         file = os.open(places.lock(), os.O_RDWR | os.O_CREAT, 0o666)
+        lock(file)
     except OSError as error:
         reason = places.target(), error.strerror
         raise Stop("a program is to be built, and %s cannot be written: %s" % reason) from None
     try:
-        try:
-            fcntl.flock(file, fcntl.LOCK_EX | fcntl.LOCK_NB)
-        except BlockingIOError:
-            say("another call is building; waiting for it")
-            fcntl.flock(file, fcntl.LOCK_EX)
         yield
     finally:
         os.close(file)
+
+
+def lock(file):
+    """Locks an open file, and waits if another call has it."""
+    try:
+        fcntl.flock(file, fcntl.LOCK_EX | fcntl.LOCK_NB)
+    except BlockingIOError:
+        say("another call is building; waiting for it")
+        fcntl.flock(file, fcntl.LOCK_EX)
 
 
 def build(name):
@@ -97,15 +102,15 @@ def build(name):
     say("proving and building the program '%s', some minutes the first time" % name)
     new = places.stamp(name) + ".new"
     try:
-        open(new, "w").close()
+        open(new, "wb").close()
         began = os.stat(new).st_mtime_ns
         if not os.path.exists(places.program(name)):
             forget(name)
         status = prove(name)
         if status != 0 or not os.access(places.program(name), os.X_OK):
             raise Stop("the program '%s' could not be proved and built" % name)
-        with open(new, "w") as file:
-            file.write(kit() + "\n")
+        with open(new, "wb") as file:
+            file.write(kit().encode() + b"\n")
         os.utime(new, ns=(began, began))
         os.replace(new, places.stamp(name))
     except OSError as error:

@@ -132,8 +132,11 @@ def version(arguments):
             lines = file.read().splitlines()
     except OSError as error:
         raise Stop("the version cannot be read: %s: %s" % (places.version(), error.strerror)) from None
-    kit = " ".join(lines[1:2]) if places.is_installed() else kit_here()
-    return show_text("wozgrzyt %s\n%s\n" % (" ".join(lines[:1]), kit or "the kit is not known: rt is not on the PATH"))
+    if places.is_installed():
+        kit = " ".join(lines[1:2]) or "the kit is not known"
+    else:
+        kit = kit_here() or "the kit is not known: rt is not on the PATH"
+    return show_text("wozgrzyt %s\n%s\n" % (" ".join(lines[:1]), kit))
 
 
 def kit_here():

@@ -29,7 +29,7 @@ def hold_streams():
 
 def say(words):
     """Writes a line of words on standard error. If it cannot be written, nobody is there to be told."""
-    murmur("wozgrzyt: " + words + "\n")
+    murmur("wozgrzyt: " + words.replace("\n", " ") + "\n")
 
 
 def murmur(characters):

@@ -112,7 +112,7 @@ def check_rt_surroundings(checks):
         checkout.edit("crates.txt")
         called = checkout.call("day", text=ONE_BUS, cwd="/", env=checkout.surroundings(CDPATH="/", TMPDIR=room))
         checks.that("TMPDIR=%s in a path with blanks" % room, called[:2] == (0, REPLY), called)
-        with open(checkout.at("seen")) as file:
+        with open(checkout.at("seen"), encoding="utf-8") as file:
             seen = file.read().splitlines()[-1]
         checks.that("what rt has: " + seen, seen == "%s|none|%s|" % (checkout.home, wanted))
 

@@ -18,7 +18,7 @@ def wait_for(path):
     """The number that a process writes into a file."""
     for _ in range(1000):
         if os.path.exists(path):
-            with open(path) as file:
+            with open(path, encoding="utf-8") as file:
                 return int(file.read())
         time.sleep(0.01)
     raise TimeoutError(path)
@@ -28,7 +28,7 @@ def is_running(number):
     """Whether a process runs; after its end it may wait for a moment to be collected."""
     for _ in range(200):
         try:
-            with open("/proc/%d/stat" % number) as file:
+            with open("/proc/%d/stat" % number, encoding="utf-8") as file:
                 if file.read().rsplit(")", 1)[1].split()[0] == "Z":
                     return False
         except OSError:

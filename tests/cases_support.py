@@ -139,7 +139,7 @@ class Checkout:
 
     def edit(self, name):
         """Changes a source."""
-        with open(self.at(name), "a") as file:
+        with open(self.at(name), "a", encoding="utf-8") as file:
             file.write("changed\n")
 
     def program(self, script):
@@ -164,7 +164,7 @@ class Checkout:
         """What rt was asked to build so far, with its begin and end."""
         if not os.path.exists(self.at("calls")):
             return []
-        with open(self.at("calls")) as file:
+        with open(self.at("calls"), encoding="utf-8") as file:
             return [line for line in file.read().splitlines() if line.split()[0] in ("begin", "end")]
 
 

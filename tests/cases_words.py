@@ -55,8 +55,8 @@ def check_every_damage(checks):
         try:
             read_case(text)
             continue
-        except Refused as refused:
-            number, place = refused.args
+        except Refused as no:
+            number, place = no.args
         words = explain(number, place, text)
         planned = explain(number, place and place + 1, text, b"plan\n")
         count += 1
