@@ -13,10 +13,12 @@ from command.importing_grid import Damaged, Grid, figure, lines_of, shown
 WIDTHS = {"bus": 13, "gen": 10, "branch": 11, "dcline": 3}
 NAMES = "bus_name"
 
-# The columns of a bus row that must be zero at a bus of class Z, and those of the status.
-BUS_TYPE, BUS_FIGURES, LOAD_BUS = 1, (2, 3, 4, 5), 1
+# Columns, counted from 0: a bus's type, the figures that are all zero at a bus of class Z, a branch's status.
+BUS_TYPE, BUS_FIGURES = 1, (2, 3, 4, 5)
 BRANCH_STATUS = 10
-ISOLATED = 4
+
+# Types of a bus: a load or nothing, and one that is out of service.
+LOAD_BUS, ISOLATED = 1, 4
 MOST_NUMBER = 999999999
 
 LOOKS_LIKE = re.compile(r"^\s*(function\b|(\w+\s*\.\s*)?(bus|branch)\s*=\s*\[)", re.MULTILINE)
@@ -25,6 +27,8 @@ BLOCK_OPENS, BLOCK_CLOSES = re.compile(r"\s*%\{\s*"), re.compile(r"\s*%\}\s*")
 STRING = {"'": re.compile(r"'((?:[^']|'')*)'"), '"': re.compile(r'"((?:[^"]|"")*)"')}
 FIELD = re.compile(r"^\w+\.(?=\w+$)")
 PAIRS = {"[": "]", "{": "}", "(": ")"}
+OPENING, CLOSING = "[{(", "]})"
+SCALING = "/", "*", "./", ".*"
 PROGRAM_WORDS = {"if", "for", "while", "switch", "try", "parfor"}
 
 
@@ -40,8 +44,11 @@ class Token:
         self.text = text
         self.line = line
 
+    def is_mark(self, marks):
+        return self.kind == "mark" and self.text in marks
+
     def ends_statement(self):
-        return self.kind == "line end" or self.kind == "mark" and self.text in ";,"
+        return self.kind == "line end" or self.is_mark(";,")
 
 
 def is_transpose(line, at):
@@ -88,9 +95,9 @@ def within(tokens, opening):
     """The tokens after an opened bracket, up to the one that closes it."""
     awaited = [PAIRS[opening.text]]
     for token in tokens:
-        if token.kind == "mark" and token.text in PAIRS:
+        if token.is_mark(OPENING):
             awaited.append(PAIRS[token.text])
-        elif token.kind == "mark" and token.text in PAIRS.values():
+        elif token.is_mark(CLOSING):
             if token.text != awaited.pop():
                 raise Damaged(token.line, "'%s' closes no bracket that is open" % token.text)
             if not awaited:
@@ -118,9 +125,9 @@ def rows_of(tokens, name):
     """The rows of a matrix of numbers, from the tokens within its brackets."""
     rows, row = [], None
     for token in tokens:
-        if token.kind == "line end" or token.kind == "mark" and token.text == ";":
+        if token.kind == "line end" or token.is_mark(";"):
             row = None
-        elif token.kind == "mark" and token.text == ",":
+        elif token.is_mark(","):
             continue
         else:
             if row is None:
@@ -151,25 +158,39 @@ class Reader:
     def __init__(self, lines):
         self.matrices = {}
         self.names = None
+        self.wholes = set()
         self.tokens = tokens_of(lines)
 
     def read(self):
         for token in self.tokens:
             if token.kind == "word" and token.text in PROGRAM_WORDS:
                 raise Damaged(token.line, "'%s' is a program, and import reads matrices only" % token.text)
-            if token.kind == "word" and token.text != "function":
+            if token.is_mark("["):
+                self.check_several(token)
+            elif token.kind == "word" and token.text != "function":
                 self.read_statement(token)
             elif not token.ends_statement():
                 self.pass_over(token)
         return self
 
+    def check_several(self, opening):
+        """`[x, y] = f(z)`: none of the names on the left is a matrix that is read."""
+        for token in within(self.tokens, opening):
+            self.check_unchanged(token.line, FIELD.sub("", token.text))
+        self.pass_over(next(self.tokens, None))
+
+    def check_unchanged(self, line, name):
+        """What a matrix is part of, or is, does not get another value."""
+        if name in WIDTHS or name in self.wholes:
+            raise Damaged(line, "'%s' is changed by a program, and import reads matrices only" % name)
+
     def read_statement(self, first):
         """A statement that begins with a word: perhaps `mpc.bus = [`."""
         name = FIELD.sub("", first.text)
         second = next(self.tokens, None)
-        if second is not None and second.text == "=" and second.kind == "mark":
+        if second is not None and second.is_mark("="):
             self.read_value(first, name)
-        elif second is not None and second.kind == "mark" and second.text == "(" and name in WIDTHS:
+        elif second is not None and second.is_mark("(") and name in WIDTHS:
             self.check_scaling(first, name, second)
         elif second is not None and not second.ends_statement():
             self.pass_over(second)
@@ -177,18 +198,18 @@ class Reader:
     def read_value(self, first, name):
         """The right side of `name =`."""
         value = next(self.tokens, None)
-        wanted = name in WIDTHS or name == NAMES
         if value is None or value.ends_statement():
-            raise Damaged(first.line, "nothing follows '%s ='" % first.text)
-        if not wanted:
+            raise Damaged(first.line, "nothing follows %s =" % shown(first.text))
+        if name not in WIDTHS and name != NAMES:
+            self.check_unchanged(first.line, first.text)
             self.pass_over(value)
             return
         if name in self.matrices or name == NAMES and self.names is not None:
             raise Damaged(first.line, "'%s' is there a second time" % name)
         bracket = "{" if name == NAMES else "["
-        if value.kind != "mark" or value.text != bracket:
-            raise Damaged(value.line, "%s follows '%s =', and '%s' is wanted" % (
-                shown(value.text), first.text, bracket))
+        if not value.is_mark(bracket):
+            raise Damaged(value.line, "%s follows '%s =', and '%s' is wanted" % (shown(value.text), name, bracket))
+        self.wholes.update(first.text.split(".")[:-1])
         if name == NAMES:
             self.names = [token.text for token in within(self.tokens, value) if token.kind == "string"]
         else:
@@ -201,20 +222,19 @@ class Reader:
             raise Damaged(token.line, "%s follows the end of '%s'" % (shown(token.text), name))
 
     def check_scaling(self, first, name, opening):
-        """`bus(x) = bus(x) / y` and `bus(x) = bus(x) * y` keep what is zero. Other changes are a program."""
-        written = first.text + "(" + self.rest_of_statement(opening)
-        sides = written.split("=")
-        if len(sides) != 2 or not sides[1].startswith((sides[0] + "/", sides[0] + "*")):
-            raise Damaged(first.line, "'%s' is changed by a program, and import reads matrices only" % name)
+        """`bus(x) = bus(x) / y`, and with another of SCALING, keeps what is zero. Other changes are a program."""
+        sides = (first.text + "(" + self.rest_of_statement(opening)).split("=")
+        if len(sides) != 2 or not sides[1].startswith(tuple(sides[0] + sign for sign in SCALING)):
+            self.check_unchanged(first.line, name)
 
     def rest_of_statement(self, opening):
         """The tokens of the rest of a statement, without blanks."""
         texts = []
         depth = 1
         for token in self.tokens:
-            if token.kind == "mark" and token.text in PAIRS:
+            if token.is_mark(OPENING):
                 depth += 1
-            elif token.kind == "mark" and token.text in PAIRS.values():
+            elif token.is_mark(CLOSING):
                 depth -= 1
             elif depth == 0 and token.ends_statement():
                 return "".join(texts)
@@ -226,10 +246,10 @@ class Reader:
     def pass_over(self, token):
         """The rest of a statement that import does not need, from this token."""
         while token is not None and not token.ends_statement():
-            if token.kind == "mark" and token.text in PAIRS:
+            if token.is_mark(OPENING):
                 for _ in within(self.tokens, token):
                     pass
-            elif token.kind == "mark" and token.text in PAIRS.values():
+            elif token.is_mark(CLOSING):
                 raise Damaged(token.line, "'%s' closes no bracket that is open" % token.text)
             token = next(self.tokens, None)
 

@@ -51,5 +51,5 @@ mpc.bus_name = {
 Vbase = mpc.bus(1, 10)' * 1e3;      % in Volts
 mpc.bus(:, [PD, QD]) = mpc.bus(:, [PD, QD]) / 1e3;
 mpc.branch(:, [3 4]) = ...
-    mpc.branch(:, [3 4]) * (Vbase^2 / 1e6);
+    mpc.branch(:, [3 4]) .* (Vbase^2 / 1e6);
 return;
