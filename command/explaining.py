@@ -1,4 +1,6 @@
 """Says a refusal in words. Its number and its place are the proved program's; only the words are made here."""
+import itertools
+
 from command import records
 from command.reading import MOST_BYTES
 from command.records import Mendable
@@ -53,7 +55,7 @@ def of_line(number, case, lines, at, is_open):
     if case.ended:
         return after_end(line, later)
     if number == 2:
-        return of_form(case, line, at == 1, is_open)
+        return of_form(case, line, later, at == 1, is_open)
     word, *fields = line.split(b"\t")
     if word == b"bus" and number == 4:
         return of_next_bus(case, int(fields[0]), later)
@@ -82,31 +84,56 @@ def missing_bus(case):
     return "bus %d is missing: %d of %d were read" % (len(case.buses) + 1, len(case.buses), case.n)
 
 
-def of_form(case, line, first, is_open):
+def of_form(case, line, later, first, is_open):
     """Refusal 2 at a line that is there."""
-    wrong = records.wrong_bytes(line, first) or records.wrong_word(line) or misplaced(case, line)
+    wrong = records.wrong_bytes(line, first) or records.wrong_word(line) or misplaced(case, line, later)
     wrong = wrong or records.wrong_fields(line)
     if not is_open:
         return wrong
     if wrong:
         return wrong + "; its line feed is missing too, so that the text may be cut off"
-    return Mendable("the line feed at the end of the line is missing")
+    if line == b"end":
+        return Mendable("the line feed at the end of the line is missing")
+    return "the text breaks off: the line feed at the end of the line is missing, and so is 'end'"
 
 
-def misplaced(case, line):
-    """What is wrong with the place of a record with this word, in words; None if nothing is."""
+def misplaced(case, line, later):
+    """What is wrong with the place of a record with this word, in words; None if nothing is.
+
+    The lines after it say whether the record that is wanted here comes too late or is missing.
+    """
     word = line.split(b"\t")[0].decode()
     if case.n is None:
-        return None if word == "grid" else "'grid n' is missing: it comes before any '%s'" % word
+        return None if word == "grid" else late_grid(word, later)
     if word == "grid":
         return "'grid' is here again: it is the first line, and no other"
     if len(case.buses) < case.n:
-        return None if word == "bus" else missing_bus(case) + " before this '%s'" % word
+        return None if word == "bus" else late_bus(case, word, later)
     if word == "bus":
         return "there is a bus too many: 'grid' says %d, and all were read" % case.n
     if word == "line" and case.units:
-        return "a 'line' comes after a 'pmu': every line comes before the first pmu"
+        return Mendable("a 'line' comes after a 'pmu': every line comes before the first pmu")
     return None
+
+
+def late_grid(word, later):
+    """What is wrong if the first line has another word than `grid`."""
+    if word != "end" and comes(b"grid\t", later):
+        return Mendable("'grid' comes after a '%s': it is the first line" % word)
+    return "'grid n' is missing: it comes before any '%s'" % word
+
+
+def late_bus(case, word, later):
+    """What is wrong if another record comes before the last bus."""
+    wanted = len(case.buses) + 1
+    if word != "end" and comes(b"bus\t%d\t" % wanted, later):
+        return Mendable("bus %d comes after a '%s': every bus comes before it" % (wanted, word))
+    return missing_bus(case) + " before this '%s'" % word
+
+
+def comes(start, later):
+    """Whether one of the later lines, up to `end`, begins like this."""
+    return any(line.startswith(start) for line in itertools.takewhile(lambda line: line != b"end", later))
 
 
 def of_range(case, word, numbers):
@@ -138,7 +165,7 @@ def of_next_bus(case, number, later):
     wanted = len(case.buses) + 1
     if number < wanted:
         return "bus %d is here again: bus %d is the next" % (number, wanted)
-    if any(line.startswith(b"bus\t%d\t" % wanted) for line in later):
+    if comes(b"bus\t%d\t" % wanted, later):
         return Mendable("bus %d comes after bus %d: buses rise by one" % (wanted, number))
     return missing_bus(case) + " before this bus %d" % number
 

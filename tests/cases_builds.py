@@ -108,9 +108,11 @@ def check_rt_surroundings(checks):
     """rt runs at the checkout's top, without CDPATH and without a TMPDIR that cannot be used, with nothing to read."""
     checkout = Checkout(checks, "a path with blanks")
     checkout.rt_does('echo "$PWD|${CDPATH-none}|${TMPDIR-none}|$(cat)" >>seen\n')
+    case = write(checkout.at("one bus.case"), ONE_BUS)
     for room, wanted in (("/absent", "none"), (checks.room, checks.room)):
         checkout.edit("crates.txt")
-        called = checkout.call("day", text=ONE_BUS, cwd="/", env=checkout.surroundings(CDPATH="/", TMPDIR=room))
+        surroundings = checkout.surroundings(CDPATH="/", TMPDIR=room)
+        called = checkout.call("day", case, text=b"not for rt", cwd="/", env=surroundings)
         checks.that("TMPDIR=%s in a path with blanks" % room, called[:2] == (0, REPLY), called)
         with open(checkout.at("seen"), encoding="utf-8") as file:
             seen = file.read().splitlines()[-1]

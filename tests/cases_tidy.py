@@ -5,6 +5,7 @@ import random
 import shutil
 import subprocess
 
+import damaged_texts
 from cases_support import TOP, stored
 from command import helping, tidying
 
@@ -79,6 +80,13 @@ def fault(text):
     except tidying.Unmendable as found:
         return str(found)
     return None
+
+
+def check_hints(checks):
+    """The words of a refusal say that tidy mends it exactly if it does."""
+    for name, text, _, _, words in damaged_texts.DAMAGED:
+        said = fault(text)
+        checks.that("%s: %s; tidy says: %s" % (name, words, said), words.endswith(damaged_texts.TIDY) == (said is None))
 
 
 def check_unmended(checks):
@@ -163,4 +171,4 @@ def check_version(checks):
         checks.that("the kit's identity is '%s'" % kit, kit == printed, called)
 
 
-CHECKS = [check_mended, check_unmended, check_valid, check_meaning, check_help, check_version]
+CHECKS = [check_mended, check_hints, check_unmended, check_valid, check_meaning, check_help, check_version]

@@ -77,8 +77,8 @@ MISSING = [
     ("no 'end' after the buses", up_to(8), 2, 9, "line 9: 'end' is missing: the text ends here"),
     ("no last line feed", SEVEN[:-1], 2, 16, "line 16: the line feed at the end of the line is missing; the line is "
      "'end'" + TIDY),
-    ("no line feed after a line", up_to(8, b"line\t1\t2"), 2, 9,
-     r"line 9: the line feed at the end of the line is missing; the line is 'line\t1\t2'" + TIDY),
+    ("no line feed after a line", up_to(8, b"line\t1\t2"), 2, 9, "line 9: the text breaks off: the line feed at the "
+     "end of the line is missing, and so is 'end'" + quote(r"line\t1\t2")),
     ("half of 'end'", SEVEN[:-2], 2, 16, "line 16: no record begins with 'en'" + WORDS + CUT + quote("en")),
     ("a unit after 'end'", SEVEN + b"pmu\t4\n", 2, 17,
      "line 17: something " + AFTER_END + quote(r"pmu\t4")),
@@ -147,7 +147,14 @@ FORM = [
     ("a bus after the lines", put(16, b"bus\t8\tI\tY\n", LINES[15]), 2, 16,
      "line 16: there is a bus too many: 'grid' says 7, and all were read" + quote(r"bus\t8\tI\tY")),
     ("a line after a unit", put(16, b"line\t6\t7\n", LINES[15]), 2, 16,
-     "line 16: a 'line' comes after a 'pmu': every line comes before the first pmu" + quote(r"line\t6\t7")),
+     "line 16: a 'line' comes after a 'pmu': every line comes before the first pmu" + quote(r"line\t6\t7")
+     + TIDY),
+    ("'grid' too late", LINES[1] + LINES[0] + b"".join(LINES[2:]), 2, 1,
+     "line 1: 'grid' comes after a 'bus': it is the first line" + quote(r"bus\t1\tI\tY") + TIDY),
+    ("a bus too late", put(9, b"").replace(LINES[7], LINES[8] + LINES[7]), 2, 8,
+     "line 8: bus 7 comes after a 'line': every bus comes before it" + quote(r"line\t1\t2") + TIDY),
+    ("a bus after 'end'", without(8) + LINES[7], 2, 8,
+     "line 8: bus 7 is missing: 6 of 7 were read before this 'line'" + quote(r"line\t1\t2")),
 ]
 
 # of ranges and of order
