@@ -41,7 +41,8 @@ $(ARCHIVE): $(SOURCES)
 	rt version >target/kit
 
 # The list lib/wozgrzyt/files has what an install made, below the prefix: files, and folders with a slash at the end.
-# Installing again keeps the folders of the list before, and removes the files that are no longer part of it.
+# Installing again keeps the folders of the list before, and removes the files that are no longer part of it. An install
+# that fails adds to the list what it made until then, so that uninstall can remove it.
 install:
 	@for made in $(PROGRAMS) $(ARCHIVE); do
 	    [ -e "$$made" ] && [ -z "$$(find crates crates.txt -type f -newer "$$made")" ] || {
@@ -52,11 +53,11 @@ install:
 	root=$$DESTDIR$$PREFIX
 	[ -n "$$root" ] || { echo "make: PREFIX is empty" >&2; exit 2; }
 	list=lib/wozgrzyt/files
+	before=$$root/$$list
 	new=$$(mktemp)
-	trap 'rm -f "$$new"' EXIT
+	trap '{ cat "$$new" >>"$$before"; } 2>/dev/null || :; rm -f "$$new"' EXIT
 	[ -e "$$root" ] || echo ./ >>"$$new"
 	mkdir -p -m 755 -- "$$root"
-	before=$$root/$$list
 	[ ! -e "$$before" ] || sed -n '/\/$$/p' "$$before" >>"$$new"
 
 	# folder PATH: makes the folders of a path below the prefix that are not there.
@@ -82,6 +83,8 @@ install:
 	    echo "$$1" >>"$$new"
 	}
 
+	folder lib/wozgrzyt
+	echo "$$list" >>"$$new"
 	put 755 wozgrzyt bin/wozgrzyt
 	for file in command/*.py; do put 644 "$$file" "lib/wozgrzyt/$$file"; done
 	for program in $(PROGRAMS); do put 755 "$$program" "lib/wozgrzyt/bin/$${program##*/}"; done
@@ -118,8 +121,8 @@ install:
 	        *) grep -qxF -- "$$path" "$$new" || rm -f -- "$$root/$$path" ;;
 	    esac
 	done <"$$before"
-	echo "$$list" >>"$$new"
 	install -m 644 -- "$$new" "$$before"
+	trap 'rm -f "$$new"' EXIT
 	echo "wozgrzyt is installed in $$root"
 
 uninstall:
