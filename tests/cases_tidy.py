@@ -6,8 +6,12 @@ import shutil
 import subprocess
 
 import damaged_texts
+import texts
 from cases_support import TOP, stored
 from command import helping, tidying
+from command.explaining import explain
+from reference import Refused
+from reference_texts import read_case
 
 SEVEN = stored("cases", "seven.case")
 COMMANDS = "day", "plan", "map", "tidy", "import", "refusal"
@@ -87,6 +91,23 @@ def check_hints(checks):
     for name, text, _, _, words in damaged_texts.DAMAGED:
         said = fault(text)
         checks.that("%s: %s; tidy says: %s" % (name, words, said), words.endswith(damaged_texts.TIDY) == (said is None))
+
+
+def check_drawn_damage(checks):
+    """What tidy makes of a damaged text is a case text, and the words of its refusal said that tidy mends it."""
+    known, rng, wrong, count = texts.texts(), random.Random(16), [], 0
+    for text in texts.damaged(known["seven"], 8192, rng, 100):
+        try:
+            read_case(text)
+            continue
+        except Refused as no:
+            words = explain(*no.args, text)
+        if fault(text) is None:
+            count += 1
+            read_case(tidying.tidy(text)[0])
+            if not words.endswith(damaged_texts.TIDY):
+                wrong.append((text, words))
+    checks.that("%d drawn texts were mended, and the words did not say so: %s" % (count, wrong), count > 50 and not wrong)
 
 
 def check_unmended(checks):
@@ -171,4 +192,4 @@ def check_version(checks):
         checks.that("the kit's identity is '%s'" % kit, kit == printed, called)
 
 
-CHECKS = [check_mended, check_hints, check_unmended, check_valid, check_meaning, check_help, check_version]
+CHECKS = [check_mended, check_hints, check_drawn_damage, check_unmended, check_valid, check_meaning, check_help, check_version]
