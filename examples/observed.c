@@ -19,12 +19,12 @@ static int read_case(const char *path, uint8_t *text)
         return -1;
     }
     size_t length = fread(text, 1, ROOM, file);
-    int failed = ferror(file) ? errno : 0;
-    fclose(file);
-    if (failed != 0) {
-        fprintf(stderr, "observed: %s: %s\n", path, strerror(failed));
+    if (ferror(file)) {
+        fprintf(stderr, "observed: %s: %s\n", path, strerror(errno));
+        fclose(file);
         return -1;
     }
+    fclose(file);
     return (int)length;
 }
 
