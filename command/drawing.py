@@ -7,9 +7,11 @@ import shutil
 from command.running import run
 from command.speaking import Stop
 
-OBSERVED = 'style="filled" fillcolor="#1f5f8b" color="#1f5f8b" fontcolor="white"'
-WITH_UNIT = 'style="filled" fillcolor="#0b2233" color="#0b2233" fontcolor="white" peripheries=2'
-DARK = 'style="dashed" color="#c0392b" fontcolor="#c0392b" penwidth=2'
+BLUE, BLACK, RED = "#1f5f8b", "#0b2233", "#c0392b"
+FILLED = 'style="filled" fillcolor="{0}" color="{0}" fontcolor="white"'
+OBSERVED = FILLED.format(BLUE)
+WITH_UNIT = FILLED.format(BLACK) + " peripheries=2"
+DARK = 'style="dashed" color="{0}" fontcolor="{0}" penwidth=2'.format(RED)
 SHAPES = {"I": 'shape="circle"', "Z": 'shape="diamond" width=0.62 height=0.62'}
 NO_SITE, NOT_CONFIRMED = "N", "?"
 HEAD = """\
@@ -20,9 +22,9 @@ graph "wozgrzyt" {
   edge [color="#777777" penwidth=1.3]
 """
 LEGEND = [
-    ('BGCOLOR="#1f5f8b" BORDER="0"', " ", "observed"),
-    ('STYLE="dashed" COLOR="#c0392b" BORDER="2"', " ", "dark"),
-    ('BGCOLOR="#0b2233" BORDER="0"', " ", "observed, with a unit (double border)"),
+    ('BGCOLOR="%s" BORDER="0"' % BLUE, " ", "observed"),
+    ('STYLE="dashed" COLOR="%s" BORDER="2"' % RED, " ", "dark"),
+    ('BGCOLOR="%s" BORDER="0"' % BLACK, " ", "observed, with a unit (double border)"),
     ('BORDER="0"', "&#9671;", "class Z, zero injection (diamond)"),
     ('BORDER="0"', "&#9675;", "class I (circle)"),
     ('BORDER="0"', NO_SITE, "no new unit may be put here (site N)"),

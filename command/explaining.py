@@ -2,12 +2,10 @@
 import itertools
 
 from command import records
-from command.reading import MOST_BYTES
+from command.limits import MOST_BUDGET, MOST_BUSES, MOST_BYTES, MOST_LINES
 from command.records import Mendable
 from command.refusals import REFUSALS
 from command.speaking import counted, quoted
-
-MOST_BUSES, MOST_LINES, MOST_BUDGET = 64, 256, 8
 
 
 def explain(number, place, text, plan_line=b""):

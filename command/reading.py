@@ -1,9 +1,8 @@
 """Reads the case text that a call names."""
 import os
 
+from command.limits import MOST_BYTES
 from command.speaking import CLOSED, Stop, named, say
-
-MOST_BYTES = 8192
 
 
 def read_text(name, most=MOST_BYTES + 1):

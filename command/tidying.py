@@ -1,11 +1,12 @@
 """Puts a case text right that is nearly right, without changing what it says of the grid."""
 from command import programs, records
-from command.explaining import MOST_BUSES, MOST_LINES, explain
+from command.explaining import explain
+from command.limits import MOST_BUSES, MOST_LINES
 from command.reading import read_text
 from command.reporting import one_case
 from command.speaking import counted, quoted, say, show
 
-MOST_BYTES = 65536
+MOST_UNTIDY_BYTES = 65536
 BLANKS = b" \t\r"
 ORDER = [b"grid", b"bus", b"line", b"pmu", b"end"]
 
@@ -16,7 +17,7 @@ class Unmendable(Exception):
 
 def main(arguments):
     """Prints the case text put right, and says what was changed. Answers 0, or 1 if something else is wrong with it."""
-    text, said = read_text(one_case("tidy", arguments), MOST_BYTES + 1)
+    text, said = read_text(one_case("tidy", arguments), MOST_UNTIDY_BYTES + 1)
     words = programs.words_of("day")
     try:
         tidied, changes = (text, []) if is_valid(text, words) else tidy(text)
@@ -39,8 +40,8 @@ def is_valid(text, words):
 
 def tidy(text):
     """The text put right, and what was changed, in words."""
-    if len(text) > MOST_BYTES:
-        raise Unmendable("the text is over %s, too long for a case text" % counted(MOST_BYTES, "byte"))
+    if len(text) > MOST_UNTIDY_BYTES:
+        raise Unmendable("the text is over %s, too long for a case text" % counted(MOST_UNTIDY_BYTES, "byte"))
     changes = []
     rows = fields_of(text, changes)
     check_forms(rows)

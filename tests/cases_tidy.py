@@ -107,7 +107,7 @@ def check_drawn_damage(checks):
             read_case(tidying.tidy(text)[0])
             if not words.endswith(damaged_texts.TIDY):
                 wrong.append((text, words))
-    checks.that("%d drawn texts were mended, and the words did not say so: %s" % (count, wrong), count > 50 and not wrong)
+    checks.that("%d texts were mended, and the words said so, but: %s" % (count, wrong), count > 50 and not wrong)
 
 
 def check_unmended(checks):
@@ -192,4 +192,6 @@ def check_version(checks):
         checks.that("the kit's identity is '%s'" % kit, kit == printed, called)
 
 
-CHECKS = [check_mended, check_hints, check_drawn_damage, check_unmended, check_valid, check_meaning, check_help, check_version]
+CHECKS = [
+    check_mended, check_hints, check_drawn_damage, check_unmended, check_valid, check_meaning, check_help, check_version,
+]

@@ -5,7 +5,7 @@ import re
 import damaged_texts
 import texts
 from cases_support import stored
-from command import programs
+from command import limits, programs
 from command.explaining import explain
 from command.refusals import C_CALLS, CALLS, PROGRAMS, REFUSALS
 from reference import Refused
@@ -90,6 +90,16 @@ def check_documents(checks):
         checks.that("who gives refusal %d in C: %s" % (number, in_c[number]), functions == in_c[number])
 
 
+def check_limits(checks):
+    """The limits are those of docs/CALLS.md."""
+    calls = stored("docs", "CALLS.md").decode()
+    rows = re.findall(r"\| ([0-9,]+) \| `(most[A-Z][A-Za-z]*)` \|$", calls, re.M)
+    known = {name: int(most.replace(",", "")) for most, name in rows}
+    for ours, theirs in [("MOST_BUSES", "mostBuses"), ("MOST_LINES", "mostLines"), ("MOST_BYTES", "mostBytes"),
+                         ("MOST_BUDGET", "mostBudget")]:
+        checks.that("%s is %s" % (ours, theirs), getattr(limits, ours) == known.get(theirs))
+
+
 def check_refusal(checks):
     """`refusal N` prints the row of the table, and `refusal` prints all."""
     everything = checks.call("refusal")
@@ -104,4 +114,6 @@ def check_refusal(checks):
     checks.that("the C function's own refusals", STEP_TEXT_REFUSALS < set(REFUSALS))
 
 
-CHECKS = [check_table, check_table_called, check_plan_line, check_every_damage, check_documents, check_refusal]
+CHECKS = [
+    check_table, check_table_called, check_plan_line, check_every_damage, check_documents, check_limits, check_refusal,
+]
