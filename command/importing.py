@@ -13,7 +13,7 @@ from command.reading import read_text
 from command.speaking import Misused, Stop, murmur, named, quoted, say, show_text
 
 WELL, DOES_NOT_FIT, WRONG = 0, 1, 2
-MOST_BYTES = 16 * 1024 * 1024
+MOST_FILE_BYTES = 16 * 1024 * 1024
 UNKNOWN = "neither a MATPOWER case ('mpc.bus = [') nor the IEEE common data format ('BUS DATA FOLLOWS')"
 
 
@@ -61,9 +61,9 @@ def write_names(grid, names, source):
 
 def import_file(name, names):
     """Reads the file, and writes the case text and the side table. Answers the status."""
-    content, spoken = read_text(name, MOST_BYTES + 1)
-    if len(content) > MOST_BYTES:
-        raise Stop("{}: it has over {:,} bytes".format(spoken, MOST_BYTES))
+    content, spoken = read_text(name, MOST_FILE_BYTES + 1)
+    if len(content) > MOST_FILE_BYTES:
+        raise Stop("{}: it has over {:,} bytes".format(spoken, MOST_FILE_BYTES))
     try:
         grid = grid_of(content)
         check_size(grid)

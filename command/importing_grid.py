@@ -1,10 +1,8 @@
 """The grid that a foreign file says, and the case text of it."""
 import re
 
+from command.limits import MOST_BUSES, MOST_LINES
 from command.speaking import counted, quoted
-
-MOST_BUSES = 64
-MOST_LINES = 256
 
 FIGURE = re.compile(r"[+-]?([0-9]+\.?[0-9]*|\.[0-9]+)([eEdD][+-]?[0-9]+)?|[+-]?inf|[+-]?nan", re.IGNORECASE)
 
