@@ -18,22 +18,22 @@ static const uint8_t *bytes(const char *text)
     return (const uint8_t *)text;
 }
 
-static void print_reply(const char *question, uint32_t result, const uint8_t set[8])
+static void print_reply(const char *question, uint32_t result, const uint8_t *set)
 {
     if (result != 0) {
-        printf("%s: refusal %u at place %u\n", question, (unsigned)(result % 100), (unsigned)(result / 100));
+        printf("%s: refusal %u at place %u\n", question, wz_number(result), wz_place(result));
         return;
     }
     printf("%s: buses", question);
-    for (unsigned bus = 1; bus <= 64; bus++)
-        if (set[(bus - 1) / 8] >> ((bus - 1) % 8) & 1)
+    for (unsigned bus = 1; bus <= WZ_MOST_BUSES; bus++)
+        if (wz_has(set, bus))
             printf(" %u", bus);
     printf("\n");
 }
 
 int main(void)
 {
-    uint8_t set[8] = {0};
+    uint8_t set[WZ_SET_BYTES] = {0};
     uint32_t result = wz_observed(bytes(unit_at_3), strlen(unit_at_3), set, sizeof set);
     print_reply("observed by a unit at 3", result, set);
 

@@ -1,7 +1,8 @@
 /* Wozgrzyt for C programs: which buses of a grid its phasor units observe.
  *
- * Link with libestimator.a (x86-64 Linux). There are four calls. Each is given the whole case as a text and answers a
- * set of buses. Each checks everything itself: any bytes, any lengths and any budget get a reply.
+ * Link with libwozgrzyt.a (x86-64 Linux); `pkg-config --cflags --libs wozgrzyt` says how. In a checkout the archive is
+ * target/staticlib/libestimator.a. There are four calls. Each is given the whole case as a text and answers a set of
+ * buses. Each checks everything itself: any bytes, any lengths and any budget get a reply.
  *
  * THE CASE TEXT
  *
@@ -30,18 +31,14 @@
  *
  * THE ANSWER
  *
- * On success a call returns 0 and writes the first eight bytes of `set`. Bus 1 is the lowest bit of the first byte,
- * bus 8 its highest, bus 9 the lowest bit of the second byte, bus 64 the highest of the eighth. The call leaves the
- * bytes from the ninth on as they were.
- *
- *     int observed(const uint8_t set[8], unsigned bus) { return set[(bus - 1) / 8] >> ((bus - 1) % 8) & 1; }
+ * On success a call returns 0 and writes the first WZ_SET_BYTES bytes of `set`, which are eight. Bus 1 is the lowest
+ * bit of the first byte, bus 8 its highest, bus 9 the lowest bit of the second byte, bus 64 the highest of the eighth.
+ * The call leaves the bytes from the ninth on as they were. `wz_has(set, bus)` asks for one bus.
  *
  * A REFUSAL
  *
  * Any other result is a refusal, and the call changed no byte of `set`. The result is 100 times the place plus the
- * refusal's number:
- *
- *     uint32_t number = result % 100, place = result / 100;
+ * refusal's number: `wz_number(result)` is the number, which `enum wz_refusal` names, and `wz_place(result)` the place.
  *
  *     number   given exactly when                                                        place         by
  *       1      the case text has more than 8,192 bytes                                   0             all
@@ -71,23 +68,30 @@
  *
  * MEMORY
  *
- * The texts are only read. `set` must not overlap them. A pointer may be NULL if its length is 0. A call allocates
- * nothing and keeps no state: calls may run at once from many threads on different sets, and the same input always
- * gives the same reply.
+ * The texts are only read. They must not change during a call, and `set` must not overlap them. A pointer may be NULL
+ * if its length is 0. A call allocates nothing and keeps no state: calls may run at once from many threads on different
+ * sets, and the same input always gives the same reply.
  *
  * STACK
  *
- * A call takes at most 16,384 bytes of the caller's stack. This is measured and not proved: tests/c/boundary_stack.c
- * runs each call on a painted stack, on 64 buses, with a budget of 8 or with 1,024 steps, and prints what it took. A
- * replay takes most, about half of it. The first call of a program takes some 3,000 bytes more, for the dynamic linker.
+ * WZ_OBSERVED_STACK, WZ_UNCONFIRMED_STACK, WZ_FEWEST_STACK and WZ_REPLAY_STACK (below) are the most bytes that each
+ * call takes of the caller's stack. This is measured and not proved: tests/c/boundary_stack.c runs each call on a
+ * painted stack, on 64 buses, with a budget of 8 or with 1,024 steps, and prints what it took. The dynamic linker takes
+ * some 3,000 bytes at the first call of a program, for which they have room.
+ *
+ * TIME
+ *
+ * wz_observed, wz_unconfirmed and wz_replay take some microseconds: docs/SPEED.md has figures.
+ * wz_fewest searches. The search is exponential in the worst case; docs/SPEED.md says the worst times seen. It cannot
+ * be interrupted, so a caller who must not wait asks it in a process of its own.
  *
  * EXAMPLE
  *
  *     static const char grid[] = "grid\t2\nbus\t1\tI\tY\nbus\t2\tI\tY\nline\t1\t2\npmu\t1\nend\n";
- *     uint8_t set[8];
+ *     uint8_t set[WZ_SET_BYTES];
  *     uint32_t result = wz_observed((const uint8_t *)grid, strlen(grid), set, sizeof set);
  *
- * gives result 0 and set[0] 3: buses 1 and 2.
+ * gives result 0 and set[0] 3: buses 1 and 2. examples/observed.c reads a case from a file.
  */
 #ifndef WOZGRZYT_H
 #define WOZGRZYT_H
@@ -95,9 +99,66 @@
 #include <stddef.h>
 #include <stdint.h>
 
+#define WZ_VERSION "1.0.0"
+
+/* The limits: the most buses, lines, new units, steps, and bytes of the two texts. */
+#define WZ_MOST_BUSES 64
+#define WZ_MOST_LINES 256
+#define WZ_MOST_BUDGET 8
+#define WZ_MOST_STEPS 1024
+#define WZ_CASE_BYTES 8192
+#define WZ_STEP_BYTES 16384
+
+/* The bytes that a call needs for its set. */
+#define WZ_SET_BYTES 8
+
+/* The bytes of stack that each call takes at most (see STACK). */
+#define WZ_OBSERVED_STACK 8192
+#define WZ_UNCONFIRMED_STACK 8192
+#define WZ_FEWEST_STACK 16384
+#define WZ_REPLAY_STACK 8192
+
 #ifdef __cplusplus
 extern "C" {
 #endif
+
+/* The numbers of the refusals (see A REFUSAL). */
+enum wz_refusal {
+    WZ_CASE_TOO_LONG = 1,     /* the case text is over its bytes */
+    WZ_CASE_FORM = 2,         /* case text: a record's form, or a record is missing or too many */
+    WZ_CASE_RANGE = 3,        /* case text: a number is out of its range, or a 257th line */
+    WZ_CASE_ORDER = 4,        /* case text: buses, lines or units are not in their order */
+    WZ_SET_TOO_SHORT = 6,     /* fewer than WZ_SET_BYTES are lent */
+    WZ_STEP_NO_BUS = 7,       /* a step names a bus that the grid does not have */
+    WZ_STEP_OBSERVED = 8,     /* a step's bus is already observed */
+    WZ_STEP_REASON = 9,       /* a step's reason does not hold */
+    WZ_BUDGET_TOO_LARGE = 10, /* the budget is above WZ_MOST_BUDGET */
+    WZ_NO_ADDITION = 11,      /* no addition within the budget has all buses observed */
+    WZ_STEPS_TOO_LONG = 51,   /* the step text is over its bytes */
+    WZ_STEPS_FORM = 52,       /* step text: a record's form, or a record is missing or too many */
+    WZ_STEPS_RANGE = 53,      /* step text: a number is out of its range */
+    WZ_STEPS_TOO_MANY = 62    /* step text: a step after WZ_MOST_STEPS */
+};
+
+/* The refusal's number in a result; 0 if it is none. */
+static inline unsigned wz_number(uint32_t result)
+{
+    return result % 100;
+}
+
+/* The refusal's place in a result: a line of a text, a step, or 0. */
+static inline unsigned wz_place(uint32_t result)
+{
+    return result / 100;
+}
+
+/* Whether the bus is in the set, 1 or 0. A number that is not 1 to 64 is no bus of any set. */
+static inline int wz_has(const uint8_t *set, unsigned bus)
+{
+    if (bus < 1 || bus > WZ_MOST_BUSES)
+        return 0;
+    return (set[(bus - 1) / 8] >> ((bus - 1) % 8)) & 1;
+}
 
 /* The observed set: every bus that the installed units and the zero-injection buses determine.
  * Refuses 1, 2, 3, 4, 6. */

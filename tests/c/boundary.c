@@ -18,6 +18,8 @@ int main(int argc, char **argv)
     check_outside_grids(argv[1]);
     check_case_readings();
     check_step_readings();
+    check_names();
+    check_limits();
     check_memory();
     check_threads();
     check_stack();

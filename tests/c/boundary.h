@@ -16,6 +16,8 @@ void check_grids(void);
 void check_outside_grids(const char *cases);
 void check_case_readings(void);
 void check_step_readings(void);
+void check_names(void);
+void check_limits(void);
 void check_memory(void);
 void check_threads(void);
 void check_stack(void);

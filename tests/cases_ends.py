@@ -1,0 +1,134 @@
+"""How a call ends before its time, and what it says while it searches."""
+import os
+import pty
+import signal
+import subprocess
+import sys
+import time
+
+from cases_builds import ONE_BUS, REPLY
+from cases_support import PROGRAM, REPORT, Checkout, write
+from command import places
+
+SLOW = "#!/bin/sh\necho $$ >\"$0.new\" && mv \"$0.new\" \"$0.pid\"\nexec sleep 60\n"
+SEARCH = "import sys; sys.path.insert(0, %r); from command import running; running.run(%r, b'', %r)"
+
+
+def wait_for(path):
+    """The number that a process writes into a file."""
+    for _ in range(1000):
+        if os.path.exists(path):
+            with open(path, encoding="utf-8") as file:
+                return int(file.read())
+        time.sleep(0.01)
+    raise TimeoutError(path)
+
+
+def is_running(number):
+    """Whether a process runs; after its end it may wait for a moment to be collected."""
+    for _ in range(200):
+        try:
+            with open("/proc/%d/stat" % number, encoding="utf-8") as file:
+                if file.read().rsplit(")", 1)[1].split()[0] == "Z":
+                    return False
+        except OSError:
+            return False
+        time.sleep(0.01)
+    return True
+
+
+def start(checkout, *arguments, **options):
+    """A call of a checkout's command that goes on."""
+    process = subprocess.Popen([checkout.command, *arguments], env=checkout.surroundings(), stdin=subprocess.PIPE,
+                               stdout=subprocess.PIPE, stderr=subprocess.PIPE, **options)
+    process.stdin.write(ONE_BUS)
+    process.stdin.close()
+    process.stdin = None
+    return process
+
+
+def check_signals(checks):
+    """A signal that ends the command ends the search first."""
+    checkout = Checkout(checks, "searching", SLOW)
+    checkout.call("plan", "--help")
+    for part, number in [("plan", signal.SIGTERM), ("plan", signal.SIGINT), ("plan", signal.SIGHUP),
+                         ("plan", signal.SIGKILL), ("day", signal.SIGTERM)]:
+        process = start(checkout, part)
+        child = wait_for(checkout.at("target", "bin", part + ".pid"))
+        process.send_signal(number)
+        out, err = process.communicate(timeout=30)
+        os.remove(checkout.at("target", "bin", part + ".pid"))
+        what = "%s of a %s: %s %r %r" % (number.name, part, process.returncode, out, err)
+        checks.that(what, process.returncode == -number and not out)
+        checks.that("the search ends with it, by " + number.name, not is_running(child))
+
+
+def check_signals_of_build(checks):
+    """A signal that ends the command ends the build, with all that it started."""
+    checkout = Checkout(checks, "building")
+    checkout.rt_does('sleep 60 & echo $! >new && mv new pid && wait\n')
+    process = start(checkout, "day")
+    child = wait_for(checkout.at("pid"))
+    process.send_signal(signal.SIGTERM)
+    out, err = process.communicate(timeout=30)
+    checks.that("a build is ended: %r %r" % (out, err), process.returncode == -signal.SIGTERM and not out)
+    checks.that("what the build started ends too", not is_running(child))
+
+
+def check_ignored(checks):
+    """A signal that the caller has the command ignore, as nohup does, ends nothing."""
+    checkout = Checkout(checks, "ignoring", "#!/bin/sh\necho $$ >\"$0.pid\"\nsleep 0.5\nprintf '%s'\n" % REPORT)
+    process = start(checkout, "day", preexec_fn=lambda: signal.signal(signal.SIGHUP, signal.SIG_IGN))
+    wait_for(checkout.at("target", "bin", "day.pid"))
+    process.send_signal(signal.SIGHUP)
+    out, err = process.communicate(timeout=30)
+    checks.that("an ignored signal: %r" % err, (process.returncode, out) == (0, REPLY))
+
+
+def said_at_terminal(words, patiently):
+    """What a run says on standard error if that is a terminal."""
+    ours, theirs = pty.openpty()
+    code = SEARCH % (places.HOME, words, patiently)
+    with subprocess.Popen([sys.executable, "-B", "-c", code], stdin=subprocess.DEVNULL, stderr=theirs) as process:
+        os.close(theirs)
+        said = b""
+        try:
+            while True:
+                more = os.read(ours, 1000)
+                if not more:
+                    break
+                said += more
+        except OSError:
+            pass
+        process.wait()
+    os.close(ours)
+    return said
+
+
+def check_sign_of_life(checks):
+    """A search of over two seconds says for how long on a terminal, on one line, and a short one says nothing."""
+    said = said_at_terminal(["sleep", "4.3"], True)
+    lives = b"".join(b"\rwozgrzyt: searching for %d s" % seconds for seconds in (2, 3, 4))
+    checks.that("a long search: %r" % said, said == lives + b"\r\n")
+    checks.that("a short search says nothing", said_at_terminal(["sleep", "0.2"], True) == b"")
+    code = SEARCH % (places.HOME, ["sleep", "2.4"], True)
+    done = subprocess.run([sys.executable, "-B", "-c", code], capture_output=True, check=False)
+    checks.that("no terminal, no sign", (done.returncode, done.stdout, done.stderr) == (0, b"", b""))
+
+
+def check_plan_is_patient(checks):
+    """The planning program is run so that it says how long it searches; the day report is not."""
+    checkout = Checkout(checks, "patient", PROGRAM % REPORT)
+    checkout.call("plan", text=ONE_BUS)
+    write(checkout.at("target", "bin", "plan"), "#!/bin/sh\ncat >/dev/null\nsleep 2.4\nprintf '%s'\n" % REPORT, 0o755)
+    ours, theirs = pty.openpty()
+    process = subprocess.Popen([checkout.command, "plan"], env=checkout.surroundings(), stdin=subprocess.DEVNULL,
+                               stdout=subprocess.PIPE, stderr=theirs)
+    out, _ = process.communicate(timeout=30)
+    said = os.read(ours, 1000)
+    os.close(theirs)
+    os.close(ours)
+    checks.that("a plan at a terminal: %r" % said, out == REPLY and said == b"\rwozgrzyt: searching for 2 s\r\n")
+
+
+CHECKS = [check_signals, check_signals_of_build, check_ignored, check_sign_of_life, check_plan_is_patient]

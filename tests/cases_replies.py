@@ -1,0 +1,71 @@
+"""The replies of day and plan on every case, from files and from standard input, and calls that are wrong."""
+import glob
+import os
+
+from cases_support import TOP, stored
+
+SEVEN = os.path.join(TOP, "cases", "seven.case")
+BARE = os.path.join(TOP, "cases", "seven-bare.case")
+
+
+def check_stored(checks):
+    """Every case has the stored replies. A report ends with 0, a refusal with 1."""
+    for case in sorted(glob.glob(os.path.join(TOP, "cases", "*.case"))):
+        name = case[:-len(".case")]
+        for reply in [name + ".day"] + sorted(glob.glob(name + ".plan*")):
+            words = reply[len(name) + 1:].split(".")
+            called = checks.call(*words, case)
+            wanted = stored(reply)
+            status = 1 if wanted.startswith(b"refused") else 0
+            checks.that("%s %s" % (" ".join(words), case), (called.status, called.out) == (status, wanted), called)
+            checks.that("words of %s %s" % (" ".join(words), case), called.err.count(b"\n") == status, called)
+
+
+def check_standard_input(checks):
+    """The case comes from standard input for '-' and for nothing, from any folder."""
+    for arguments, case, reply in [
+        (["day", "-"], "seven", "seven.day"), (["day"], "seven", "seven.day"),
+        (["plan"], "seven-bare", "seven-bare.plan"), (["plan", "2", "-"], "seven-bare", "seven-bare.plan.2"),
+        (["plan", "0"], "seven-covered", "seven-covered.plan"),
+    ]:
+        called = checks.call(*arguments, text=stored("cases", case + ".case"), cwd="/")
+        checks.that(" ".join(arguments), called == (0, stored("cases", reply), b""), called)
+    with open(SEVEN, "rb") as file:
+        called = checks.call("day", stdin=file, cwd="/")
+    checks.that("day from a file as standard input", called == (0, stored("cases", "seven.day"), b""), called)
+
+
+def check_budgets(checks):
+    """Budgets that are not 0 to 8, and one that is too small."""
+    for budget in ("9", "9999"):
+        called = checks.call("plan", budget, SEVEN)
+        checks.refuses("plan " + budget, called, b"refused\t10\t1\n", "the budget is above 8: it is " + budget)
+    for budget, words in (("00", "has a leading zero"), ("10000", "has over 4 digits"), ("0008", "'0008' has")):
+        called = checks.call("plan", budget, SEVEN)
+        checks.refuses("plan " + budget, called, b"refused\t2\t1\n", "a budget is a number of 0 to 8: ", words)
+    called = checks.call("plan", "1", BARE)
+    checks.refuses("no cover", called, b"refused\t11\t0\n", "no addition within the budget, 1 unit at most")
+    called = checks.call("plan", os.path.join(TOP, "cases", "ieee57.case"))
+    checks.refuses("no cover of 8", called, b"refused\t11\t0\n", "budget, 8 units at most, makes every bus observed")
+
+
+def check_wrong_calls(checks):
+    """Each wrong call says in one line what is wrong, and prints nothing."""
+    for arguments, words in [
+        (["week"], "there is no 'week'"), (["week\nday"], "there is no 'week\\nday'"), ([""], "there is no ''"),
+        (["plan", "x", SEVEN], "takes a budget, which is a number"), (["plan", "-1", SEVEN], "takes a budget"),
+        (["plan", "2", SEVEN, SEVEN], "one case"),
+        (["day", SEVEN, SEVEN], "'day' takes one case"), (["day", "--quick"], "'day' has no option '--quick'"),
+        (["map", "--png", SEVEN], "'map' has no option '--png'"), (["map", SEVEN, "--svg"], "'map' takes one of"),
+        (["map", "--svg", "--dot", SEVEN], "'map' takes one of"), (["map", SEVEN, SEVEN], "'map' takes one case"),
+        (["tidy", SEVEN, SEVEN], "'tidy' takes one case"), (["tidy", "-q"], "'tidy' has no option '-q'"),
+        (["refusal", "14"], "there is no refusal '14'"), (["refusal", "03"], "there is no refusal '03'"),
+        (["refusal", "1", "2"], "takes one number"), (["help", "week"], "there is no help on 'week'"),
+        (["help", "day", "plan"], "'help' takes one word"), (["--version", "day"], "'--version' takes nothing"),
+        (["week", "--help"], "there is no 'week'"),
+    ]:
+        checks.stops("wozgrzyt " + " ".join(arguments), checks.call(*arguments), words, "'wozgrzyt help' says how")
+    checks.stops("a budget of another script", checks.call("plan", "\u00b2"), "there is no file '\u00b2'")
+
+
+CHECKS = [check_stored, check_standard_input, check_budgets, check_wrong_calls]
