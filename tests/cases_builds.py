@@ -150,8 +150,8 @@ def check_no_whole_reply(checks):
     """What is no whole reply is none: nothing is printed, and the status is 2."""
     checkout = built(checks, "no reply")
     binary = checkout.at("target", "bin", "day")
-    for printed in ("", "end\\n", "observed\\t0\\t1\\nxv\\tyes\\n", "observed\\t0\\t1\\nxv\\tyes\\nend", "refused\\t2\\t1",
-                    "refused\\t2\\n", "refused\\t2\\t1\\nrefused\\t2\\t1\\n", "refused\\t2\\t1\\nend"):
+    for printed in ("", "end\\n", "observed\\t0\\t1\\nxv\\tyes\\n", "observed\\t0\\t1\\nxv\\tyes\\nend",
+                    "refused\\t2\\n", "refused\\t2\\t1", "refused\\t2\\t1\\nrefused\\t2\\t1\\n"):
         write(binary, PROGRAM % printed, 0o755)
         called = checkout.call("day", text=ONE_BUS)
         checks.stops("a reply %r" % printed, called, "the program 'day' gave no whole reply")

@@ -11,7 +11,7 @@ from cases_builds import ONE_BUS, REPLY
 from cases_support import PROGRAM, REPORT, Checkout, write
 from command import places
 
-SLOW = "#!/bin/sh\necho $$ >\"$0.new\" && mv \"$0.new\" \"$0.pid\"\nexec sleep 60\n"
+SLOW = "#!/bin/sh\necho $$ >\"$0.pid\"\nexec sleep 60\n"
 SEARCH = "import sys; sys.path.insert(0, %r); from command import running; running.run(%r, b'', %r)"
 
 
@@ -20,7 +20,9 @@ def wait_for(path):
     for _ in range(6000):
         if os.path.exists(path):
             with open(path, encoding="utf-8") as file:
-                return int(file.read())
+                number = file.read()
+            if number.endswith("\n"):
+                return int(number)
         time.sleep(0.01)
     raise TimeoutError(path)
 
@@ -67,7 +69,7 @@ def check_signals(checks):
 def check_signals_of_build(checks):
     """A signal that ends the command ends the build, with all that it started."""
     checkout = Checkout(checks, "building")
-    checkout.rt_does('sleep 60 & echo $! >new && mv new pid && wait\n')
+    checkout.rt_does('sleep 60 & echo $! >pid && wait\n')
     process = start(checkout, "day")
     child = wait_for(checkout.at("pid"))
     process.send_signal(signal.SIGTERM)

@@ -9,7 +9,7 @@ import traceback
 
 TOP = os.path.dirname(os.path.dirname(os.path.realpath(__file__)))
 Called = collections.namedtuple("Called", "status out err")
-TOOLS = "sh mv cat sleep cp mkdir chmod cksum touch neato".split()
+TOOLS = "sh cat sleep cp mkdir chmod cksum touch neato".split()
 KIT = "kit-for-tests 7"
 NOBODY = 65534
 
