@@ -40,10 +40,15 @@ def is_running(number):
     return True
 
 
-def start(checkout, *arguments, **options):
-    """A call of a checkout's command that goes on."""
+def start(checkout, *arguments, ignored=()):
+    """A call of a checkout's command that goes on. It ignores these signals, whatever the test itself ignores."""
+
+    def hear():
+        for number in (signal.SIGHUP, signal.SIGINT, signal.SIGTERM):
+            signal.signal(number, signal.SIG_IGN if number in ignored else signal.SIG_DFL)
+
     process = subprocess.Popen([checkout.command, *arguments], env=checkout.surroundings(), stdin=subprocess.PIPE,
-                               stdout=subprocess.PIPE, stderr=subprocess.PIPE, **options)
+                               stdout=subprocess.PIPE, stderr=subprocess.PIPE, preexec_fn=hear)
     process.stdin.write(ONE_BUS)
     process.stdin.close()
     process.stdin = None
@@ -81,7 +86,7 @@ def check_signals_of_build(checks):
 def check_ignored(checks):
     """A signal that the caller has the command ignore, as nohup does, ends nothing."""
     checkout = Checkout(checks, "ignoring", "#!/bin/sh\necho $$ >\"$0.pid\"\nsleep 0.5\nprintf '%s'\n" % REPORT)
-    process = start(checkout, "day", preexec_fn=lambda: signal.signal(signal.SIGHUP, signal.SIG_IGN))
+    process = start(checkout, "day", ignored=[signal.SIGHUP])
     wait_for(checkout.at("target", "bin", "day.pid"))
     process.send_signal(signal.SIGHUP)
     out, err = process.communicate(timeout=30)
