@@ -82,6 +82,11 @@ def check_failing(checks):
     os.remove(checkout.at("rt-does"))
     called = checkout.call("day", text=ONE_BUS)
     checks.that("the call after it builds", called[:2] == (0, REPLY), called)
+    write(checkout.at("bin", "rt"), "#!/absent/sh\n", 0o755)
+    checkout.edit("crates.txt")
+    called = checkout.call("day", text=ONE_BUS)
+    said = b"wozgrzyt: the command rt cannot be run: No such file or directory\n"
+    checks.that("an rt that cannot be run", called[:2] == (2, b"") and called.err.endswith(said), called)
 
 
 def check_no_kit(checks):
