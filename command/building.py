@@ -106,8 +106,7 @@ def build(name):
         began = os.stat(new).st_mtime_ns
         if not os.path.exists(places.program(name)):
             forget(name)
-        status = prove(name)
-        if status != 0 or not os.access(places.program(name), os.X_OK):
+        if prove(name) != 0 or not os.access(places.program(name), os.X_OK):
             raise Stop("the program '%s' could not be proved and built" % name)
         with open(new, "wb") as file:
             file.write(kit().encode() + b"\n")
@@ -128,12 +127,15 @@ def prove(name):
     last = collections.deque(maxlen=LAST_LINES)
     options = {"stdin": subprocess.DEVNULL, "stdout": subprocess.PIPE, "stderr": subprocess.STDOUT}
     words = [kit_command(), "check", name]
-    with started(words, with_group=True, cwd=places.HOME, env=surroundings(), **options) as process:
-        for line in process.stdout:
-            line = line.decode("utf-8", "replace")
-            last.append(line)
-            if line.startswith("rt:"):
-                murmur(line)
+    try:
+        with started(words, with_group=True, cwd=places.HOME, env=surroundings(), **options) as process:
+            for line in process.stdout:
+                line = line.decode("utf-8", "replace")
+                last.append(line)
+                if line.startswith("rt:"):
+                    murmur(line)
+    except OSError as error:
+        raise Stop("the command rt cannot be run: " + error.strerror) from None
     if process.returncode != 0:
         murmur("".join(last))
     return process.returncode

@@ -63,7 +63,10 @@ def svg(grid):
     found = shutil.which("neato")
     if found is None:
         raise Stop("'map --svg' needs Graphviz (Debian: apt-get install graphviz); 'map --dot' prints its source")
-    drawn, status = run([found, "-Tsvg"], dot(grid).encode())
+    try:
+        drawn, status = run([found, "-Tsvg"], dot(grid).encode())
+    except OSError as error:
+        raise Stop("Graphviz cannot be run: " + error.strerror) from None
     if status != 0 or b"</svg>" not in drawn:
         raise Stop("Graphviz did not draw the map")
     return drawn.decode()

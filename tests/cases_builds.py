@@ -4,7 +4,7 @@ import shutil
 import subprocess
 
 from cases_streams import as_nobody
-from cases_support import KIT, PROGRAM, REPORT, TOP, Called, Checkout, copy_modules, stored, write
+from cases_support import KIT, MACHINE, PROGRAM, REPORT, TOP, Called, Checkout, copy_modules, stored, write
 from command import programs
 
 REPLY = REPORT.encode().decode("unicode_escape").encode()
@@ -82,6 +82,11 @@ def check_failing(checks):
     os.remove(checkout.at("rt-does"))
     called = checkout.call("day", text=ONE_BUS)
     checks.that("the call after it builds", called[:2] == (0, REPLY), called)
+    write(checkout.at("bin", "rt"), "#!/absent/sh\n", 0o755)
+    checkout.edit("crates.txt")
+    called = checkout.call("day", text=ONE_BUS)
+    said = b"wozgrzyt: the command rt cannot be run: No such file or directory\n"
+    checks.that("an rt that cannot be run", called[:2] == (2, b"") and called.err.endswith(said), called)
 
 
 def check_no_kit(checks):
@@ -94,7 +99,10 @@ def check_no_kit(checks):
     checks.that("the version without rt", called.status == 0 and b"rt is not on the PATH" in called.out, called)
     checkout.call("day", text=ONE_BUS)
     called = checkout.call("day", text=ONE_BUS, env=bare)
-    checks.that("no rt and a fresh program", called == (0, REPLY, b""), called)
+    if MACHINE == "x86_64":
+        checks.that("no rt and a fresh program", called == (0, REPLY, b""), called)
+    else:
+        checks.stops("no rt and no emulator", called, "the command rt of the Rattle kit is not on the PATH")
     called = checkout.call("--version", env=bare)
     version = "wozgrzyt %s\n%s\n" % (stored("VERSION").decode().strip(), KIT)
     checks.that("the version of a build", called == (0, version.encode(), b""), called)
@@ -146,19 +154,21 @@ def check_unwritable(checks):
 def check_no_whole_reply(checks):
     """What is no whole reply is none: nothing is printed, and the status is 2."""
     checkout = built(checks, "no reply")
-    for script, words in [
-        ("", "no whole reply"), (PROGRAM % "", "no whole reply"), (PROGRAM % "end\\n", "no whole reply"),
-        (PROGRAM % "observed\\t0\\t1\\nxv\\tyes\\n", "no whole reply"),
-        (PROGRAM % "observed\\t0\\t1\\nxv\\tyes\\nend", "no whole reply"),
-        (PROGRAM % "refused\\t2\\t1", "no whole reply"), (PROGRAM % "refused\\t2\\n", "no whole reply"),
-        (PROGRAM % "refused\\t2\\t1\\nrefused\\t2\\t1\\n", "no whole reply"),
-        (PROGRAM % REPORT + "exit 3\n", "its status is 3"), ("#!/bin/sh\nkill -9 $$\n", "a signal ended it, number 9"),
-        ("#!/absent/sh\n", "cannot be run: No such file"),
-    ]:
-        write(checkout.at("target", "bin", "day"), script or "#!/bin/sh\nexit 0\n", 0o755)
-        for part in ("day", "map", "tidy")[:1 if script else 3]:
-            called = checkout.call(part, text=ONE_BUS)
-            checks.stops("%s of %r" % (part, script), called, "the program 'day'", words)
+    binary = checkout.at("target", "bin", "day")
+    for printed in ("", "end\\n", "observed\\t0\\t1\\nxv\\tyes\\n", "observed\\t0\\t1\\nxv\\tyes\\nend",
+                    "refused\\t2\\n", "refused\\t2\\t1", "refused\\t2\\t1\\nrefused\\t2\\t1\\n"):
+        write(binary, PROGRAM % printed, 0o755)
+        called = checkout.call("day", text=ONE_BUS)
+        checks.stops("a reply %r" % printed, called, "the program 'day' gave no whole reply")
+    for script, words in [(PROGRAM % REPORT + "exit 3\n", "did not end well: its status is 3"),
+                          ("#!/bin/sh\nkill -9 $$\n", "did not end well: a signal ended it, number 9")]:
+        write(binary, script, 0o755)
+        for part in ("day", "map", "tidy"):
+            checks.stops("%s of %r" % (part, script), checkout.call(part, text=ONE_BUS), "the program 'day' " + words)
+    if MACHINE == "x86_64":  # elsewhere the emulator says it
+        write(binary, "#!/absent/sh\n", 0o755)
+        called = checkout.call("day", text=ONE_BUS)
+        checks.stops("a program that cannot be run", called, "the program 'day' cannot be run: No such file")
 
 
 def check_installed(checks):
@@ -174,7 +184,7 @@ def check_installed(checks):
     write(os.path.join(home, "bin", "day"), PROGRAM % REPORT, 0o755)
     link = os.path.join(checks.room, "linked")
     os.symlink(command, link)
-    bare = checks.surroundings(PATH=checks.path)
+    bare = Checkout(checks, "kit of the installed").surroundings(with_kit=MACHINE != "x86_64")
     for path in (command, link):
         called = checks.call("day", command=path, text=ONE_BUS, env=bare)
         checks.that("an installed copy", called == (0, REPLY, b""), called)

@@ -6,7 +6,7 @@ import re
 import shutil
 import xml.etree.ElementTree
 
-from cases_support import PROGRAM, TOP, Checkout, stored
+from cases_support import PROGRAM, TOP, Checkout, stored, write
 from command import drawing, mapping, programs
 from reference import Case, derivation
 from reference_sites import unconfirmed
@@ -145,6 +145,9 @@ def check_svg(checks):
             os.symlink(found, os.path.join(bare, tool))
     called = checks.call("map", "--svg", SEVEN, env=checks.surroundings(PATH=bare))
     checks.stops("no Graphviz", called, "'map --svg' needs Graphviz (Debian: apt-get install graphviz)", "--dot")
+    write(os.path.join(bare, "neato"), "#!/bin/sh\nexit 1\n", 0o755)
+    called = checks.call("map", "--svg", SEVEN, env=checks.surroundings(PATH=bare))
+    checks.stops("a Graphviz that fails", called, "Graphviz did not draw the map")
     if shutil.which("neato") is None:
         print("not run: the drawings as SVG, since Graphviz is not installed")
         return

@@ -3,6 +3,8 @@ import glob
 import os
 
 from cases_support import TOP, stored
+from command import calling
+from command.speaking import Misused
 
 SEVEN = os.path.join(TOP, "cases", "seven.case")
 BARE = os.path.join(TOP, "cases", "seven-bare.case")
@@ -49,22 +51,31 @@ def check_budgets(checks):
     checks.refuses("no cover of 8", called, b"refused\t11\t0\n", "budget, 8 units at most, makes every bus observed")
 
 
+# Wrong calls, and what is said of them.
+WRONG = [
+    (["week"], "there is no 'week'"), (["week\nday"], "there is no 'week\\nday'"), ([""], "there is no ''"),
+    (["week", "--help"], "there is no 'week'"), (["plan", "x", SEVEN], "'plan' takes a budget, which is a number"),
+    (["plan", "-1", SEVEN], "'plan' takes a budget"), (["plan", "2", SEVEN, SEVEN], "'plan' takes a budget"),
+    (["day", SEVEN, SEVEN], "'day' takes one case"), (["day", "--quick"], "'day' has no option '--quick'"),
+    (["map", "--png", SEVEN], "'map' has no option '--png'"), (["map", SEVEN, "--svg"], "'map' takes one of"),
+    (["map", "--svg", "--dot", SEVEN], "'map' takes one of"), (["map", SEVEN, SEVEN], "'map' takes one case"),
+    (["tidy", SEVEN, SEVEN], "'tidy' takes one case"), (["tidy", "-q"], "'tidy' has no option '-q'"),
+    (["refusal", "14"], "there is no refusal '14'"), (["refusal", "03"], "there is no refusal '03'"),
+    (["refusal", "1", "2"], "'refusal' takes one number"), (["help", "week"], "there is no help on 'week'"),
+    (["help", "day", "plan"], "'help' takes one word"), (["--version", "day"], "'--version' takes nothing"),
+]
+
+
 def check_wrong_calls(checks):
     """Each wrong call says in one line what is wrong, and prints nothing."""
-    for arguments, words in [
-        (["week"], "there is no 'week'"), (["week\nday"], "there is no 'week\\nday'"), ([""], "there is no ''"),
-        (["plan", "x", SEVEN], "takes a budget, which is a number"), (["plan", "-1", SEVEN], "takes a budget"),
-        (["plan", "2", SEVEN, SEVEN], "one case"),
-        (["day", SEVEN, SEVEN], "'day' takes one case"), (["day", "--quick"], "'day' has no option '--quick'"),
-        (["map", "--png", SEVEN], "'map' has no option '--png'"), (["map", SEVEN, "--svg"], "'map' takes one of"),
-        (["map", "--svg", "--dot", SEVEN], "'map' takes one of"), (["map", SEVEN, SEVEN], "'map' takes one case"),
-        (["tidy", SEVEN, SEVEN], "'tidy' takes one case"), (["tidy", "-q"], "'tidy' has no option '-q'"),
-        (["refusal", "14"], "there is no refusal '14'"), (["refusal", "03"], "there is no refusal '03'"),
-        (["refusal", "1", "2"], "takes one number"), (["help", "week"], "there is no help on 'week'"),
-        (["help", "day", "plan"], "'help' takes one word"), (["--version", "day"], "'--version' takes nothing"),
-        (["week", "--help"], "there is no 'week'"),
-    ]:
-        checks.stops("wozgrzyt " + " ".join(arguments), checks.call(*arguments), words, "'wozgrzyt help' says how")
+    for arguments, words in WRONG:
+        try:
+            said = calling.call(arguments)
+        except Misused as misused:
+            said = str(misused)
+        checks.that("wozgrzyt %s: %s" % (" ".join(arguments), said), str(said).startswith(words))
+    for arguments, words in WRONG[1::4]:
+        checks.stops("wozgrzyt " + " ".join(arguments), checks.call(*arguments), words, "; 'wozgrzyt help' says how")
     checks.stops("a budget of another script", checks.call("plan", "\u00b2"), "there is no file '\u00b2'")
 
 

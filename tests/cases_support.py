@@ -9,13 +9,14 @@ import traceback
 
 TOP = os.path.dirname(os.path.dirname(os.path.realpath(__file__)))
 Called = collections.namedtuple("Called", "status out err")
-TOOLS = "sh mv cat sleep cp mkdir chmod cksum touch neato".split()
+TOOLS = "sh cat sleep cp mkdir chmod cksum touch neato".split()
 KIT = "kit-for-tests 7"
 NOBODY = 65534
 
 # What the real rt does too: it links a program only if its stamp is not that of the source.
 RT = """#!/bin/sh
 echo "$*" >>"{home}/calls"
+[ "$1" != doc ] || {{ echo "{home}/kit/docs/START-HERE.md"; exit 0; }}
 [ "$1" = check ] || {{ echo "{kit}"; exit 0; }}
 echo "begin $2" >>"{home}/calls"
 [ ! -e "{home}/rt-does" ] || . "{home}/rt-does"
@@ -28,6 +29,9 @@ fi
 echo "rt: $2 proved"
 echo "end $2" >>"{home}/calls"
 """
+# On another machine than x86-64 an emulator is given a loader, an option, a folder and then the program.
+EMULATOR = "#!/bin/sh\nshift 3\nexec \"$@\"\n"
+MACHINE = os.uname().machine
 PROGRAM = "#!/bin/sh\ncat >/dev/null\nprintf '%s'\n"
 REPORT = "observed\\t0\\t1\\nxv\\tyes\\nend\\n"
 
@@ -132,6 +136,8 @@ class Checkout:
             self.edit(name)
         self.program(program)
         write(self.at("bin", "rt"), RT.format(home=self.home, kit=KIT), 0o755)
+        os.makedirs(self.at("kit", "on", MACHINE, "toolchain", "bin"))
+        write(self.at("kit", "on", MACHINE, "toolchain", "bin", "qemu-x86_64"), EMULATOR, 0o755)
 
     def at(self, *names):
         """The path of a file."""

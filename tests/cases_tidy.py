@@ -193,5 +193,6 @@ def check_version(checks):
 
 
 CHECKS = [
-    check_mended, check_hints, check_drawn_damage, check_unmended, check_valid, check_meaning, check_help, check_version,
+    check_mended, check_hints, check_drawn_damage, check_unmended, check_valid, check_meaning, check_help,
+    check_version,
 ]
