@@ -75,9 +75,18 @@ prints nothing, says what, and ends with status 1: a bus that is missing, a reco
 """
 
 IMPORT = """\
-usage: wozgrzyt import FILE
+usage: wozgrzyt import [--names FILE] FILE
 
-Prints the case text of a MATPOWER case file (.m) or of a file in the IEEE common data format.
+Prints the case text of a MATPOWER case file (.m) or of a file in the IEEE common data format. What is in the file tells
+which it is. Buses are numbered from 1 in the file's order. Standard error has a table of the new numbers, the old
+numbers and the names, separated by tabs; with --names it goes to that file.
+
+A bus is Z only if the file says that it has no load, no generator and no shunt. What is unknown makes it I, and so does
+a generator that is out of service. Parallel branches become one line. Branches out of service are left out. All sites
+are Y, and there is no unit. '-' stands for standard input.
+
+A damaged file is refused with its line and status 2, and nothing is printed. If it has over 64 buses or over 256 lines,
+no case can hold it, and the status is 1.
 """
 
 REFUSAL = """\

@@ -17,7 +17,12 @@ def emulator(machine):
     """
     if machine == "x86_64":
         return []
-    guide = subprocess.run([kit_command(), "doc"], capture_output=True, stdin=subprocess.DEVNULL, check=False)
+    try:
+        rt = kit_command()
+    except Stop as stop:
+        words = "the programs are for x86-64, and on %s the kit's emulator runs them: %s"
+        raise Stop(words % (machine, stop)) from None
+    guide = subprocess.run([rt, "doc"], capture_output=True, stdin=subprocess.DEVNULL, check=False)
     kit = os.path.dirname(os.path.dirname(os.fsdecode(guide.stdout).strip()))
     tools = os.path.join(kit, "on", machine, "toolchain")
     found = os.path.join(tools, "bin", "qemu-x86_64")

@@ -75,6 +75,6 @@ def named(name):
     return "".join(c if c.isprintable() else c.encode("unicode_escape").decode() for c in letters)
 
 
-def counted(number, thing):
-    """A number of things in words: '1 unit', '2 units', '8,192 bytes'."""
-    return "{:,} {}".format(number, thing if number == 1 else thing + "s")
+def counted(number, thing, things=None):
+    """A number of things in words: '1 unit', '2 units', '8,192 bytes', '2 buses' with its own plural."""
+    return "{:,} {}".format(number, thing if number == 1 else things or thing + "s")

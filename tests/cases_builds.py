@@ -197,6 +197,15 @@ def check_installed(checks):
     checks.that("the part for import is called", called == (3, b"", b""), called)
 
 
+def stopped_emulator(machine):
+    """What is said if there is no emulator for a machine; empty if there is one."""
+    try:
+        programs.emulator(machine)
+    except programs.Stop as stop:
+        return str(stop)
+    return ""
+
+
 def check_emulator(checks):
     """On another machine the kit's emulator runs the programs; on x86-64 none does."""
     kit = os.path.join(checks.room, "kit")
@@ -207,11 +216,13 @@ def check_emulator(checks):
     os.environ["PATH"] = kit
     try:
         checks.that("x86-64 needs no emulator", programs.emulator("x86_64") == [])
-        try:
-            found = programs.emulator("aarch64")
-        except programs.Stop as stop:
-            found = str(stop)
+        found = stopped_emulator("aarch64")
         checks.that("a kit without an emulator: %s" % found, found == "the kit has no emulator for aarch64")
+        os.environ["PATH"] = tools
+        found = stopped_emulator("aarch64")
+        wanted = "the programs are for x86-64, and on aarch64 the kit's emulator runs them: the command rt of "
+        checks.that("no kit: %s" % found, found == wanted + "the Rattle kit is not on the PATH")
+        os.environ["PATH"] = kit
         write(os.path.join(tools, "bin", "qemu-x86_64"), "", 0o755)
         lib = os.path.join(tools, "lib")
         wanted = [os.path.join(tools, "bin", "qemu-x86_64"), os.path.join(lib, "ld-linux-x86-64.so.2")]
