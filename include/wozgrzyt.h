@@ -115,7 +115,7 @@
 /* The bytes of stack that each call takes at most (see STACK). */
 #define WZ_OBSERVED_STACK 8192
 #define WZ_UNCONFIRMED_STACK 8192
-#define WZ_FEWEST_STACK 24576
+#define WZ_FEWEST_STACK 16384
 #define WZ_REPLAY_STACK 8192
 
 #ifdef __cplusplus

@@ -11,9 +11,9 @@ use Rattle.busset.specs.Sets.{bit, In, Out, Sub, empty, add, less, meet, lack, 
 use Rattle.busset.specs.Held.{SetWord}
 use Rattle.busset.proofs.Digits.{bit-or, bit-zero}
 use Rattle.busset.proofs.Members.{in-or, meet-at, lack-at, with-add}
-use Rattle.busset.proofs.Sizes.{size-le}
+use Rattle.busset.proofs.Sizes.{size-le, size-some}
 use Rattle.rules.specs.Grids.{Grid, withSitesAndUnits}
-use Rattle.rules.specs.Observation.{ObservedSet}
+use Rattle.rules.specs.Observation.{Closed, ObservedSet}
 use Rattle.rules.specs.Placing.{withUnits, Full}
 use Rattle.rules.proofs.Covering.{closed-fewer}
 use Rattle.place_light.specs.Ways.{Group, Meets, direct, Cover, Uncoverable}
@@ -91,11 +91,11 @@ observed-whatever sites l = record {
   least = λ t cl. l .least t (record { direct = cl .direct; zeros = cl .zeros });
 }
 
--- what is found beside what they observe is a group of the free sites
-pub chosen-group : {g : Grid} {free units s r : ℕ} → ChosenUnits g free units → ObservedSet (withUnits g units) s → (Full (g .n) s → ⊥)
+-- what is found beside a set that satisfies the rules with them is a group of the free sites
+pub chosen-group : {g : Grid} {free units s r : ℕ} → ChosenUnits g free units → Closed (withUnits g units) s → (Full (g .n) s → ⊥)
     → Beside (g .n) (g .neighbours) (g .zeros) free s r
     → Group g (direct (g .neighbours)) free r
-chosen-group {g} {free} ch l misses b = beside-group free (closed-fewer g (ch .holds) (l .closed)) misses (λ x. le-refl (bit free x)) b
+chosen-group {g} {free} ch cl misses b = beside-group free (closed-fewer g (ch .holds) cl) misses (λ x. le-refl (bit free x)) b
 
 -- ---- what is tried
 
@@ -118,6 +118,10 @@ try-none tries none = record { within = λ v w. w .of; meets = λ v w. absurd (n
 pub said-apart : {g : Grid} {sites k : ℕ} (a : Hints) → ((v : ℕ) → Cover g sites k v → Says a v) → k < a .apart → Uncoverable g sites k
 said-apart a says many v w =
     omega (arith, says v w .apart, w .few, size-le (meet (setOf (a .used)) v) v (λ b. omega (arith, meet-at (setOf (a .used)) v b)))
+
+-- a bus is missing, and no unit is left
+pub missing-none : {g : Grid} {s sites k : ℕ} → Closed g s → (Full (g .n) s → ⊥) → k ≡ 0 → Uncoverable g sites k
+missing-none {s = s} cl misses e v w = misses (w .full s cl (λ x h. let some = size-some v x h in absurd (let few = w .few in omega arith)))
 
 -- a group, and no unit
 pub group-none : {g : Grid} {sites k w : ℕ} → Group g (direct (g .neighbours)) sites w → k ≡ 0 → Uncoverable g sites k

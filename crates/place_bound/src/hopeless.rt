@@ -16,6 +16,37 @@ pub struct Branch {
     pub tries: BusSet,
 }
 
+// Keeps groups of the free sites that the units do not meet. None has a site of another. More than `budget` are enough.
+pub fn seed(
+    n: usize,
+    nbr: &Rows,
+    zero: BusSet,
+    free: BusSet,
+    units: BusSet,
+    budget: usize,
+    pool: &mut Pool,
+)
+    requires { ⌜ Asks n (neighbours (now nbr)) (setOf free) (setOf free) budget ⌝ }
+    ensures { λ _. ⌜ Keeping (bareGrid n (now (nbr .entry)) zero) (setOf free) (setOf units) (now (pool .entry))
+        (now (pool .exit)) (λ g. Unit {0}) ⌝ }
+{
+    let mut s = observe::set::observed(nbr, zero, units);
+    let mut m: usize = 0;
+    while m <= budget {
+        if grid::is_full(n, s) {
+            return;
+        }
+        let group = crate::groups::beside(n, nbr, zero, free, s, free);
+        place_pool::keep(&mut *pool, group);
+        s = observe::set::spread(
+            nbr,
+            zero,
+            busset::union(s, grid::with_neighbours(nbr, group)),
+        );
+        m += 1;
+    }
+}
+
 // A group that the units do not meet, to try its sites: the smallest that is kept, or a new one, which is then kept.
 pub fn next_branch(
     n: usize,
@@ -49,6 +80,12 @@ pub fn next_branch(
     if grid::is_full(n, s) {
         return Branch {
             covered: true,
+            tries: busset::none(),
+        };
+    }
+    if place_pool::has_enough(&*pool, k) {
+        return Branch {
+            covered: false,
             tries: busset::none(),
         };
     }

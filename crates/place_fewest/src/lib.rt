@@ -70,6 +70,7 @@ pub fn fewest(
     let free = busset::minus(site, units);
     let none = busset::none();
     let mut pool: Pool = [none; MOST_KEPT];
+    place_bound::hopeless::seed(n, nbr, zero, free, units, budget, &mut pool);
     for k in 0..budget + 1 {
         let r = search(n, nbr, zero, free, units, free, k, &mut pool);
         if let Found::Sites(m) = r {

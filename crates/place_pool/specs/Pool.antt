@@ -10,7 +10,7 @@ use Rattle.place_light.specs.Ways.{Group}
 
 -- how many groups are kept
 abbrev pub mostKept : ℕ
-mostKept = 2000
+mostKept = 1000
 
 -- the group that is kept at i
 abbrev pub keptAt : List SetWord → ℕ → ℕ

@@ -1,6 +1,7 @@
 // The groups that are kept: sets of sites, of which every cover has one. What makes a group is the case alone. So one
 // that is found anywhere in the search serves all of it.
 ghost use mathlib.Core.Path.{_≡_};
+ghost use mathlib.Core.Bool.{true};
 ghost use Prim.Native.Nat.{ℕ, _≤_, _<_};
 ghost use Rattle.busset.specs.Sets.{Sub, empty, meet, size, setOf, width};
 ghost use Rattle.place_pool.specs.Pool.{mostKept, keptAt, KeptWith};
@@ -8,7 +9,10 @@ ghost use Rattle.place_pool.specs.Asking.{MeetsKept, Says, Smaller, Says
 use busset::BusSet;
 
 // How many groups are kept.
-pub const MOST_KEPT: usize = 2000;
+pub const MOST_KEPT: usize = 1000;
+
+// How many are enough for a call that places no more units.
+pub const ENOUGH_KEPT: usize = 200;
 
 // The oldest first; the first empty one ends them.
 pub type Pool = [BusSet; MOST_KEPT];
@@ -80,6 +84,16 @@ pub fn keep(pool: &mut Pool, group: BusSet)
     }
     drop_oldest(&mut *pool);
     put_group(&mut *pool, MOST_KEPT - 1, group);
+}
+
+// Whether a call that places k more units looks for no group: it places none, and enough are kept.
+pub fn has_enough(pool: &Pool, k: usize) -> bool
+    ensures { λ r. ⌜ (r ≡ true → k ≡ 0) ⌝ }
+{
+    if k > 0 {
+        return false;
+    }
+    !busset::is_none(group_at(pool, ENOUGH_KEPT))
 }
 
 // ---- what the groups say

@@ -1,23 +1,35 @@
 -- Invariant: there is no way of fewer than k of the free sites, and the pool has groups of them. So the first size found is the fewest.
 -- k-end - k falls.
-use Prim.Native.Nat.{_+_, _-_, _≤_}
+use Prim.Native.Nat.{ℕ, _+_, _-_, _≤_}
 use mathlib.Core.Path.{_≡_, subst}
 use native.Mathlib.Omega.{arith}
 use native.Mathlib.Nat.{le-refl}
 use borrow.Author.Needs.{needs}
-use Rattle.busset.specs.Sets.{setOf}
-use Rattle.rules.specs.Grids.{Grid}
+use Rattle.busset.specs.Sets.{width, setOf, Minus}
+use Rattle.rules.specs.Grids.{Grid, Proper}
 use Rattle.grid.specs.Rows.{neighbours}
 use Rattle.grid.specs.Cases.{gridWith}
 use Rattle.place_light.specs.Ways.{direct}
 use Rattle.place_light.proofs.Searching.{NoFewer, no-fewer-none, no-fewer-more, first-fewest, no-addition}
 use Rattle.place_pool.specs.Pool.{mostKept, KeptGroups}
 use Rattle.place_pool.proofs.Keeping.{kept-none}
+use Rattle.place_bound.specs.Branches.{Asks}
 use Rattle.place_bound.proofs.Trying.{chosen-none}
 use Rattle.place_fewest.specs.declared.Found.{Found}
 use Rattle.place_fewest.specs.Answers.{FoundIs}
 use Rattle.place_fewest.proofs.fewest.Statement.{statement}
 use Rattle.place_fewest.proofs.fewest.Tie as tie
+
+-- all free sites are still open
+asks : {g : Grid} {free k : ℕ} → g .n ≤ width → Proper g → Minus (g .sites) (g .units) free → k ≤ width
+    → Asks (g .n) (g .neighbours) free free k
+asks buses p m few = record {
+  buses = buses;
+  lines = p .lines;
+  within = λ b h. p .sites b (omega (arith, m .at b));
+  of = λ b. le-refl _;
+  few = few;
+}
 
 abbrev Inv-loop : tie.InvT-loop
 Inv-loop n nbr zero site units budget free none pool₀ k₀ k-end pool k =
@@ -31,7 +43,7 @@ abbrev loop : tie.After-search Inv-loop μ-loop → tie.At-loop Inv-loop μ-loop
 loop c = c .before .before .before
 
 abbrev minus : tie.After-search Inv-loop μ-loop → tie.After-minus Inv-loop μ-loop
-minus c = loop c .before .before
+minus c = loop c .before .before .before .before
 
 abbrev asked : tie.After-search Inv-loop μ-loop → Grid
 asked c =
@@ -54,23 +66,30 @@ minus-requires c κs = search needs
 none-requires : tie.Need-none-requires Inv-loop μ-loop
 none-requires c κs = search needs
 
+seed-requires : tie.Need-seed-requires Inv-loop μ-loop
+seed-requires c κs =
+    let m = c .before .before in
+    let s = m .before in
+    asks (s .pre .0) (s .pre .1) (m .minus .ensures) (let most = s .pre .2 in omega arith)
+
 add-k-end : tie.Need-add-k-end Inv-loop μ-loop
 add-k-end c = search needs
 
 loop-holds : tie.Need-loop-holds Inv-loop μ-loop
-loop-holds c = (search needs, search needs, no-fewer-none _ _, kept-none _ _ _ mostKept (c .none .ensures))
+loop-holds c =
+    let o = c .before .before in
+    let s = o .before .before in (
+      search needs,
+      search needs,
+      no-fewer-none _ _,
+      c .seed .ensures (setOf (s .args .site)) (setOf (s .args .units)) (chosen-none _ _) (kept-none _ _ _ mostKept (o .none .ensures)) .1,
+    )
 
 search-requires : tie.Need-search-requires Inv-loop μ-loop
 search-requires c κs =
-    let m = c .before .before .before .before in
+    let m = c .before .before .before .before .before .before in
     let s = m .before in
-    record {
-      buses = s .pre .0;
-      lines = s .pre .1 .lines;
-      within = λ b h. s .pre .1 .sites b (omega (arith, m .minus .ensures .at b));
-      of = λ b. le-refl _;
-      few = search needs;
-    }
+    asks (s .pre .0) (s .pre .1) (m .minus .ensures) (search needs)
 
 enum-known-r : tie.Need-enum-known-r Inv-loop μ-loop
 enum-known-r c = search needs
@@ -98,7 +117,7 @@ loop-again c =
 returns-2 : tie.Need-returns-2 Inv-loop μ-loop
 returns-2 c =
     let l = c .before in
-    no-addition (l .before .before .minus .ensures) (search needs) (l .loop .inv .2)
+    no-addition (l .before .before .before .before .minus .ensures) (search needs) (l .loop .inv .2)
 
 pub fewest-spec : {M : Type 1} → statement M
 fewest-spec =
@@ -108,6 +127,7 @@ fewest-spec =
     μ-loop
     minus-requires
     none-requires
+    seed-requires
     add-k-end
     loop-holds
     search-requires
