@@ -54,8 +54,9 @@ def triangles():
     return board(8, 8) + [(8 * r + c, 8 * r + c + 9) for r in range(7) for c in range(7)]
 
 
-def rooks(m):
-    return [(i, j) for i in range(m * m) for j in range(i) if i // m == j // m or i % m == j % m]
+def rooks(rows, columns):
+    joined = lambda i, j: i // columns == j // columns or i % columns == j % columns
+    return [(i, j) for i in range(rows * columns) for j in range(i) if joined(i, j)]
 
 
 def shrikhande():
@@ -84,8 +85,8 @@ def corona(size, lines, leaves):
     return lines + [(b, size + leaves * b + i) for b in range(size) for i in range(leaves)]
 
 
-def cycle(size):
-    return [(b, (b + 1) % size) for b in range(size)]
+def cycle(first, size):
+    return [(first + b, first + (b + 1) % size) for b in range(size)]
 
 
 def doubled(pairs):
@@ -112,7 +113,7 @@ def regular(dice, degree):
 
 
 def any_corona(dice):
-    kinds = ((32, cycle(32), 1), (21, cycle(21), 2), (16, cycle(16), 3),
+    kinds = ((32, cycle(0, 32), 1), (21, cycle(0, 21), 2), (16, cycle(0, 16), 3),
              (32, board(4, 8), 1), (21, board(3, 7), 2), (16, board(4, 4), 3))
     return corona(*kinds[dice.below(len(kinds))])
 
@@ -128,8 +129,8 @@ FAMILIES = {
     "8 by 8 torus": (lambda dice: board(8, 8, True), 30, 100),
     "8 by 8 mesh": (lambda dice: board(8, 8), 30, 100),
     "triangular mesh": (lambda dice: triangles(), 30, 100),
-    "four 4 by 4 rooks": (lambda dice: copies(16, 4, rooks(4)), 30, 100),
-    "two 5 by 5 rooks": (lambda dice: copies(25, 2, rooks(5)) + path(49, 63), 30, 100),
+    "four 4 by 4 rooks": (lambda dice: copies(16, 4, rooks(4, 4)), 30, 100),
+    "two 5 by 5 rooks": (lambda dice: copies(25, 2, rooks(5, 5)) + path(49, 63), 30, 100),
     "four Shrikhande": (lambda dice: copies(16, 4, shrikhande()), 30, 100),
     "four Paley 13": (lambda dice: copies(13, 4, paley(13)), 30, 100),
     "three Paley 17": (lambda dice: copies(17, 3, paley(17)), 30, 100),
@@ -137,10 +138,18 @@ FAMILIES = {
     "coronas": (any_corona, 30, 100),
 }
 
+# Families of which bench/run has single grids.
+MORE = {
+    "7-regular, much Z": (lambda dice: regular(dice, 7), 80, 100),
+    "8-regular, much Z": (lambda dice: regular(dice, 8), 80, 100),
+    "three 4 by 5 rooks": (lambda dice: copies(20, 3, rooks(4, 5)), 50, 100),
+    "two 5 by 5 rooks and a cycle": (lambda dice: copies(25, 2, rooks(5, 5)) + cycle(50, 14), 50, 100),
+}
+
 
 def drawn(family, number):
     """The case text of one grid. One grid in four has sites N, and one in eight has installed units too."""
-    lines_of, least, most = FAMILIES[family]
+    lines_of, least, most = {**FAMILIES, **MORE}[family]
     dice = Dice(family, number)
     lines = lines_of(dice)
     n = 1 + max(max(line) for line in lines)
@@ -158,10 +167,10 @@ def drawn(family, number):
 
 
 def main():
-    if len(sys.argv) == 3 and sys.argv[1] in FAMILIES and sys.argv[2].isdigit():
+    if len(sys.argv) == 3 and sys.argv[1] in {**FAMILIES, **MORE} and sys.argv[2].isdigit():
         sys.stdout.buffer.write(drawn(sys.argv[1], int(sys.argv[2])))
     elif len(sys.argv) == 1:
-        print("\n".join(FAMILIES))
+        print("\n".join({**FAMILIES, **MORE}))
     else:
         sys.exit("usage: bench/grids.py [FAMILY NUMBER]")
 
