@@ -5,13 +5,14 @@ document 01, and a budget of 8.
     bench/fewest_lp.py CASE > PROGRAM
 
 x_b is 1 if bus b has a new unit. f_w_b is 1 if the zero-injection bus w gives b its voltage. A bus w does so at most
-once, and after w and all its other neighbours: t_b is the turn of bus b.
+once, and after w and all its other neighbours: t_b is the turn of bus b. A bus that an installed unit observes by O1
+needs nothing more.
 """
 import sys
 
 
 def read(path):
-    n, zeros, sites, near = 0, [], [], {}
+    n, zeros, sites, units, near = 0, [], [], set(), {}
     for line in open(path):
         word = line.split()
         if word[0] == "grid":
@@ -25,16 +26,18 @@ def read(path):
             near[a].add(b)
             near[b].add(a)
         if word[0] == "pmu":
-            sys.exit("fewest_lp.py: a case with installed units is not written")
-    return n, zeros, sites, near
+            units.add(int(word[1]))
+    return n, zeros, [b for b in sites if b not in units], units, near
 
 
 def main():
-    n, zeros, sites, near = read(sys.argv[1])
+    n, zeros, sites, units, near = read(sys.argv[1])
     gives = [(w, b) for w in zeros for b in sorted(near[w])]
     print("minimize\n units: " + " + ".join("x_%d" % b for b in sites) + "\nsubject to")
     print(" " + " + ".join("x_%d" % b for b in sites) + " <= 8")
     for b in near:
+        if units & (near[b] | {b}):
+            continue
         terms = ["x_%d" % a for a in sorted(near[b] | {b}) if a in sites]
         terms += ["f_%d_%d" % (w, c) for w, c in gives if c == b]
         print(" " + " + ".join(terms) + " >= 1")
