@@ -11,7 +11,7 @@
 
 #include <time.h>
 
-enum { MOST_KEPT = 2000 };
+enum { MOST_KEPT = 1000, ENOUGH_KEPT = 200 };
 
 static unsigned long calls;
 
@@ -131,6 +131,8 @@ static set branch(set u, set sites, int k, int *covered)
         *covered = 1;
         return 0;
     }
+    if (k == 0 && kept[ENOUGH_KEPT])
+        return 0;
     set group = new_group(s, sites);
     return k == 0 ? 0 : group & sites;
 }
@@ -169,10 +171,19 @@ static int search(set u, set sites, int k, set *found)
     return 0;
 }
 
+// Keeps groups that have no site in common.
+static void seed_groups(int budget)
+{
+    set s = spread(start(units));
+    for (int m = 0; m <= budget && !full(s); m++)
+        s = spread(s | start(new_group(s, free_sites)));
+}
+
 static int fewest(int budget, set *found)
 {
     free_sites = site & ~units;
     memset(kept, 0, sizeof kept);
+    seed_groups(budget);
     for (int k = 0; k <= budget; k++)
         if (search(units, free_sites, k, found))
             return k;
