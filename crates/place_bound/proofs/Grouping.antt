@@ -6,13 +6,13 @@ use native.Mathlib.Nat.{le-refl}
 use Rattle.busset.specs.Sets.{Bus, bit, In, Out, Sub, Within, All, Union, Minus, Both}
 use Rattle.busset.proofs.Members.{in-or, sub-of, add-sub}
 use Rattle.rules.specs.Grids.{Grid}
-use Rattle.rules.specs.Observation.{ZeroRules, Closed}
+use Rattle.rules.specs.Observation.{Closed}
 use Rattle.rules.specs.Placing.{Full}
 use Rattle.grid.specs.Cases.{Lines}
 use Rattle.grid.specs.Near.{WithNeighbours}
 use Rattle.observe.specs.Passes.{Spread}
 use Rattle.place_light.specs.Ways.{Group, direct}
-use Rattle.place_light.proofs.Covers.{closed-group}
+use Rattle.place_light.proofs.Covers.{closed-larger, closed-group}
 use Rattle.place_bound.specs.Shrinking.{Shrunk, Outside, Beside}
 
 -- ---- trial units
@@ -29,16 +29,6 @@ shrunk-more p q = record {
 
 pub shrunk-spread : {n : ℕ} {nbr : ℕ → ℕ} {zeros c h t d : ℕ} → Union c h t → Spread nbr zeros t d → (Full n d → ⊥) → Shrunk n nbr zeros c d
 shrunk-spread u sp misses = record { grows = λ b. omega (arith, u .at b, sp .grows b); fired = λ f. sp .fired; misses = λ l. misses }
-
--- a larger set that has all that Z buses give satisfies the rules too
-closed-larger : {g : Grid} {c : ℕ} (r : ℕ) → Closed g c → Sub c r → ZeroRules (g .neighbours) (g .zeros) r → Closed g r
-closed-larger r cl grows fired = record {
-  direct = record {
-    own = λ b h. omega (arith, cl .direct .own b h, grows b);
-    near = λ b h a. omega (arith, cl .direct .near b h a, grows a);
-  };
-  zeros = fired;
-}
 
 shrunk-closed : {g : Grid} {c r : ℕ} → Closed g c → Shrunk (g .n) (g .neighbours) (g .zeros) c r → Closed g r
 shrunk-closed {r = r} cl sh = closed-larger r cl (sh .grows) (sh .fired (cl .zeros))

@@ -48,7 +48,8 @@ pub fn group(n: usize, nbr: &Rows, sites: BusSet, c: BusSet) -> BusSet
     busset::both(sites, grid::with_neighbours(nbr, dark))
 }
 
-// A group of the free sites that units which observe s do not meet. Those to try are tried last, so that few are in it.
+// A group of the free sites that units which observe s do not meet. Trial units go on the open sites last, so that few
+// of these are in it.
 pub fn beside(n: usize, nbr: &Rows, zero: BusSet, free: BusSet, s: BusSet, sites: BusSet) -> BusSet
     requires { ⌜ (n ≤ width) × Lines n (neighbours (now nbr)) × Within n (setOf free) ⌝ }
     ensures { λ r. ⌜ Beside n (neighbours (now (nbr .entry))) (setOf zero) (setOf free) (setOf s) (setOf r) ⌝ }

@@ -10,7 +10,7 @@ use Rattle.busset.proofs.Digits.{bit-zero}
 use Rattle.busset.proofs.Members.{in-or, out-of, sub-of, less-here, less-there, meet-at, add-here, add-grows, add-sub}
 use Rattle.busset.proofs.Sizes.{size-empty, size-le, size-same, size-less, size-some}
 use Rattle.rules.specs.Grids.{Grid}
-use Rattle.rules.specs.Observation.{Closed}
+use Rattle.rules.specs.Observation.{ZeroRules, Closed}
 use Rattle.rules.specs.Placing.{withUnits, Full, placed}
 use Rattle.rules.proofs.Covering.{closed-fewer, placed-of, placed-max, size-placed}
 use Rattle.place_light.specs.Ways.{Way, NoWay, ItemCover, Meets, Group, direct, Cover, Uncoverable}
@@ -20,6 +20,16 @@ use Rattle.place_light.specs.Ways.{Way, NoWay, ItemCover, Meets, Group, 
 -- a set that satisfies the rules has what the units that are there give
 pub closed-direct : {g : Grid} {c : ℕ} (x : ℕ) → Closed g c → In (g .units) x → Sub (direct (g .neighbours) x) c
 closed-direct {g} {c} x cl h = add-sub (g .neighbours x) c x (cl .direct .near x h) (cl .direct .own x h)
+
+-- a larger set that has all that Z buses give satisfies the rules too
+pub closed-larger : {g : Grid} {c : ℕ} (r : ℕ) → Closed g c → Sub c r → ZeroRules (g .neighbours) (g .zeros) r → Closed g r
+closed-larger r cl grows fired = record {
+  direct = record {
+    own = λ b h. omega (arith, cl .direct .own b h, grows b);
+    near = λ b h a. omega (arith, cl .direct .near b h a, grows a);
+  };
+  zeros = fired;
+}
 
 -- with more units: what the new ones give is in it too
 pub closed-more : (g : Grid) (u : ℕ) {c : ℕ} → Closed g c → ((x : ℕ) → In u x → Out (g .units) x → Sub (direct (g .neighbours) x) c)

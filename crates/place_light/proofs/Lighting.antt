@@ -2,7 +2,7 @@
 use mathlib.Core.Path.{_≡_, ap, subst⁻¹}
 use Prim.Native.Nat.{ℕ, _≤_}
 use native.Mathlib.Omega.{arith}
-use Rattle.busset.specs.Sets.{bit, In, Sub, Union, With, add}
+use Rattle.busset.specs.Sets.{bit, In, Out, Sub, Union, With, add}
 use Rattle.busset.proofs.Members.{add-of, add-sub, add-here, add-grows, with-add}
 use Rattle.rules.specs.Grids.{Grid}
 use Rattle.rules.specs.Observation.{ObservedSet}
@@ -11,7 +11,7 @@ use Rattle.rules.proofs.Covering.{closed-fewer}
 use Rattle.observe.specs.Passes.{Spread}
 use Rattle.place_light.specs.Lights.{Lit}
 use Rattle.place_light.specs.Ways.{direct}
-use Rattle.place_light.proofs.Covers.{closed-direct}
+use Rattle.place_light.proofs.Covers.{closed-larger, closed-more}
 
 -- ---- a unit at x
 
@@ -36,17 +36,11 @@ lit-by {nbr} {zeros} {s} {x} {m} {here} {t} {r} e w j sp = record {
 pub lit-least : {g : Grid} {s x r : ℕ} → ObservedSet g s → Lit (g .neighbours) (g .zeros) s x r
     → ObservedSet (withUnits g (add (g .units) x)) r
 lit-least {g} {s} {x} {r} l li = record {
-  closed = record {
-    direct = record {
-      own = λ b h. omega (arith, all b h b, add-here (g .neighbours b) b);
-      near = λ b h a. omega (arith, all b h a, add-grows (g .neighbours b) b a);
-    };
-    zeros = li .fired;
-  };
+  closed = closed-more g (add (g .units) x) (closed-larger r (l .closed) (li .grows) (li .fired)) new;
   least = λ t cl. li .least t (l .least t (closed-fewer g (add-grows (g .units) x) cl))
       (cl .direct .own x (add-here (g .units) x)) (cl .direct .near x (add-here (g .units) x)) (cl .zeros);
 }
   where
-    all : (b : ℕ) → In (add (g .units) x) b → Sub (direct (g .neighbours) b) r
-    all = add-of {P = λ b. Sub (direct (g .neighbours) b) r} (g .units) x (add-sub (g .neighbours x) r x (li .near) (li .own))
-        (λ b h a. omega (arith, closed-direct b (l .closed) h a, li .grows a))
+    new : (b : ℕ) → In (add (g .units) x) b → Out (g .units) b → Sub (direct (g .neighbours) b) r
+    new = add-of {P = λ b. Out (g .units) b → Sub (direct (g .neighbours) b) r} (g .units) x
+        (λ o. add-sub (g .neighbours x) r x (li .near) (li .own)) (λ b h o. absurd (omega arith))
