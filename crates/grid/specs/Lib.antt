@@ -1,4 +1,4 @@
--- the limits of document 01
+-- the limits of documents 01 and 02
 pub mod Limits
 -- the neighbours of all buses
 pub mod Rows

@@ -1,4 +1,4 @@
--- The limits of document 01. src/limits.rt has the same names in code, and no other line says these numbers.
+-- The limits of documents 01 and 02. src/limits.rt has the same names in code, and no other line says these numbers.
 use Prim.Native.Nat.{ℕ}
 use Rattle.busset.specs.Sets.{width}
 
@@ -9,6 +9,14 @@ mostBuses = width
 -- its lines
 abbrev pub mostLines : ℕ
 mostLines = 256
+
+-- circuits of a line
+abbrev pub mostCircuits : ℕ
+mostCircuits = 8
+
+-- circuits are several from here on: a text says how many they are, and of a line of one circuit it says nothing
+abbrev pub leastSeveral : ℕ
+leastSeveral = 2
 
 -- steps of a list
 abbrev pub mostSteps : ℕ

@@ -1,4 +1,4 @@
-// The limits of document 01. specs/Limits.antt has the same names, and no other line says these numbers.
+// The limits of documents 01 and 02. specs/Limits.antt has the same names, and no other line says these numbers.
 ghost use mathlib.Core.Path.{_≡_};
 ghost use Rattle.grid.specs.Limits.{mostBudget};
 
@@ -7,6 +7,12 @@ pub const MOST_BUSES: usize = busset::WIDTH;
 
 // Its lines.
 pub const MOST_LINES: usize = 256;
+
+// Circuits of a line.
+pub const MOST_CIRCUITS: usize = 8;
+
+// Circuits are several from here on, and a text says how many they are.
+pub const LEAST_SEVERAL: usize = 2;
 
 // Steps of a list.
 pub const MOST_STEPS: usize = 1024;
