@@ -1,4 +1,4 @@
--- The check that all that is joined is joined by a line: bus after bus, and at each bus neighbour after neighbour.
+-- The checks of validity: bus after bus, and at each bus neighbour after neighbour.
 use mathlib.Core.Path.{_≡_, ap, _∙_, subst, subst⁻¹}
 use mathlib.Core.Bool.{Bool}
 use mathlib.Core.Logic.{⊎-elim}
@@ -13,7 +13,9 @@ use Rattle.rules.specs.Grids.{Line, lineCount}
 use Rattle.grid.specs.Limits.{mostBuses, mostLines}
 use Rattle.grid.specs.Rows.{neighbours}
 use Rattle.grid.specs.Cases.{LinesAt, Lines, Valid}
+use Rattle.grid.specs.Counting.{CountsAt}
 use Rattle.grid.specs.declared.Case.{Case}
+use Rattle.grid.proofs.Counting.{mirrored-alike, alike-mirrored}
 
 -- ---- one line
 
@@ -23,59 +25,70 @@ line-test {n} {nbr} {a} {b} {m} from to differ e d =
     decides-by (λ h. record { from = from; to = to; differ = differ; back = subst (λ (s : ℕ). In s a) e h })
     (λ l. subst⁻¹ (λ (s : ℕ). In s a) e (l .back)) d
 
--- ---- at one bus: what b is joined to and is not left any more is joined by a line
+-- ---- over the buses of a set: what is not left any more has been found to be P
 
-pub record Checked (n : ℕ) (nbr : ℕ → ℕ) (b left : ℕ) : Type 0 where
-  pub of : Sub left (nbr b)
-  pub lines : (a : ℕ) → Out left a → In (nbr b) a → Line n nbr b a
+pub record Checked (P : ℕ → Type 0) (s left : ℕ) : Type 0 where
+  pub of : Sub left s
+  pub each : (a : ℕ) → Out left a → In s a → P a
 
-pub checked-none : (n : ℕ) {nbr : ℕ → ℕ} {left : ℕ} (b : ℕ) → left ≡ nbr b → Checked n nbr b left
-checked-none n {nbr} {left} b e = record {
-  of = λ a. omega (arith, ap (λ (s : ℕ). bit s a) e);
-  lines = λ a o h. absurd (omega (arith, ap (λ (s : ℕ). bit s a) e));
-}
+module _ {P : ℕ → Type 0} where
+  pub checked-none : {s left : ℕ} → left ≡ s → Checked P s left
+  checked-none {s} {left} e = record {
+    of = λ a. omega (arith, ap (λ (t : ℕ). bit t a) e);
+    each = λ a o h. absurd (omega (arith, ap (λ (t : ℕ). bit t a) e));
+  }
 
-pub checked-more : {n : ℕ} {nbr : ℕ → ℕ} {b left a rest : ℕ} → Checked n nbr b left → Line n nbr b a → Without left a rest
-    → Checked n nbr b rest
-checked-more {n} {nbr} {b} {left} {a} {rest} c l w = record {
-  of = λ i. omega (arith, without-sub w i, c .of i);
-  lines = without-of {P = λ i. In (nbr b) i → Line n nbr b i} w (λ h. l) (c .lines);
-}
+  pub checked-more : {s left a rest : ℕ} → Checked P s left → P a → Without left a rest → Checked P s rest
+  checked-more {s} {left} {a} {rest} c p w = record {
+    of = λ i. omega (arith, without-sub w i, c .of i);
+    each = without-of {P = λ i. In s i → P i} w (λ h. p) (c .each);
+  }
 
-pub checked-all : {n : ℕ} {nbr : ℕ → ℕ} {b left : ℕ} → Checked n nbr b left → left ≡ empty → LinesAt n nbr b
-checked-all c e a h = c .lines a (ap (λ (s : ℕ). bit s a) e ∙ bit-zero a) h
+  pub checked-all : {s left : ℕ} → Checked P s left → left ≡ empty → (a : ℕ) → In s a → P a
+  checked-all c e a h = c .each a (ap (λ (t : ℕ). bit t a) e ∙ bit-zero a) h
 
--- a neighbour with no line
-pub checked-fails : {n : ℕ} {nbr : ℕ → ℕ} {b left a : ℕ} → Checked n nbr b left → In left a → (Line n nbr b a → ⊥) → LinesAt n nbr b → ⊥
-checked-fails {left = left} {a = a} c h lacks all = lacks (all a (omega (arith, c .of a)))
+  -- one that is not P
+  pub checked-fails : {s left a : ℕ} → Checked P s left → In left a → (P a → ⊥) → ((b : ℕ) → In s b → P b) → ⊥
+  checked-fails {left = left} {a = a} c h lacks all = lacks (all a (omega (arith, c .of a)))
 
--- ---- at every bus below b
+-- ---- over the buses below b
 
-pub record CheckedBelow (n : ℕ) (nbr : ℕ → ℕ) (b : ℕ) : Type 0 where
-  pub lines : (a : ℕ) → a < b → LinesAt n nbr a
+pub record CheckedBelow (P : ℕ → Type 0) (b : ℕ) : Type 0 where
+  pub each : (a : ℕ) → a < b → P a
+
+module _ {P : ℕ → Type 0} where
+  pub below-first : P 0 → CheckedBelow P 1
+  below-first p = record { each = λ a l. subst⁻¹ P (omega arith) p }
+
+  pub below-next : {b : ℕ} → CheckedBelow P b → P b → CheckedBelow P (b + 1)
+  below-next {b} c p = record {
+    each = λ a m. ⊎-elim (λ (k : a < b). c .each a k) (λ (k : b ≤ a). subst⁻¹ P (omega arith) p) (below-or a b);
+  }
+
+  pub below-all : {b : ℕ} → CheckedBelow P b → ((a : ℕ) → b ≤ a → P a) → (a : ℕ) → P a
+  below-all {b} c past a = ⊎-elim (λ (k : a < b). c .each a k) (λ (k : b ≤ a). past a k) (below-or a b)
 
 -- a bus with no neighbour has no line to check
-bare-lines : {n : ℕ} {nbr : ℕ → ℕ} {b : ℕ} → nbr b ≡ empty → LinesAt n nbr b
+pub bare-lines : {n : ℕ} {nbr : ℕ → ℕ} {b : ℕ} → nbr b ≡ empty → LinesAt n nbr b
 bare-lines e a h = absurd (omega (arith, ap (λ (s : ℕ). bit s a) e, bit-zero a))
-
-pub below-first : (n : ℕ) (nbr : ℕ → ℕ) → nbr 0 ≡ empty → CheckedBelow n nbr 1
-below-first n nbr e = record { lines = λ a l. subst⁻¹ (LinesAt n nbr) (omega arith) (bare-lines {n = n} {nbr = nbr} {b = 0} e) }
-
-pub below-next : {n : ℕ} {nbr : ℕ → ℕ} {b : ℕ} → CheckedBelow n nbr b → LinesAt n nbr b → CheckedBelow n nbr (b + 1)
-below-next {n} {nbr} {b} c l = record {
-  lines = λ a m. ⊎-elim (λ (k : a < b). c .lines a k) (λ (k : b ≤ a). subst⁻¹ (LinesAt n nbr) (omega arith) l) (below-or a b);
-}
-
-pub below-all : {n : ℕ} {nbr : ℕ → ℕ} {b : ℕ} → CheckedBelow n nbr b → ((a : ℕ) → b ≤ a → nbr a ≡ empty) → Lines n nbr
-below-all {n} {nbr} {b} c past a =
-    ⊎-elim (λ (k : a < b). c .lines a k) (λ (k : b ≤ a). bare-lines {n = n} {nbr = nbr} {b = a} (past a k)) (below-or a b)
 
 -- ---- all the clauses of refusal 5
 
+pub valid-counts : {c : Case} → Valid c → (b : ℕ) → CountsAt (c .nbr) b
+valid-counts v b = record { joined = v .joined b; others = v .others b; mirrored = alike-mirrored (v .alike b) }
+
 pub valid-test : {c : Case} {k : ℕ} {r : Bool} → Bus mostBuses (c .n) → Within (c .n) (setOf (c .zero)) → Within (c .n) (setOf (c .site))
     → Within (c .n) (setOf (c .units))
-    → Lines (c .n) (neighbours (c .nbr)) → k ≡ lineCount (c .n) (neighbours (c .nbr)) → Decides (k ≤ mostLines) r → Decides (Valid c) r
-valid-test buses zeros sites units lines e d =
+    → Lines (c .n) (neighbours (c .nbr)) → ((b : ℕ) → CountsAt (c .nbr) b) → k ≡ lineCount (c .n) (neighbours (c .nbr))
+    → Decides (k ≤ mostLines) r → Decides (Valid c) r
+valid-test buses zeros sites units lines counts e d =
     decides-by
-    (λ l. record { buses = buses; proper = record { lines = lines; zeros = zeros; sites = sites; units = units }; few = omega (arith, e) })
+    (λ l. record {
+      buses = buses;
+      proper = record { lines = lines; zeros = zeros; sites = sites; units = units };
+      few = omega (arith, e);
+      joined = λ a. counts a .joined;
+      others = λ a. counts a .others;
+      alike = λ a b. mirrored-alike (counts a .mirrored) (counts b .mirrored);
+    })
     (λ v. let few = v .few in omega (arith, e)) d

@@ -1,52 +1,88 @@
--- The rows of a case value, by bus number.
-use mathlib.Core.Path.{_≡_, sym, ap, _∙_}
-use mathlib.Core.List.{_∷_}
-use Prim.Native.Nat.{ℕ, zero, suc, _-_, _≤_, _<_}
+-- The sets of each bus, by bus number and place: what is read after a set is put.
+use mathlib.Core.Path.{_≡_, refl, sym, ap, _∙_}
+use mathlib.Core.Bool.{Bool, true, false, cond}
+use mathlib.Core.List.{_++_}
+use Prim.Native.Nat.{ℕ, zero, suc, _+_, _-_, _*_, _≤_, _<_}
 use native.Mathlib.Omega.{arith}
-use lib.ListN.{getD, length, length-set, length-replicate, List·getD-eq-default}
+use lib.ListN.{getD, length, length-set, length-replicate, length-append, replicate, List·getD-eq-default}
 use lib.Seq.{getD-set-same, getD-set-other}
-use Rattle.busset.specs.Sets.{Out, empty, setOf}
+use Rattle.busset.specs.Sets.{bit, In, Out, empty, setOf}
 use Rattle.busset.specs.Held.{SetWord, emptyWord}
+use Rattle.busset.proofs.Members.{out-of}
 use Rattle.busset.proofs.Words.{set-empty, set-zero}
-use Rattle.grid.specs.Limits.{mostBuses}
-use Rattle.grid.specs.Rows.{Rows, neighbours, withRow, noRows}
+use Rattle.grid.specs.Rows.{busSets, rowsLength, Rows, setAt, neighbours, withSet, noRows}
 
--- the row of bus b stands at b - 1
-pub row-at : (rows : Rows) (b : ℕ) → 1 ≤ b → setOf (getD rows (b - 1) emptyWord) ≡ neighbours rows b
-unfolding neighbours
-row-at rows zero l = absurd (omega arith)
-row-at rows (suc i) l = ap (λ (k : ℕ). setOf (getD rows k emptyWord)) (omega arith)
+-- ---- where a set stands
 
--- bus 0 and the buses past the rows have no neighbour
-pub row-zero : (rows : Rows) → neighbours rows 0 ≡ empty
-unfolding neighbours
-row-zero rows = set-empty
+-- set i of bus b stands at busSets * (b - 1) + i
+pub set-at : (rows : Rows) (b i : ℕ) → 1 ≤ b → setOf (getD rows (busSets * (b - 1) + i) emptyWord) ≡ setAt rows b i
+unfolding setAt
+set-at rows zero i l = absurd (omega arith)
+set-at rows (suc b) i l =
+    let e : busSets * suc b + i ≡ suc (suc (suc (suc (suc (busSets * (suc b - 1) + i))))) = omega arith in
+    ap (λ (k : ℕ). setOf (getD (replicate busSets emptyWord ++ rows) k emptyWord)) (sym e)
 
-pub row-past : (rows : Rows) (b : ℕ) → length rows < b → neighbours rows b ≡ empty
-unfolding neighbours
-row-past rows b l = ap setOf (List·getD-eq-default (emptyWord ∷ rows) emptyWord {n = b} (omega arith)) ∙ set-empty
+-- bus 0 and the buses past the rows have none
+pub set-none : (rows : Rows) (i : ℕ) → i < busSets → setAt rows 0 i ≡ empty
+unfolding setAt
+set-none rows zero l = set-empty
+set-none rows (suc zero) l = set-empty
+set-none rows (suc (suc zero)) l = set-empty
+set-none rows (suc (suc (suc zero))) l = set-empty
+set-none rows (suc (suc (suc (suc zero)))) l = set-empty
+set-none rows (suc (suc (suc (suc (suc i))))) l = absurd (omega arith)
+
+pub set-past : (rows : Rows) (b i : ℕ) → length rows + busSets ≤ busSets * b → setAt rows b i ≡ empty
+unfolding setAt
+set-past rows b i l =
+    ap setOf (List·getD-eq-default (replicate busSets emptyWord ++ rows) emptyWord {n = busSets * b + i} (omega arith)) ∙ set-empty
 
 -- no bus is joined to a bus 0
-pub row-bus : (rows : Rows) (a : ℕ) → Out (neighbours rows a) 0
+pub set-bus : (rows : Rows) (b i : ℕ) → Out (setAt rows b i) 0
+unfolding setAt
+set-bus rows b i = set-zero (getD (replicate busSets emptyWord ++ rows) (busSets * b + i) emptyWord)
+
+-- ---- the neighbours are the first set
+
+pub row-set : (rows : Rows) (b : ℕ) → neighbours rows b ≡ setAt rows b 0
 unfolding neighbours
-row-bus rows a = set-zero (getD (emptyWord ∷ rows) a emptyWord)
+row-set rows b = refl
 
--- ---- after a row is put
+pub row-zero : (rows : Rows) → neighbours rows 0 ≡ empty
+row-zero rows = row-set rows 0 ∙ set-none rows 0 (omega arith)
 
-module _ (rows : Rows) (x : ℕ) (w : SetWord) (h : 1 ≤ x) where
-  pub row-put-same : x ≤ length rows → neighbours (withRow rows x w) x ≡ setOf w
-  row-put-same l = sym (row-at (withRow rows x w) x h) ∙ ap setOf (getD-set-same rows (x - 1) w emptyWord (omega arith))
+pub row-past : (rows : Rows) (b : ℕ) → length rows + busSets ≤ busSets * b → neighbours rows b ≡ empty
+row-past rows b l = row-set rows b ∙ set-past rows b 0 l
 
-  pub row-put-other : (y : ℕ) → (y ≡ x → ⊥) → neighbours (withRow rows x w) y ≡ neighbours rows y
-  row-put-other zero ne = row-zero (withRow rows x w) ∙ sym (row-zero rows)
-  row-put-other (suc i) ne =
-      sym (row-at (withRow rows x w) (suc i) (omega arith))
-      ∙ ap setOf (getD-set-other rows (x - 1) (suc i - 1) w emptyWord (λ e. ne (omega arith)))
-      ∙ row-at rows (suc i) (omega arith)
+pub row-bus : (rows : Rows) (b : ℕ) → Out (neighbours rows b) 0
+unfolding neighbours
+row-bus rows b = set-bus rows b 0
 
--- there is still a row for each bus
-pub row-put-length : (rows : Rows) (x : ℕ) (w : SetWord) → length rows ≡ mostBuses → length (withRow rows x w) ≡ mostBuses
-row-put-length rows x w l = simp length-set l
+-- ---- after a set is put
 
-pub no-rows-length : length noRows ≡ mostBuses
-no-rows-length = length-replicate mostBuses emptyWord
+module _ (rows : Rows) (x i : ℕ) (w : SetWord) (h : 1 ≤ x) (k : i < busSets) where
+  pub set-put-same : busSets * x ≤ length rows → setAt (withSet rows x i w) x i ≡ setOf w
+  set-put-same l =
+      sym (set-at (withSet rows x i w) x i h) ∙ ap setOf (getD-set-same rows (busSets * (x - 1) + i) w emptyWord (omega arith))
+
+  pub set-put-other : (y j : ℕ) → j < busSets → ((y ≡ x) → (j ≡ i) → ⊥) → setAt (withSet rows x i w) y j ≡ setAt rows y j
+  set-put-other zero j m ne = set-none (withSet rows x i w) j m ∙ sym (set-none rows j m)
+  set-put-other (suc y) j m ne =
+      sym (set-at (withSet rows x i w) (suc y) j (omega arith))
+      ∙ ap setOf (getD-set-other rows (busSets * (x - 1) + i) (busSets * (suc y - 1) + j) w emptyWord (λ e. ne (omega arith) (omega arith)))
+      ∙ set-at rows (suc y) j (omega arith)
+
+-- there are still as many sets
+pub set-put-length : (rows : Rows) (x i : ℕ) (w : SetWord) → length (withSet rows x i w) ≡ length rows
+set-put-length rows x i w = length-set rows (busSets * (x - 1) + i) w
+
+pub no-rows-length : length noRows ≡ rowsLength
+no-rows-length = length-replicate rowsLength emptyWord
+
+-- ---- a digit: whether b is in a set
+
+pub digit-in : (b : ℕ) {s t : ℕ} → s ≡ t → In s b → 1 ≡ bit t b
+digit-in b e h = sym h ∙ ap (λ (x : ℕ). bit x b) e
+
+pub digit-out : (b : ℕ) {s t : ℕ} → s ≡ t → (In s b → ⊥) → 0 ≡ bit t b
+digit-out b {s} e n = sym (out-of s b n) ∙ ap (λ (x : ℕ). bit x b) e

@@ -2,11 +2,11 @@
 use mathlib.Core.Path.{_≡_}
 use Prim.Native.Nat.{ℕ, _≤_}
 use lib.ListN.{length}
-use Rattle.busset.specs.Sets.{Bus, In, setOf}
+use Rattle.busset.specs.Sets.{Bus, In, Out, setOf}
 use Rattle.busset.specs.Held.{SetWord, emptyWord}
 use Rattle.rules.specs.Grids.{Grid, Line, Proper, lineCount}
-use Rattle.grid.specs.Limits.{mostBuses, mostLines}
-use Rattle.grid.specs.Rows.{Rows, neighbours}
+use Rattle.grid.specs.Limits.{mostBuses, mostLines, mostCircuits}
+use Rattle.grid.specs.Rows.{Rows, rowsLength, neighbours, circuits, withLine}
 use Rattle.grid.specs.declared.Case.{Case}
 
 -- ---- the view
@@ -33,9 +33,13 @@ caseOf n rows zeros sites units = record { n = n; nbr = rows; zero = zeros; site
 abbrev pub gridOf : Case → Grid
 gridOf c = gridWith (c .n) (c .nbr) (c .zero) (c .site) (c .units)
 
--- what the type of a case value says: a row for each bus
+-- the case with a line of k circuits between a and b
+abbrev pub lined : Case → ℕ → ℕ → ℕ → Case
+lined c a b k = caseOf (c .n) (withLine (c .nbr) a b k) (c .zero) (c .site) (c .units)
+
+-- what the type of a case value says: the sets of each bus
 pub record Sized (c : Case) : Type 0 where
-  pub rows : length (c .nbr) ≡ mostBuses
+  pub rows : length (c .nbr) ≡ rowsLength
 
 -- ---- validity
 
@@ -47,6 +51,18 @@ LinesAt n nbr b = (a : ℕ) → In (nbr b) a → Line n nbr b a
 abbrev pub Lines : ℕ → (ℕ → ℕ) → Type 0
 Lines n nbr = (b : ℕ) → LinesAt n nbr b
 
+-- a joined pair is counted 1 to the most circuits, as a counts
+abbrev pub JoinedCounted : Rows → ℕ → Type 0
+JoinedCounted rows a = (b : ℕ) → In (neighbours rows a) b → Bus mostCircuits (circuits rows a b)
+
+-- any other pair is counted 0: one that is not joined, a bus with itself, a bus above n
+abbrev pub OthersUncounted : Rows → ℕ → Type 0
+OthersUncounted rows a = (b : ℕ) → Out (neighbours rows a) b → circuits rows a b ≡ 0
+
+-- the two ends count alike
+abbrev pub CountedAlike : Rows → ℕ → Type 0
+CountedAlike rows a = (b : ℕ) → circuits rows a b ≡ circuits rows b a
+
 -- what refusal 5 does not refuse
 pub record Valid (c : Case) : Type 0 where
   -- n is 1 to the most buses
@@ -55,3 +71,7 @@ pub record Valid (c : Case) : Type 0 where
   pub proper : Proper (gridOf c)
   -- there are no more lines than the most
   pub few : lineCount (c .n) (neighbours (c .nbr)) ≤ mostLines
+  -- a joined pair is counted 1 to the most circuits, any other pair is counted 0, and the two ends count alike
+  pub joined : (a : ℕ) → JoinedCounted (c .nbr) a
+  pub others : (a : ℕ) → OthersUncounted (c .nbr) a
+  pub alike : (a : ℕ) → CountedAlike (c .nbr) a

@@ -1,11 +1,14 @@
-// The case value, its view and when it is valid; buses with their neighbours; whether a set has all buses.
+// The case value, what it says of lines and their circuits, and when it is valid; buses with their neighbours; whether a set has all buses.
 ghost use mathlib.Core.Path.{_≡_};
-ghost use Prim.Native.Nat.{_≤_};
+ghost use mathlib.Core.Bool.{cond};
+ghost use Prim.Native.Nat.{_≤_, _<_};
 ghost use Rattle.busset.specs.Held.{wordOf};
 ghost use Rattle.basics.specs.Deciding.{Decides};
-ghost use Rattle.busset.specs.Sets.{Bus, width, setOf, add};
+ghost use Rattle.busset.specs.Sets.{Bus, width, bit, setOf, add, less};
 ghost use Rattle.rules.specs.Placing.{Full};
-ghost use Rattle.grid.specs.Rows.{neighbours, withRow, noRows};
+ghost use Rattle.grid.specs.Rows.{busSets, setAt, neighbours, circuits as circuitsOf};
+ghost use Rattle.grid.specs.Rows.{withSet, withRow, withBit, isOdd, withCircuits, withEnd, withLine, noRows};
+ghost use Rattle.grid.specs.Cases.{lined};
 ghost use Rattle.grid.specs.Near.{WithNeighbours};
 
 pub mod limits;
@@ -14,8 +17,14 @@ pub mod validity;
 use busset::BusSet;
 use limits::MOST_BUSES;
 
-// The neighbours of all buses: those of bus b are at b - 1. No other crate reads or writes a place of it.
-pub type Rows = [BusSet; MOST_BUSES];
+// How many sets a bus has: its neighbours, and the four binary digits of its counts of circuits, the lowest first.
+pub const BUS_SETS: usize = 5;
+
+// How many all buses have.
+pub const ROWS_LENGTH: usize = BUS_SETS * MOST_BUSES;
+
+// What all buses are joined to: the sets of bus b from 5 * (b - 1) on. No other crate reads or writes a place of it.
+pub type Rows = [BusSet; ROWS_LENGTH];
 
 // A grid as a caller lends it.
 pub struct Case {
@@ -26,12 +35,48 @@ pub struct Case {
     pub units: BusSet,
 }
 
+// Set i of bus b.
+pub fn set_at(nbr: &Rows, b: usize, i: usize) -> BusSet
+    requires { ⌜ Bus width b × (i < busSets) ⌝ }
+    ensures { λ r. ⌜ setOf r ≡ setAt (now (nbr .entry)) b i ⌝ }
+{
+    nbr[BUS_SETS * (b - 1) + i]
+}
+
 // The neighbours of bus b.
 pub fn row(nbr: &Rows, b: usize) -> BusSet
     requires { ⌜ Bus width b ⌝ }
     ensures { λ r. ⌜ setOf r ≡ neighbours (now (nbr .entry)) b ⌝ }
 {
-    nbr[b - 1]
+    set_at(nbr, b, 0)
+}
+
+// Whether b is in set i of bus a, as a digit.
+fn digit(nbr: &Rows, a: usize, i: usize, b: usize) -> usize
+    requires { ⌜ Bus width a × (i < busSets) × Bus width b ⌝ }
+    ensures { λ r. ⌜ r ≡ bit (setAt (now (nbr .entry)) a i) b ⌝ }
+{
+    if busset::has(set_at(nbr, a, i), b) {
+        return 1;
+    }
+    0
+}
+
+// The circuits from a to b, as a counts them: 0 to 15.
+pub fn circuits(nbr: &Rows, a: usize, b: usize) -> usize
+    requires { ⌜ Bus width a × Bus width b ⌝ }
+    ensures { λ r. ⌜ r ≡ circuitsOf (now (nbr .entry)) a b ⌝ }
+{
+    let high = digit(nbr, a, 3, b) + 2 * digit(nbr, a, 4, b);
+    digit(nbr, a, 1, b) + 2 * (digit(nbr, a, 2, b) + 2 * high)
+}
+
+// Puts set i of bus b.
+fn put_set(rows: &mut Rows, b: usize, i: usize, s: BusSet)
+    requires { ⌜ Bus width b × (i < busSets) ⌝ }
+    ensures { λ _. ⌜ now (rows .exit) ≡ withSet (now (rows .entry)) b i s ⌝ }
+{
+    rows[BUS_SETS * (b - 1) + i] = s;
 }
 
 // Puts the neighbours of bus b.
@@ -39,16 +84,72 @@ pub fn set_row(rows: &mut Rows, b: usize, s: BusSet)
     requires { ⌜ Bus width b ⌝ }
     ensures { λ _. ⌜ now (rows .exit) ≡ withRow (now (rows .entry)) b s ⌝ }
 {
-    rows[b - 1] = s;
+    put_set(rows, b, 0, s);
 }
 
-// b becomes a neighbour of a.
-pub fn add_neighbour(rows: &mut Rows, a: usize, b: usize)
-    requires { ⌜ Bus width a × Bus width b ⌝ }
-    ensures { λ _. ⌜ now (rows .exit)
-        ≡ withRow (now (rows .entry)) a (wordOf (add (neighbours (now (rows .entry)) a) b)) ⌝ }
+// The set with b where t, and without it otherwise.
+fn with_if(t: bool, s: BusSet, b: usize) -> BusSet
+    requires { ⌜ Bus width b ⌝ }
+    ensures { λ r. ⌜ r ≡ wordOf (cond t (add (setOf s) b) (less (setOf s) b)) ⌝ }
 {
-    rows[a - 1] = busset::with(rows[a - 1], b);
+    if t {
+        return busset::with(s, b);
+    }
+    busset::without(s, b)
+}
+
+// Puts b into set i of bus a where t, and takes it out otherwise.
+fn put_bit(rows: &mut Rows, a: usize, i: usize, b: usize, t: bool)
+    requires { ⌜ Bus width a × (i < busSets) × Bus width b ⌝ }
+    ensures { λ _. ⌜ now (rows .exit) ≡ withBit (now (rows .entry)) a i b t ⌝ }
+{
+    let s = with_if(t, set_at(&*rows, a, i), b);
+    put_set(rows, a, i, s);
+}
+
+fn is_odd(k: usize) -> bool
+    ensures { λ r. ⌜ r ≡ isOdd k ⌝ }
+{
+    k % 2 == 1
+}
+
+// Puts the circuits from a to b, as a counts them: the lowest four binary digits of k.
+pub fn set_circuits(rows: &mut Rows, a: usize, b: usize, k: usize)
+    requires { ⌜ Bus width a × Bus width b ⌝ }
+    ensures { λ _. ⌜ now (rows .exit) ≡ withCircuits (now (rows .entry)) a b k ⌝ }
+{
+    put_bit(rows, a, 1, b, is_odd(k));
+    put_bit(rows, a, 2, b, is_odd(k / 2));
+    put_bit(rows, a, 3, b, is_odd(k / 2 / 2));
+    put_bit(rows, a, 4, b, is_odd(k / 2 / 2 / 2));
+}
+
+// b becomes a neighbour of a, by k circuits.
+fn add_end(rows: &mut Rows, a: usize, b: usize, k: usize)
+    requires { ⌜ Bus width a × Bus width b ⌝ }
+    ensures { λ _. ⌜ now (rows .exit) ≡ withEnd (now (rows .entry)) a b k ⌝ }
+{
+    put_bit(rows, a, 0, b, true);
+    set_circuits(rows, a, b, k);
+}
+
+// A line of k circuits: a and b become neighbours of each other.
+pub fn add_line(rows: &mut Rows, a: usize, b: usize, k: usize)
+    requires { ⌜ Bus width a × Bus width b ⌝ }
+    ensures { λ _. ⌜ now (rows .exit) ≡ withLine (now (rows .entry)) a b k ⌝ }
+{
+    add_end(rows, a, b, k);
+    add_end(rows, b, a, k);
+}
+
+// The case with a line of k circuits between a and b.
+pub fn with_line(case: Case, a: usize, b: usize, k: usize) -> Case
+    requires { ⌜ Bus width a × Bus width b ⌝ }
+    ensures { λ r. ⌜ r ≡ lined case a b k ⌝ }
+{
+    let mut c = case;
+    add_line(&mut c.nbr, a, b, k);
+    c
 }
 
 // No line.
@@ -56,7 +157,7 @@ pub fn no_rows() -> Rows
     ensures { λ r. ⌜ r ≡ noRows ⌝ }
 {
     let none = busset::none();
-    [none; MOST_BUSES]
+    [none; ROWS_LENGTH]
 }
 
 // These buses and their neighbours.

@@ -1,13 +1,13 @@
 // Whether a case value is valid: what refusal 5 does not refuse.
 ghost use mathlib.Core.Path.{_≡_};
-ghost use Prim.Native.Nat.{_≤_};
+ghost use Prim.Native.Nat.{ℕ, _≤_, _<_};
 ghost use lib.ListN.{length};
-ghost use Rattle.grid.specs.Limits.{mostBuses};
 ghost use Rattle.basics.specs.Deciding.{Decides};
 ghost use Rattle.busset.specs.Sets.{Bus, width};
 ghost use Rattle.rules.specs.Grids.{Line, lineCount};
-ghost use Rattle.grid.specs.Rows.{neighbours};
-ghost use Rattle.grid.specs.Cases.{caseOf, Valid, Lines, LinesAt};
+ghost use Rattle.grid.specs.Rows.{busSets, rowsLength, neighbours};
+ghost use Rattle.grid.specs.Cases.{caseOf, Valid, Lines, LinesAt, JoinedCounted, OthersUncounted};
+ghost use Rattle.grid.specs.Counting.{MirroredAt, DigitsMirrored, CountsAt};
 use crate::Rows;
 use crate::limits::MOST_BUSES;
 use crate::limits::MOST_LINES;
@@ -48,11 +48,74 @@ pub fn has_lines(n: usize, nbr: &Rows, b: usize) -> bool
 
 // Whether all that is joined is joined by a line.
 pub fn all_lines(n: usize, nbr: &Rows) -> bool
-    requires { ⌜ length (now nbr) ≡ mostBuses ⌝ }
+    requires { ⌜ length (now nbr) ≡ rowsLength ⌝ }
     ensures { λ r. ⌜ Decides (Lines n (neighbours (now (nbr .entry)))) r ⌝ }
 {
     for b in 1..=MOST_BUSES {
         if !has_lines(n, nbr, b) {
+            return false;
+        }
+    }
+    true
+}
+
+// Whether b counts 1 to the most circuits to each neighbour, and none to another bus: 8 is the highest digit alone.
+pub fn is_counted(nbr: &Rows, b: usize) -> bool
+    requires { ⌜ Bus width b ⌝ }
+    ensures { λ r. ⌜ Decides (JoinedCounted (now (nbr .entry)) b × OthersUncounted (now (nbr .entry)) b) r ⌝ }
+{
+    let pairs = busset::union(crate::set_at(nbr, b, 1), crate::set_at(nbr, b, 2));
+    let low = busset::union(pairs, crate::set_at(nbr, b, 3));
+    let high = crate::set_at(nbr, b, 4);
+    if !busset::is_none(busset::both(low, high)) {
+        return false;
+    }
+    busset::same(crate::row(nbr, b), busset::union(low, high))
+}
+
+// Whether b is in set i of each bus of its own set i.
+pub fn is_mirrored(nbr: &Rows, b: usize, i: usize) -> bool
+    requires { ⌜ Bus width b × (i < busSets) ⌝ }
+    ensures { λ r. ⌜ Decides (MirroredAt (now (nbr .entry)) i b) r ⌝ }
+{
+    let mut left = crate::set_at(nbr, b, i);
+    while !busset::is_none(left) {
+        let a = busset::lowest(left);
+        if !busset::has(crate::set_at(nbr, a, i), b) {
+            return false;
+        }
+        left = busset::without(left, a);
+    }
+    true
+}
+
+// Whether each digit of b's counts is mirrored.
+pub fn is_alike(nbr: &Rows, b: usize) -> bool
+    requires { ⌜ Bus width b ⌝ }
+    ensures { λ r. ⌜ Decides (DigitsMirrored (now (nbr .entry)) b) r ⌝ }
+{
+    if !is_mirrored(nbr, b, 1) {
+        return false;
+    }
+    if !is_mirrored(nbr, b, 2) {
+        return false;
+    }
+    if !is_mirrored(nbr, b, 3) {
+        return false;
+    }
+    is_mirrored(nbr, b, 4)
+}
+
+// Whether the circuits of every bus are counted, and alike from both ends.
+pub fn all_counted(nbr: &Rows) -> bool
+    requires { ⌜ length (now nbr) ≡ rowsLength ⌝ }
+    ensures { λ r. ⌜ Decides ((b : ℕ) → CountsAt (now (nbr .entry)) b) r ⌝ }
+{
+    for b in 1..=MOST_BUSES {
+        if !is_counted(nbr, b) {
+            return false;
+        }
+        if !is_alike(nbr, b) {
             return false;
         }
     }
@@ -72,7 +135,7 @@ pub fn count_lines(n: usize, nbr: &Rows) -> usize
 
 // Whether the case of these parts is valid.
 pub fn is_valid(n: usize, nbr: &Rows, zero: BusSet, site: BusSet, units: BusSet) -> bool
-    requires { ⌜ length (now nbr) ≡ mostBuses ⌝ }
+    requires { ⌜ length (now nbr) ≡ rowsLength ⌝ }
     ensures { λ r. ⌜ Decides (Valid (caseOf n (now (nbr .entry)) zero site units)) r ⌝ }
 {
     if n < 1 {
@@ -91,6 +154,9 @@ pub fn is_valid(n: usize, nbr: &Rows, zero: BusSet, site: BusSet, units: BusSet)
         return false;
     }
     if !all_lines(n, nbr) {
+        return false;
+    }
+    if !all_counted(nbr) {
         return false;
     }
     count_lines(n, nbr) <= MOST_LINES

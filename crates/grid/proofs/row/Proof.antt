@@ -1,20 +1,16 @@
--- The rows are in bus order, so the row of bus b is at b - 1.
+-- The neighbours are the first set.
+use Rattle.grid.specs.Rows.{neighbours}
 use borrow.Author.Needs.{needs}
-use Rattle.grid.proofs.Rows.{row-at}
 use Rattle.grid.proofs.row.Statement.{statement}
 use Rattle.grid.proofs.row.Tie as tie
+use Rattle.grid.proofs.set_at.Reads as set-at-reads
 
-sub-result : tie.Need-sub-result
-sub-result c = search needs
-
-mul-result : tie.Need-mul-result
-mul-result c = search needs
-
-element-copy-out-result : tie.Need-element-copy-out-result
-element-copy-out-result c = search needs
+set-at-requires : tie.Need-set-at-requires
+set-at-requires c κs = search needs
 
 returns : tie.Need-returns
-returns c = row-at (c .before .args .nbr .now) (c .before .args .b) (c .before .pre .some)
+unfolding neighbours
+returns c = c .set-at .ensures
 
 pub row-spec : {M : Type 1} → statement M
-row-spec = tie.close (tie.spec sub-result mul-result element-copy-out-result returns)
+row-spec = tie.close (tie.spec set-at-requires returns)

@@ -4,13 +4,14 @@ use borrow.Author.Needs.{needs}
 use borrow.Author.Tests.{not-true, not-false}
 use Rattle.busset.specs.Sets.{setOf, size}
 use Rattle.basics.proofs.Tests.{refutes, decides-no, decides-yes}
+use Rattle.rules.specs.Grids.{Line}
 use Rattle.grid.specs.Rows.{neighbours}
 use Rattle.grid.proofs.Checking.{Checked, checked-none, checked-more, checked-all, checked-fails}
 use Rattle.grid.proofs.validity.has_lines.Statement.{statement}
 use Rattle.grid.proofs.validity.has_lines.Tie as tie
 
 abbrev Inv-loop : tie.InvT-loop
-Inv-loop n nbr b left₀ left = Checked n (neighbours nbr) b (setOf left)
+Inv-loop n nbr b left₀ left = Checked (Line n (neighbours nbr) b) (neighbours nbr b) (setOf left)
 
 abbrev μ-loop : tie.MeasureT-loop
 μ-loop n nbr b left₀ left = size (setOf left)
@@ -19,7 +20,7 @@ row-requires : tie.Need-row-requires Inv-loop μ-loop
 row-requires c κs = search needs
 
 loop-holds : tie.Need-loop-holds Inv-loop μ-loop
-loop-holds c = checked-none _ _ (c .row .ensures)
+loop-holds c = checked-none (c .row .ensures)
 
 is-none-requires : tie.Need-is-none-requires Inv-loop μ-loop
 is-none-requires c κs = search needs
