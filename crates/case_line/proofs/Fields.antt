@@ -9,9 +9,10 @@ use lib.ListN.{length, getD}
 use Rattle.text_field.specs.Split.{split, part, after, PieceEnd}
 use Rattle.text_field.specs.Number.{numeralOf}
 use Rattle.text_field.specs.declared.Numeral.{Numeral}
+use Rattle.text_field.specs.declared.Numeral.the-variants.{Is, Wrong as NoNumber}
 use Rattle.text_field.proofs.Cutting.{after-none, after-some, after-next}
-use Rattle.case_line.specs.Fields.{markOf, classOf, ifOneField, ifNoField, oneSite}
-use Rattle.case_line.specs.Record.{busRecordOf, busFields}
+use Rattle.case_line.specs.Fields.{markOf, classOf, ifOneField, ifNoField, oneNumber, oneSite}
+use Rattle.case_line.specs.Record.{lineRecordOf, circuitsRecordOf, busRecordOf, lineFields, busFields}
 use Rattle.case_line.specs.declared.Record.{Record}
 use Rattle.case_line.specs.declared.Record.the-variants.{Wrong}
 use Rattle.case_line.specs.declared.Mark.{Mark}
@@ -52,6 +53,10 @@ module _ {A : Type 0} (f : List (List ℕ) → A) where
   pub by-none : (s : List ℕ) (e : ℕ) → length s ≤ e → f [] ≡ f (after 9 s e)
   by-none s e h = sym (ap f (after-none 9 s e h))
 
+  pub by-one : {s : List ℕ} {a e : ℕ} → a < length s → PieceEnd 9 s (a + 1) e → length s ≤ e
+      → f (part s (a + 1) e ∷ []) ≡ f (after 9 s a)
+  by-one {s} {a} {e} h p l = sym (ap f (rw (after-next h p, after-none 9 s e l)))
+
   pub by-next : {s : List ℕ} {a e : ℕ} {r : A} → a < length s → PieceEnd 9 s (a + 1) e → r ≡ f (part s (a + 1) e ∷ after 9 s e)
       → r ≡ f (after 9 s a)
   by-next h p i = i ∙ sym (ap f (after-next h p))
@@ -79,13 +84,37 @@ module _ {A : Type 0} (w v : A) where
   unfolding ifNoField
   none-more s e h = rw (after-some 9 s e h)
 
-pub bus-one : {s : List ℕ} {a e : ℕ} → a < length s → PieceEnd 9 s (a + 1) e → length s ≤ e → Wrong ≡ busFields (after 9 s a)
-unfolding busFields
-bus-one {s} {a} {e} h p l = sym (rw (after-next h p, after-none 9 s e l))
-
 pub bus-is : {s : List ℕ} {a e d : ℕ} {n : Numeral} {x y : Mark} {r : Record} → a < length s → PieceEnd 9 s (a + 1) e → e < length s
     → PieceEnd 9 s (e + 1) d
     → n ≡ numeralOf (part s (a + 1) e) → x ≡ classOf (part s (e + 1) d) → y ≡ oneSite (after 9 s d) → r ≡ busRecordOf n x y
     → r ≡ busFields (after 9 s a)
 unfolding busFields
 bus-is h p l q i j k m = rw (after-next h p, after-next l q, ← i, ← j, ← k) m
+
+-- ---- the fields of `line`
+
+pub line-two : {s : List ℕ} {a e d : ℕ} {x y : Numeral} {r : Record} → a < length s → PieceEnd 9 s (a + 1) e → e < length s
+    → PieceEnd 9 s (e + 1) d → length s ≤ d
+    → x ≡ numeralOf (part s (a + 1) e) → y ≡ numeralOf (part s (e + 1) d) → r ≡ lineRecordOf x y
+    → r ≡ lineFields (after 9 s a)
+unfolding lineFields
+line-two {s} {d = d} h p l q m i j k = rw (after-next h p, after-next l q, after-none 9 s d m, ← i, ← j) k
+
+circuits-neither : (x y : Numeral) → circuitsRecordOf x y NoNumber ≡ Wrong
+circuits-neither (Is a) (Is b) = refl
+circuits-neither (Is a) NoNumber = refl
+circuits-neither NoNumber y = refl
+
+-- a third field makes the record of its number; with a fourth there is no such number
+line-some : (f g h : List ℕ) (fs : List (List ℕ))
+    → circuitsRecordOf (numeralOf f) (numeralOf g) (oneNumber (h ∷ fs)) ≡ lineFields (f ∷ g ∷ h ∷ fs)
+unfolding lineFields ifOneField
+line-some f g h [] = refl
+line-some f g h (i ∷ fs) = circuits-neither (numeralOf f) (numeralOf g)
+
+pub line-three : {s : List ℕ} {a e d : ℕ} {x y z : Numeral} {r : Record} → a < length s → PieceEnd 9 s (a + 1) e → e < length s
+    → PieceEnd 9 s (e + 1) d → d < length s
+    → x ≡ numeralOf (part s (a + 1) e) → y ≡ numeralOf (part s (e + 1) d) → z ≡ oneNumber (after 9 s d) → r ≡ circuitsRecordOf x y z
+    → r ≡ lineFields (after 9 s a)
+line-three {s} {d = d} h p l q m i j k n =
+    rw (after-next h p, after-next l q, after-some 9 s d m, ← line-some, ← after-some 9 s d m, ← i, ← j, ← k) n

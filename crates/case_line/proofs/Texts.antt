@@ -14,10 +14,11 @@ use Rattle.text_field.specs.declared.Numeral.the-variants.{Is, Wrong as NoNumbe
 use Rattle.text_field.proofs.Cutting.{FreeOf, AllFree, same-is, split-join, join-split, free-join}
 use Rattle.text_field.proofs.Digits.{read-number, written-number, number-free}
 use Rattle.case_line.specs.Fields.{markOf, classOf, siteOf, ifOneField, ifNoField}
-use Rattle.case_line.specs.Record.{recordWordOf, gridRecordOf, pmuRecordOf, lineRecordOf, busRecordOf, lineFields, busFields, byWord}
+use Rattle.case_line.specs.Record.{recordWordOf, gridRecordOf, pmuRecordOf, lineRecordOf, circuitsRecordOf, busRecordOf}
+use Rattle.case_line.specs.Record.{lineFields, busFields, byWord}
 use Rattle.case_line.specs.Record.{recordOf, letterIf, wordText, fieldTexts, recordText, Formed}
 use Rattle.case_line.specs.declared.Record.{Record}
-use Rattle.case_line.specs.declared.Record.the-variants.{Grid, Bus, Line, Pmu, End, Wrong}
+use Rattle.case_line.specs.declared.Record.the-variants.{Grid, Bus, Line, Circuits, Pmu, End, Wrong}
 use Rattle.case_line.specs.declared.Word.{Word}
 use Rattle.case_line.specs.declared.Word.the-variants.{Grid as GridWord, Bus as BusWord, Line as LineWord}
 use Rattle.case_line.specs.declared.Word.the-variants.{Pmu as PmuWord, End as EndWord, Other}
@@ -30,11 +31,15 @@ letter-free : (c p q : ℕ) (t : Bool) → (p ≡ c → ⊥) → (q ≡ c → �
 letter-free c p q true f g = (f, tt)
 letter-free c p q false f g = (g, tt)
 
+line-free : (c : ℕ) → c < 48 → FreeOf c (bytes "line")
+line-free c h = ((λ e. omega arith), ((λ e. omega arith), ((λ e. omega arith), ((λ e. omega arith), tt))))
+
 -- neither a tab nor a line feed stands in a word or a field
 pub word-free : (c : ℕ) (r : Record) → c < 48 → FreeOf c (wordText r)
 word-free c (Grid n) h = ((λ e. omega arith), ((λ e. omega arith), ((λ e. omega arith), ((λ e. omega arith), tt))))
 word-free c (Bus n z o) h = ((λ e. omega arith), ((λ e. omega arith), ((λ e. omega arith), tt)))
-word-free c (Line a b) h = ((λ e. omega arith), ((λ e. omega arith), ((λ e. omega arith), ((λ e. omega arith), tt))))
+word-free c (Line a b) h = line-free c h
+word-free c (Circuits a b k) h = line-free c h
 word-free c (Pmu n) h = ((λ e. omega arith), ((λ e. omega arith), ((λ e. omega arith), tt)))
 word-free c End h = ((λ e. omega arith), ((λ e. omega arith), ((λ e. omega arith), tt)))
 word-free c Wrong h = tt
@@ -49,6 +54,10 @@ fields-free c (Bus n z o) h f = (
   ),
 )
 fields-free c (Line a b) h f = (number-free c a h (omega (arith, f .0)), (number-free c b h (omega (arith, f .1)), tt))
+fields-free c (Circuits a b k) h f = (
+  number-free c a h (omega (arith, f .0)),
+  (number-free c b h (omega (arith, f .1)), (number-free c k h (omega (arith, f .2)), tt)),
+)
 fields-free c (Pmu n) h f = (number-free c n h (omega arith), tt)
 fields-free c End h f = tt
 fields-free c Wrong h f = tt
@@ -61,6 +70,7 @@ read-fields (Bus n true false) f = rw (read-number n f)
 read-fields (Bus n false true) f = rw (read-number n f)
 read-fields (Bus n false false) f = rw (read-number n f)
 read-fields (Line a b) f = rw (read-number a (f .0), read-number b (f .1))
+read-fields (Circuits a b k) f = rw (read-number a (f .0), read-number b (f .1), read-number k (f .2))
 read-fields (Pmu n) f = rw (read-number n f)
 read-fields End f = refl
 read-fields Wrong f = absurd f
@@ -126,6 +136,17 @@ line-spells w f g (Is a) (Is b) e h i =
 line-spells w f g (Is a) NoNumber e h i = inl refl
 line-spells w f g NoNumber y e h i = inl refl
 
+circuits-spells : (w f g p : List ℕ) (x y z : Numeral) → w ≡ bytes "line" → numeralOf f ≡ x → numeralOf g ≡ y → numeralOf p ≡ z
+    → Spells (circuitsRecordOf x y z) w (f ∷ g ∷ p ∷ [])
+circuits-spells w f g p (Is a) (Is b) (Is k) e h i j =
+    let s = written-number f a h in
+    let t = written-number g b i in
+    let u = written-number p k j in
+    inr ((s .small, t .small, u .small), sym e, cc (s .text, t .text, u .text))
+circuits-spells w f g p (Is a) (Is b) NoNumber e h i j = inl refl
+circuits-spells w f g p (Is a) NoNumber z e h i j = inl refl
+circuits-spells w f g p NoNumber y z e h i j = inl refl
+
 bus-spells : (w f g h : List ℕ) (x : Numeral) (c s : Mark) → w ≡ bytes "bus" → numeralOf f ≡ x → classOf g ≡ c → siteOf h ≡ s
     → Spells (busRecordOf x c s) w (f ∷ g ∷ h ∷ [])
 bus-spells w f g h (Is n) (Letter z) (Letter o) e i j k =
@@ -142,10 +163,6 @@ bus-neither (Is n) (Letter z) = refl
 bus-neither (Is n) Neither = refl
 bus-neither NoNumber c = refl
 
-line-neither : (x : Numeral) → lineRecordOf x NoNumber ≡ Wrong
-line-neither (Is n) = refl
-line-neither NoNumber = refl
-
 spells : (w : List ℕ) (v : Word) (fs : List (List ℕ)) → word-spelt w v → Spells (byWord v fs) w fs
 unfolding word-spelt ifOneField ifNoField lineFields busFields
 spells w GridWord [] e = inl refl
@@ -157,9 +174,10 @@ spells w BusWord (f ∷ g ∷ []) e = inl (bus-neither (numeralOf f) (classOf g)
 spells w BusWord (f ∷ g ∷ h ∷ []) e = bus-spells w f g h (numeralOf f) (classOf g) (siteOf h) e refl refl refl
 spells w BusWord (f ∷ g ∷ h ∷ i ∷ fs) e = inl (bus-neither (numeralOf f) (classOf g))
 spells w LineWord [] e = inl refl
-spells w LineWord (f ∷ []) e = inl (line-neither (numeralOf f))
+spells w LineWord (f ∷ []) e = inl refl
 spells w LineWord (f ∷ g ∷ []) e = line-spells w f g (numeralOf f) (numeralOf g) e refl refl
-spells w LineWord (f ∷ g ∷ h ∷ fs) e = inl (line-neither (numeralOf f))
+spells w LineWord (f ∷ g ∷ h ∷ []) e = circuits-spells w f g h (numeralOf f) (numeralOf g) (numeralOf h) e refl refl refl
+spells w LineWord (f ∷ g ∷ h ∷ i ∷ fs) e = inl refl
 spells w PmuWord [] e = inl refl
 spells w PmuWord (f ∷ []) e = pmu-spells w f (numeralOf f) e refl
 spells w PmuWord (f ∷ g ∷ fs) e = inl refl

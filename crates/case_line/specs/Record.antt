@@ -1,4 +1,5 @@
--- A line of a case text, read as a record: `grid n`, `bus number class site`, `line a b`, `pmu number` or `end`, one tab between fields.
+-- A line of a case text, read as a record, one tab between fields: `grid n`, `bus number class site`, `line a b` of one circuit,
+-- `line a b k` of k circuits, `pmu number` or `end`.
 use mathlib.Core.Bool.{Bool, cond}
 use mathlib.Core.List.{List, [], _∷_}
 use Prim.Native.Nat.{ℕ, _<_}
@@ -8,7 +9,7 @@ use Rattle.text_field.specs.declared.Numeral.{Numeral}
 use Rattle.text_field.specs.declared.Numeral.the-variants.{Is, Wrong as NoNumber}
 use Rattle.case_line.specs.Fields.{letterZ, letterI, letterY, letterN, classOf, ifNoField, oneNumber, oneSite}
 use Rattle.case_line.specs.declared.Record.{Record}
-use Rattle.case_line.specs.declared.Record.the-variants.{Grid, Bus, Line, Pmu, End, Wrong}
+use Rattle.case_line.specs.declared.Record.the-variants.{Grid, Bus, Line, Circuits, Pmu, End, Wrong}
 use Rattle.case_line.specs.declared.Word.{Word}
 use Rattle.case_line.specs.declared.Word.the-variants.{Grid as GridWord, Bus as BusWord, Line as LineWord}
 use Rattle.case_line.specs.declared.Word.the-variants.{Pmu as PmuWord, End as EndWord, Other}
@@ -43,6 +44,13 @@ lineRecordOf (Is a) (Is b) = Line a b
 lineRecordOf (Is a) NoNumber = Wrong
 lineRecordOf NoNumber b = Wrong
 
+-- `line a b k`
+abbrev pub circuitsRecordOf : Numeral → Numeral → Numeral → Record
+circuitsRecordOf (Is a) (Is b) (Is k) = Circuits a b k
+circuitsRecordOf (Is a) (Is b) NoNumber = Wrong
+circuitsRecordOf (Is a) NoNumber k = Wrong
+circuitsRecordOf NoNumber b k = Wrong
+
 -- `bus number class site`
 abbrev pub busRecordOf : Numeral → Mark → Mark → Record
 busRecordOf (Is n) (Letter zero) (Letter site) = Bus n zero site
@@ -50,10 +58,13 @@ busRecordOf (Is n) (Letter zero) Neither = Wrong
 busRecordOf (Is n) Neither site = Wrong
 busRecordOf NoNumber class site = Wrong
 
--- the two fields of `line`
+-- the two or three fields of `line`
 unfoldable pub lineFields : List (List ℕ) → Record
 lineFields [] = Wrong
-lineFields (a ∷ fs) = lineRecordOf (numeralOf a) (oneNumber fs)
+lineFields (a ∷ []) = Wrong
+lineFields (a ∷ b ∷ []) = lineRecordOf (numeralOf a) (numeralOf b)
+lineFields (a ∷ b ∷ k ∷ []) = circuitsRecordOf (numeralOf a) (numeralOf b) (numeralOf k)
+lineFields (a ∷ b ∷ k ∷ f ∷ fs) = Wrong
 
 -- the three fields of `bus`
 unfoldable pub busFields : List (List ℕ) → Record
@@ -89,6 +100,7 @@ abbrev pub wordText : Record → List ℕ
 wordText (Grid n) = bytes "grid"
 wordText (Bus n zero site) = bytes "bus"
 wordText (Line a b) = bytes "line"
+wordText (Circuits a b k) = bytes "line"
 wordText (Pmu n) = bytes "pmu"
 wordText End = bytes "end"
 wordText Wrong = []
@@ -97,6 +109,7 @@ abbrev pub fieldTexts : Record → List (List ℕ)
 fieldTexts (Grid n) = numberText n ∷ []
 fieldTexts (Bus n zero site) = numberText n ∷ letterIf zero letterZ letterI ∷ letterIf site letterY letterN ∷ []
 fieldTexts (Line a b) = numberText a ∷ numberText b ∷ []
+fieldTexts (Circuits a b k) = numberText a ∷ numberText b ∷ numberText k ∷ []
 fieldTexts (Pmu n) = numberText n ∷ []
 fieldTexts End = []
 fieldTexts Wrong = []
@@ -110,6 +123,7 @@ abbrev pub Formed : Record → Type 0
 Formed (Grid n) = n < mostRead
 Formed (Bus n zero site) = n < mostRead
 Formed (Line a b) = (a < mostRead) × (b < mostRead)
+Formed (Circuits a b k) = (a < mostRead) × (b < mostRead) × (k < mostRead)
 Formed (Pmu n) = n < mostRead
 Formed End = Unit {0}
 Formed Wrong = ⊥

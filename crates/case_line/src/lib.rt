@@ -2,11 +2,12 @@
 ghost use mathlib.Core.Path.{_≡_};
 ghost use Rattle.text_field.specs.Split.{after};
 ghost use Rattle.case_line.specs.Fields.{markOf, oneNumber, oneSite};
-ghost use Rattle.case_line.specs.Record.{recordWordOf, gridRecordOf, busRecordOf, lineRecordOf, pmuRecordOf};
-ghost use Rattle.case_line.specs.Record.{busFields, lineFields, noFields, recordOf};
+ghost use Rattle.case_line.specs.Record.{recordWordOf, gridRecordOf, busRecordOf, lineRecordOf};
+ghost use Rattle.case_line.specs.Record.{circuitsRecordOf, pmuRecordOf, busFields, lineFields};
+ghost use Rattle.case_line.specs.Record.{noFields, recordOf};
 use text_field::Numeral;
 
-// A record of a case text; `zero` says class Z, `site` says site Y.
+// A record of a case text; `zero` says class Z, `site` says site Y. `Circuits` is a `line` that says its circuits.
 pub enum Record {
     Grid(usize),
     Bus {
@@ -15,6 +16,7 @@ pub enum Record {
         site: bool,
     },
     Line(usize, usize),
+    Circuits(usize, usize, usize),
     Pmu(usize),
     End,
     Wrong,
@@ -103,6 +105,21 @@ fn line_of(a: Numeral, b: Numeral) -> Record
     }
 }
 
+fn circuits_of(a: Numeral, b: Numeral, k: Numeral) -> Record
+    ensures { λ r. ⌜ r ≡ circuitsRecordOf a b k ⌝ }
+{
+    match a {
+        Numeral::Is(v) => match b {
+            Numeral::Is(w) => match k {
+                Numeral::Is(x) => Record::Circuits(v, w, x),
+                Numeral::Wrong => Record::Wrong,
+            },
+            Numeral::Wrong => Record::Wrong,
+        },
+        Numeral::Wrong => Record::Wrong,
+    }
+}
+
 fn bus_of(n: Numeral, class: Mark, site: Mark) -> Record
     ensures { λ r. ⌜ r ≡ busRecordOf n class site ⌝ }
 {
@@ -143,6 +160,7 @@ pub fn one_number(line: &[u8], at: usize) -> Numeral
     text_field::number_of(&line[a..e])
 }
 
+// A `line` with the two or three fields that follow the one that ends at `at`.
 fn line_fields(line: &[u8], at: usize) -> Record
     ensures { λ r. ⌜ r ≡ lineFields (after 9 (now (line .entry)) at) ⌝ }
 {
@@ -151,7 +169,17 @@ fn line_fields(line: &[u8], at: usize) -> Record
     }
     let a = at + 1;
     let e = text_field::piece_end(line, a, b'\t');
-    line_of(text_field::number_of(&line[a..e]), one_number(line, e))
+    if line.len() <= e {
+        return Record::Wrong;
+    }
+    let b = e + 1;
+    let d = text_field::piece_end(line, b, b'\t');
+    let x = text_field::number_of(&line[a..e]);
+    let y = text_field::number_of(&line[b..d]);
+    if line.len() <= d {
+        return line_of(x, y);
+    }
+    circuits_of(x, y, one_number(line, d))
 }
 
 fn one_site(line: &[u8], at: usize) -> Mark

@@ -1,6 +1,6 @@
 -- Two cuts at a tab give the number and the class; the fields after the second end are the site's. The other exits have too few.
 use Rattle.case_line.specs.Record.{busFields}
-use Rattle.case_line.proofs.Fields.{by-none, bus-one, bus-is}
+use Rattle.case_line.proofs.Fields.{by-none, by-one, bus-is}
 use borrow.Author.Needs.{needs}
 use Rattle.case_line.proofs.bus_fields.Statement.{statement}
 use Rattle.case_line.proofs.bus_fields.Tie as tie
@@ -16,7 +16,8 @@ piece-end-requires : tie.Need-piece-end-requires
 piece-end-requires c κs = search needs
 
 returns-2 : tie.Need-returns-2
-returns-2 c = search bus-one
+unfolding busFields
+returns-2 c = search (by-one busFields)
 
 add-b : tie.Need-add-b
 add-b c = search needs
