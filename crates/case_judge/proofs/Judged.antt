@@ -11,9 +11,9 @@ use Rattle.busset.specs.Sets.{width, Bus as IsBus}
 use Rattle.busset.proofs.Members.{bus-more}
 use Rattle.text_field.proofs.Tested.{both}
 use Rattle.case_line.specs.declared.Record.{Record}
-use Rattle.case_line.specs.declared.Record.the-variants.{Grid, Bus, Line, Pmu, End, Wrong}
-use Rattle.grid.specs.Limits.{mostBuses, mostLines}
-use Rattle.case_judge.specs.Judging.{isBus, inPlace, inRange, inOrder, nextOrLast, judged, nextPlace, Fit}
+use Rattle.case_line.specs.declared.Record.the-variants.{Grid, Bus, Line, Circuits, Pmu, End, Wrong}
+use Rattle.grid.specs.Limits.{mostBuses, mostLines, mostCircuits, leastSeveral}
+use Rattle.case_judge.specs.Judging.{isBus, isSeveral, inPlace, inRange, inOrder, nextOrLast, judged, nextPlace, Fit}
 use Rattle.case_judge.specs.declared.Place.{Place}
 use Rattle.case_judge.specs.declared.Judgement.{Judgement}
 use Rattle.case_judge.specs.declared.Judgement.the-variants.{Next, Last, Form, Range, Order}
@@ -103,10 +103,43 @@ line-ends s a b e =
     let v = both (isBus (s .n) a) (isBus (s .n) b) (u .0) in
     record { from = inside (s .n) a (v .0); to = inside (s .n) b (v .1); room = ltb-true (s .lines) mostLines (u .1) }
 
+-- circuits that a text says
+pub record Several (k : ℕ) : Type 0 where
+  pub least : leastSeveral ≤ k
+  pub most : k ≤ mostCircuits
+
+pub several-of : (k : ℕ) → isSeveral k ≡ true → Several k
+unfolding isSeveral
+several-of k e =
+    let p = both (leb leastSeveral k) (leb k mostCircuits) e in
+    record { least = leb-true leastSeveral k (p .0); most = leb-true k mostCircuits (p .1) }
+
+pub is-several : {k : ℕ} → Several k → isSeveral k ≡ true
+unfolding isSeveral
+is-several {k} v = rw (le-leb leastSeveral k (v .least), le-leb k mostCircuits (v .most))
+
+-- a line that says its circuits is accepted exactly if it passes the tests without them and they are several
+module _ (s : Place) (a b k : ℕ) where
+  pub circuits-range : inRange s (Circuits a b k) ≡ true → (inRange s (Line a b) ≡ true) × Several k
+  circuits-range e = let p = both (inRange s (Line a b)) (isSeveral k) e in (p .0, several-of k (p .1))
+
+  pub circuits-passed : TestsPassed s (Circuits a b k) → TestsPassed s (Line a b)
+  circuits-passed t = record { place = t .place; range = circuits-range (t .range) .0; order = t .order }
+
+  pub several : judged s (Circuits a b k) ≡ Next → TestsPassed s (Line a b) × Several k
+  several e = let t = accepted-of s (Circuits a b k) e in (circuits-passed t, circuits-range (t .range) .1)
+
+  pub accept-several : TestsPassed s (Line a b) → Several k → judged s (Circuits a b k) ≡ Next
+  accept-several t v = accept s (Circuits a b k) (t .place) (rw (t .range, is-several v)) (t .order)
+
+line-fits : (s : Place) (a b : ℕ) → s .n ≤ mostBuses → inRange s (Line a b) ≡ true → Fit s (Line a b)
+line-fits s a b h e = let t = line-ends s a b e in (bus-more (t .from) h, bus-more (t .to) h, t .room)
+
 fit : (s : Place) (r : Record) → s .n ≤ mostBuses → inRange s r ≡ true → Fit s r
 fit s (Grid n) h e = tt
 fit s (Bus k z o) h e = bounded (s .n) k h e
-fit s (Line a b) h e = let t = line-ends s a b e in (bus-more (t .from) h, bus-more (t .to) h, t .room)
+fit s (Line a b) h e = line-fits s a b h e
+fit s (Circuits a b k) h e = let c = circuits-range s a b k e in (line-fits s a b h (c .0), c .1 .most)
 fit s (Pmu p) h e = bounded (s .n) p h e
 fit s End h e = tt
 fit s Wrong h e = tt
@@ -125,10 +158,14 @@ module _ (s : Place) {r : Record} where
   pub line-fit : {a b : ℕ} → r ≡ Line a b → Fit s r → IsBus width a × IsBus width b × (s .lines < mostLines)
   line-fit e f = rw e at f
 
+  pub circuits-fit : {a b k : ℕ} → r ≡ Circuits a b k → Fit s r → Fit s (Line a b) × (k ≤ mostCircuits)
+  circuits-fit e f = rw e at f
+
 small : (s : Place) (r : Record) → s .n ≤ mostBuses → inRange s r ≡ true → nextPlace s r .n ≤ mostBuses
 small s (Grid n) h e = inside mostBuses n e .most
 small s (Bus k z o) h e = h
 small s (Line a b) h e = h
+small s (Circuits a b k) h e = h
 small s (Pmu p) h e = h
 small s End h e = h
 small s Wrong h e = h

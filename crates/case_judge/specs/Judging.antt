@@ -1,11 +1,11 @@
 -- One record, where the reader stands: it is the next, the last, or refused.
 use mathlib.Core.Bool.{Bool, true, false, cond, _&&_, _||_}
-use Prim.Native.Nat.{ℕ, _+_, _<_}
+use Prim.Native.Nat.{ℕ, _+_, _≤_, _<_}
 use lib.Dec.{eqb, ltb, leb}
 use Rattle.busset.specs.Sets.{width, Bus as IsBus}
 use Rattle.case_line.specs.declared.Record.{Record}
-use Rattle.case_line.specs.declared.Record.the-variants.{Grid, Bus, Line, Pmu, End, Wrong}
-use Rattle.grid.specs.Limits.{mostBuses, mostLines}
+use Rattle.case_line.specs.declared.Record.the-variants.{Grid, Bus, Line, Circuits, Pmu, End, Wrong}
+use Rattle.grid.specs.Limits.{mostBuses, mostLines, mostCircuits, leastSeveral}
 use Rattle.case_judge.specs.declared.Place.{Place}
 use Rattle.case_judge.specs.declared.Judgement.{Judgement}
 use Rattle.case_judge.specs.declared.Judgement.the-variants.{Next, Last, Form, Range, Order}
@@ -13,6 +13,10 @@ use Rattle.case_judge.specs.declared.Judgement.the-variants.{Next, Last,
 -- k is a number from 1 to n
 unfoldable pub isBus : ℕ → ℕ → Bool
 isBus n k = leb 1 k && leb k n
+
+-- circuits that a text says are from 2 to the most
+unfoldable pub isSeveral : ℕ → Bool
+isSeveral k = leb leastSeveral k && leb k mostCircuits
 
 -- line c d stands after line a b
 unfoldable pub isAfter : ℕ → ℕ → ℕ → ℕ → Bool
@@ -27,6 +31,7 @@ abbrev pub inPlace : Place → Record → Bool
 inPlace s (Grid n) = eqb (s .n) 0
 inPlace s (Bus k zero site) = ltb (s .bus) (s .n)
 inPlace s (Line a b) = pastBuses s && eqb (s .unit) 0
+inPlace s (Circuits a b k) = pastBuses s && eqb (s .unit) 0
 inPlace s (Pmu p) = pastBuses s
 inPlace s End = pastBuses s
 inPlace s Wrong = false
@@ -36,6 +41,7 @@ abbrev pub inRange : Place → Record → Bool
 inRange s (Grid n) = isBus mostBuses n
 inRange s (Bus k zero site) = isBus (s .n) k
 inRange s (Line a b) = isBus (s .n) a && isBus (s .n) b && ltb (s .lines) mostLines
+inRange s (Circuits a b k) = isBus (s .n) a && isBus (s .n) b && ltb (s .lines) mostLines && isSeveral k
 inRange s (Pmu p) = isBus (s .n) p
 inRange s End = true
 inRange s Wrong = true
@@ -45,6 +51,7 @@ abbrev pub inOrder : Place → Record → Bool
 inOrder s (Grid n) = true
 inOrder s (Bus k zero site) = eqb k (s .bus + 1)
 inOrder s (Line a b) = ltb a b && isAfter (s .a) (s .b) a b
+inOrder s (Circuits a b k) = ltb a b && isAfter (s .a) (s .b) a b
 inOrder s (Pmu p) = ltb (s .unit) p
 inOrder s End = true
 inOrder s Wrong = true
@@ -54,6 +61,7 @@ abbrev pub nextOrLast : Record → Judgement
 nextOrLast (Grid n) = Next
 nextOrLast (Bus k zero site) = Next
 nextOrLast (Line a b) = Next
+nextOrLast (Circuits a b k) = Next
 nextOrLast (Pmu p) = Next
 nextOrLast End = Last
 nextOrLast Wrong = Next
@@ -72,15 +80,17 @@ abbrev pub nextPlace : Place → Record → Place
 nextPlace s (Grid n) = record { n = n; bus = 0; a = 0; b = 0; lines = 0; unit = 0 }
 nextPlace s (Bus k zero site) = record { n = s .n; bus = k; a = s .a; b = s .b; lines = s .lines; unit = s .unit }
 nextPlace s (Line a b) = record { n = s .n; bus = s .bus; a = a; b = b; lines = s .lines + 1; unit = s .unit }
+nextPlace s (Circuits a b k) = record { n = s .n; bus = s .bus; a = a; b = b; lines = s .lines + 1; unit = s .unit }
 nextPlace s (Pmu p) = record { n = s .n; bus = s .bus; a = s .a; b = s .b; lines = s .lines; unit = p }
 nextPlace s End = s
 nextPlace s Wrong = s
 
--- what the judgement `Next` gives: a record's numbers are buses, and one line more is not too many
+-- what the judgement `Next` gives: a record's numbers are buses, one line more is not too many, nor are its circuits
 abbrev pub Fit : Place → Record → Type 0
 Fit s (Grid n) = Unit {0}
 Fit s (Bus k zero site) = IsBus width k
 Fit s (Line a b) = IsBus width a × IsBus width b × (s .lines < mostLines)
+Fit s (Circuits a b k) = (IsBus width a × IsBus width b × (s .lines < mostLines)) × (k ≤ mostCircuits)
 Fit s (Pmu p) = IsBus width p
 Fit s End = Unit {0}
 Fit s Wrong = Unit {0}

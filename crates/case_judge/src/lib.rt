@@ -1,13 +1,17 @@
 // What a record is where the reader stands.
 ghost use mathlib.Core.Path.{_≡_};
 ghost use mathlib.Core.Bool.{_&&_};
-ghost use Prim.Native.Nat.{_+_};
+ghost use Prim.Native.Nat.{_+_, _<_};
 ghost use lib.Dec.{eqb, ltb};
-ghost use Rattle.case_judge.specs.Judging.{isAfter, pastBuses, inPlace, inRange, inOrder};
+ghost use Rattle.case_line.specs.declared.Record.the-variants.{Line};
+ghost use Rattle.grid.specs.Limits.{mostLines};
+ghost use Rattle.case_judge.specs.Judging.{isSeveral, isAfter, pastBuses, inPlace, inRange, inOrder};
 ghost use Rattle.case_judge.specs.Judging.{nextOrLast, judged, nextPlace, Fit};
 use busset::is_bus;
 use case_line::Record;
+use grid::limits::LEAST_SEVERAL;
 use grid::limits::MOST_BUSES;
+use grid::limits::MOST_CIRCUITS;
 use grid::limits::MOST_LINES;
 
 // The last bus, line and unit read of a grid of n buses, and how many lines.
@@ -73,6 +77,35 @@ fn is_past_buses(s: Place) -> bool
     0 < s.n && s.n <= s.bus
 }
 
+// Whether a text may say k circuits: more than one, and not too many.
+fn is_several(k: usize) -> bool
+    ensures { λ r. ⌜ r ≡ isSeveral k ⌝ }
+{
+    LEAST_SEVERAL <= k && k <= MOST_CIRCUITS
+}
+
+// Whether a `line` may stand here.
+fn is_line_place(s: Place) -> bool
+    ensures { λ t. ⌜ t ≡ (pastBuses s && eqb (s .unit) 0) ⌝ }
+{
+    both(is_past_buses(s), is_zero(s.unit))
+}
+
+fn is_line_range(s: Place, a: usize, b: usize) -> bool
+    ensures { λ t. ⌜ t ≡ inRange s (Line a b) ⌝ }
+{
+    both(
+        both(is_bus(s.n, a), is_bus(s.n, b)),
+        is_less(s.lines, MOST_LINES),
+    )
+}
+
+fn is_line_order(s: Place, a: usize, b: usize) -> bool
+    ensures { λ t. ⌜ t ≡ inOrder s (Line a b) ⌝ }
+{
+    both(is_less(a, b), is_after(s.a, s.b, a, b))
+}
+
 // Whether a record of this kind may stand here.
 fn in_place(s: Place, r: Record) -> bool
     ensures { λ t. ⌜ t ≡ inPlace s r ⌝ }
@@ -84,7 +117,8 @@ fn in_place(s: Place, r: Record) -> bool
             zero: _,
             site: _,
         } => s.bus < s.n,
-        Record::Line(_, _) => both(is_past_buses(s), is_zero(s.unit)),
+        Record::Line(_, _) => is_line_place(s),
+        Record::Circuits(_, _, _) => is_line_place(s),
         Record::Pmu(_) => is_past_buses(s),
         Record::End => is_past_buses(s),
         Record::Wrong => false,
@@ -101,10 +135,8 @@ fn in_range(s: Place, r: Record) -> bool
             zero: _,
             site: _,
         } => is_bus(s.n, number),
-        Record::Line(a, b) => both(
-            both(is_bus(s.n, a), is_bus(s.n, b)),
-            is_less(s.lines, MOST_LINES),
-        ),
+        Record::Line(a, b) => is_line_range(s, a, b),
+        Record::Circuits(a, b, k) => both(is_line_range(s, a, b), is_several(k)),
         Record::Pmu(p) => is_bus(s.n, p),
         Record::End => true,
         Record::Wrong => true,
@@ -121,7 +153,8 @@ fn in_order(s: Place, r: Record) -> bool
             zero: _,
             site: _,
         } => is_next(number, s.bus),
-        Record::Line(a, b) => both(is_less(a, b), is_after(s.a, s.b, a, b)),
+        Record::Line(a, b) => is_line_order(s, a, b),
+        Record::Circuits(a, b, _) => is_line_order(s, a, b),
         Record::Pmu(p) => s.unit < p,
         Record::End => true,
         Record::Wrong => true,
@@ -139,6 +172,7 @@ fn accepts(r: Record) -> Judgement
             site: _,
         } => Judgement::Next,
         Record::Line(_, _) => Judgement::Next,
+        Record::Circuits(_, _, _) => Judgement::Next,
         Record::Pmu(_) => Judgement::Next,
         Record::End => Judgement::Last,
         Record::Wrong => Judgement::Next,
@@ -158,6 +192,21 @@ pub fn judge(s: Place, r: Record) -> Judgement
         return Judgement::Order;
     }
     accepts(r)
+}
+
+// Where the reader stands after a `line`.
+fn after_line(s: Place, a: usize, b: usize) -> Place
+    requires { ⌜ s .lines < mostLines ⌝ }
+    ensures { λ t. ⌜ t ≡ nextPlace s (Line a b) ⌝ }
+{
+    Place {
+        n: s.n,
+        bus: s.bus,
+        a,
+        b,
+        lines: s.lines + 1,
+        unit: s.unit,
+    }
 }
 
 // Where the reader stands after a record.
@@ -186,14 +235,8 @@ pub fn next_place(s: Place, r: Record) -> Place
             lines: s.lines,
             unit: s.unit,
         },
-        Record::Line(a, b) => Place {
-            n: s.n,
-            bus: s.bus,
-            a,
-            b,
-            lines: s.lines + 1,
-            unit: s.unit,
-        },
+        Record::Line(a, b) => after_line(s, a, b),
+        Record::Circuits(a, b, _) => after_line(s, a, b),
         Record::Pmu(p) => Place {
             n: s.n,
             bus: s.bus,

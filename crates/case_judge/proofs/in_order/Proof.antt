@@ -16,17 +16,17 @@ is-next-requires c κs = search needs
 enum-known-r-2 : tie.Need-enum-known-r-2
 enum-known-r-2 c = search needs
 
-is-less-requires : tie.Need-is-less-requires
-is-less-requires c κs = search needs
-
-is-after-requires : tie.Need-is-after-requires
-is-after-requires c κs = search needs
-
-both-requires : tie.Need-both-requires
-both-requires c κs = search needs
+is-line-order-requires : tie.Need-is-line-order-requires
+is-line-order-requires c κs = search needs
 
 enum-known-r-3 : tie.Need-enum-known-r-3
 enum-known-r-3 c = search needs
+
+is-line-order-requires-2 : tie.Need-is-line-order-requires-2
+is-line-order-requires-2 c κs = search needs
+
+enum-known-r-4 : tie.Need-enum-known-r-4
+enum-known-r-4 c = search needs
 
 enum-told-2 : tie.Need-enum-told-2
 enum-told-2 c = search needs
@@ -41,22 +41,19 @@ returns-2 : tie.Need-returns-2
 returns-2 c = rw (c .before .before .r .given .1) (c .is-next .ensures)
 
 returns-3 : tie.Need-returns-3
-returns-3 c =
-    rw (
-      c .before .before .before .before .r2 .given .1,
-      c .both .ensures,
-      c .before .is-after .ensures,
-      c .before .before .is-less .ensures,
-    ) refl
+returns-3 c = rw (c .before .before .r2 .given .1) (c .is-line-order .ensures)
 
 returns-4 : tie.Need-returns-4
-returns-4 c = rw (c .before .before .r3 .given .1) refl
+returns-4 c = rw (c .before .before .r3 .given .1) (c .is-line-order2 .ensures)
 
 returns-5 : tie.Need-returns-5
-returns-5 c = search needs
+returns-5 c = rw (c .before .before .r4 .given .1) refl
 
 returns-6 : tie.Need-returns-6
 returns-6 c = search needs
+
+returns-7 : tie.Need-returns-7
+returns-7 c = search needs
 
 pub in-order-spec : {M : Type 1} → statement M
 in-order-spec =
@@ -66,10 +63,10 @@ in-order-spec =
     enum-known-r
     is-next-requires
     enum-known-r-2
-    is-less-requires
-    is-after-requires
-    both-requires
+    is-line-order-requires
     enum-known-r-3
+    is-line-order-requires-2
+    enum-known-r-4
     enum-told-2
     enum-told-3
     returns
@@ -77,4 +74,5 @@ in-order-spec =
     returns-3
     returns-4
     returns-5
-    returns-6)
+    returns-6
+    returns-7)

@@ -1,6 +1,5 @@
 -- By the record's kind. `Fit` says that a `line` is at most the 256th, so the count of lines does not overflow.
-use native.Mathlib.Omega.{arith}
-use Rattle.case_judge.proofs.Judged.{line-fit}
+use Rattle.case_judge.proofs.Judged.{line-fit, circuits-fit}
 use borrow.Author.Needs.{needs}
 use Rattle.case_judge.proofs.next_place.Statement.{statement}
 use Rattle.case_judge.proofs.next_place.Tie as tie
@@ -14,11 +13,17 @@ enum-known-r-2 c = search needs
 enum-known-r-3 : tie.Need-enum-known-r-3
 enum-known-r-3 c = search needs
 
-add-t9 : tie.Need-add-t9
-add-t9 c = let f = line-fit _ (c .before .before .r3 .given .1) (c .before .before .before .before .pre) in omega arith
+after-line-requires : tie.Need-after-line-requires
+after-line-requires c κs = line-fit _ (c .before .r3 .given .1) (c .before .before .before .pre) .2
 
 enum-known-r-4 : tie.Need-enum-known-r-4
 enum-known-r-4 c = search needs
+
+after-line-requires-2 : tie.Need-after-line-requires-2
+after-line-requires-2 c κs = circuits-fit _ (c .before .r4 .given .1) (c .before .before .before .pre) .0 .2
+
+enum-known-r-5 : tie.Need-enum-known-r-5
+enum-known-r-5 c = search needs
 
 enum-told : tie.Need-enum-told
 enum-told c = search needs
@@ -33,16 +38,19 @@ returns-2 : tie.Need-returns-2
 returns-2 c = rw (c .before .r2 .given .1)
 
 returns-3 : tie.Need-returns-3
-returns-3 c = rw (c .before .before .r3 .given .1)
+returns-3 c = rw (c .before .before .r3 .given .1) (c .after-line .ensures)
 
 returns-4 : tie.Need-returns-4
-returns-4 c = rw (c .before .r4 .given .1)
+returns-4 c = rw (c .before .before .r4 .given .1) (c .after-line2 .ensures)
 
 returns-5 : tie.Need-returns-5
-returns-5 c = search needs
+returns-5 c = rw (c .before .r5 .given .1)
 
 returns-6 : tie.Need-returns-6
 returns-6 c = search needs
+
+returns-7 : tie.Need-returns-7
+returns-7 c = search needs
 
 pub next-place-spec : {M : Type 1} → statement M
 next-place-spec =
@@ -51,8 +59,10 @@ next-place-spec =
     enum-known-r
     enum-known-r-2
     enum-known-r-3
-    add-t9
+    after-line-requires
     enum-known-r-4
+    after-line-requires-2
+    enum-known-r-5
     enum-told
     enum-told-2
     returns
@@ -60,4 +70,5 @@ next-place-spec =
     returns-3
     returns-4
     returns-5
-    returns-6)
+    returns-6
+    returns-7)
