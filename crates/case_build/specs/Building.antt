@@ -1,26 +1,18 @@
 -- The case, built up record by record.
 use Prim.Native.Nat.{ℕ}
-use Rattle.busset.specs.Sets.{add}
-use Rattle.busset.specs.Held.{emptyWord, wordOf, hold, holdIf}
+use Rattle.busset.specs.Held.{emptyWord, hold, holdIf}
 use Rattle.case_line.specs.declared.Record.{Record}
-use Rattle.case_line.specs.declared.Record.the-variants.{Grid, Bus, Line, Pmu, End, Wrong}
-use Rattle.grid.specs.Rows.{Rows, neighbours, withRow, noRows}
+use Rattle.case_line.specs.declared.Record.the-variants.{Grid, Bus, Line, Circuits, Pmu, End, Wrong}
+use Rattle.grid.specs.Rows.{Rows, withLine, noRows}
 use Rattle.grid.specs.declared.Case.{Case}
 use Rattle.case_build.specs.declared.Marks.{Marks}
-
--- the rows with b as a neighbour of a
-abbrev pub withEnd : Rows → ℕ → ℕ → Rows
-withEnd rows a b = withRow rows a (wordOf (add (neighbours rows a) b))
-
--- the rows with a line: a with b, and b with a
-abbrev pub withLine : Rows → ℕ → ℕ → Rows
-withLine rows a b = withEnd (withEnd rows a b) b a
 
 -- the rows after a record
 abbrev pub nextRows : Rows → Record → Rows
 nextRows rows (Grid n) = rows
 nextRows rows (Bus k zero site) = rows
-nextRows rows (Line a b) = withLine rows a b
+nextRows rows (Line a b) = withLine rows a b 1
+nextRows rows (Circuits a b k) = withLine rows a b k
 nextRows rows (Pmu p) = rows
 nextRows rows End = rows
 nextRows rows Wrong = rows
@@ -30,6 +22,7 @@ abbrev pub nextMarks : Marks → Record → Marks
 nextMarks m (Grid n) = m
 nextMarks m (Bus k zero site) = record { zero = holdIf zero (m .zero) k; site = holdIf site (m .site) k; units = m .units }
 nextMarks m (Line a b) = m
+nextMarks m (Circuits a b k) = m
 nextMarks m (Pmu p) = record { zero = m .zero; site = m .site; units = hold (m .units) p }
 nextMarks m End = m
 nextMarks m Wrong = m

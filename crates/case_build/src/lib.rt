@@ -2,7 +2,7 @@
 ghost use mathlib.Core.Path.{_≡_};
 ghost use Rattle.busset.specs.Sets.{Bus, width};
 ghost use Rattle.busset.specs.Held.{holdIf};
-ghost use Rattle.case_build.specs.Building.{withLine, nextRows, nextMarks, noMarks, noCase};
+ghost use Rattle.case_build.specs.Building.{nextRows, nextMarks, noMarks, noCase};
 ghost use Rattle.case_judge.specs.Judging.{Fit};
 use busset::BusSet;
 use case_judge::Place;
@@ -54,15 +54,6 @@ fn hold_if(t: bool, w: BusSet, b: usize) -> BusSet
     w
 }
 
-// A line of a and b: each becomes a neighbour of the other.
-fn add_line(rows: &mut Rows, a: usize, b: usize)
-    requires { ⌜ Bus width a × Bus width b ⌝ }
-    ensures { λ _. ⌜ now (rows .exit) ≡ withLine (now (rows .entry)) a b ⌝ }
-{
-    grid::add_neighbour(rows, a, b);
-    grid::add_neighbour(rows, b, a);
-}
-
 // The rows after a record; the place is where the reader stood before it.
 pub fn build_rows(rows: &mut Rows, s: Place, r: Record)
     requires { ⌜ Fit s r ⌝ }
@@ -76,7 +67,10 @@ pub fn build_rows(rows: &mut Rows, s: Place, r: Record)
             site: _,
         } => {}
         Record::Line(a, b) => {
-            add_line(rows, a, b);
+            grid::add_line(rows, a, b, 1);
+        }
+        Record::Circuits(a, b, k) => {
+            grid::add_line(rows, a, b, k);
         }
         Record::Pmu(_) => {}
         Record::End => {}
@@ -97,6 +91,7 @@ pub fn build_marks(m: Marks, s: Place, r: Record) -> Marks
             units: m.units,
         },
         Record::Line(_, _) => m,
+        Record::Circuits(_, _, _) => m,
         Record::Pmu(p) => Marks {
             zero: m.zero,
             site: m.site,

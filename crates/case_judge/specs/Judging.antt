@@ -26,12 +26,36 @@ isAfter a b c d = ltb a c || (eqb a c && ltb b d)
 unfoldable pub pastBuses : Place → Bool
 pastBuses s = ltb 0 (s .n) && leb (s .n) (s .bus)
 
+-- ---- what holds of `line`, whether or not it says its circuits
+
+-- it may stand here: every `bus` has been read, and no `pmu`
+abbrev pub lineInPlace : Place → Bool
+lineInPlace s = pastBuses s && eqb (s .unit) 0
+
+-- its ends are buses, and it is no 257th
+abbrev pub lineInRange : Place → ℕ → ℕ → Bool
+lineInRange s a b = isBus (s .n) a && isBus (s .n) b && ltb (s .lines) mostLines
+
+-- a is below b, and it stands after the last
+abbrev pub lineInOrder : Place → ℕ → ℕ → Bool
+lineInOrder s a b = ltb a b && isAfter (s .a) (s .b) a b
+
+-- where the reader stands after it: one line more, however many circuits
+abbrev pub placeAfterLine : Place → ℕ → ℕ → Place
+placeAfterLine s a b = record { n = s .n; bus = s .bus; a = a; b = b; lines = s .lines + 1; unit = s .unit }
+
+-- its ends are buses, and one line more is not too many
+abbrev pub LineFits : Place → ℕ → ℕ → Type 0
+LineFits s a b = IsBus width a × IsBus width b × (s .lines < mostLines)
+
+-- ---- what holds of each record
+
 -- a record of this kind may stand here; if not, refusal 2
 abbrev pub inPlace : Place → Record → Bool
 inPlace s (Grid n) = eqb (s .n) 0
 inPlace s (Bus k zero site) = ltb (s .bus) (s .n)
-inPlace s (Line a b) = pastBuses s && eqb (s .unit) 0
-inPlace s (Circuits a b k) = pastBuses s && eqb (s .unit) 0
+inPlace s (Line a b) = lineInPlace s
+inPlace s (Circuits a b k) = lineInPlace s
 inPlace s (Pmu p) = pastBuses s
 inPlace s End = pastBuses s
 inPlace s Wrong = false
@@ -40,8 +64,8 @@ inPlace s Wrong = false
 abbrev pub inRange : Place → Record → Bool
 inRange s (Grid n) = isBus mostBuses n
 inRange s (Bus k zero site) = isBus (s .n) k
-inRange s (Line a b) = isBus (s .n) a && isBus (s .n) b && ltb (s .lines) mostLines
-inRange s (Circuits a b k) = isBus (s .n) a && isBus (s .n) b && ltb (s .lines) mostLines && isSeveral k
+inRange s (Line a b) = lineInRange s a b
+inRange s (Circuits a b k) = lineInRange s a b && isSeveral k
 inRange s (Pmu p) = isBus (s .n) p
 inRange s End = true
 inRange s Wrong = true
@@ -50,8 +74,8 @@ inRange s Wrong = true
 abbrev pub inOrder : Place → Record → Bool
 inOrder s (Grid n) = true
 inOrder s (Bus k zero site) = eqb k (s .bus + 1)
-inOrder s (Line a b) = ltb a b && isAfter (s .a) (s .b) a b
-inOrder s (Circuits a b k) = ltb a b && isAfter (s .a) (s .b) a b
+inOrder s (Line a b) = lineInOrder s a b
+inOrder s (Circuits a b k) = lineInOrder s a b
 inOrder s (Pmu p) = ltb (s .unit) p
 inOrder s End = true
 inOrder s Wrong = true
@@ -79,8 +103,8 @@ judged s r =
 abbrev pub nextPlace : Place → Record → Place
 nextPlace s (Grid n) = record { n = n; bus = 0; a = 0; b = 0; lines = 0; unit = 0 }
 nextPlace s (Bus k zero site) = record { n = s .n; bus = k; a = s .a; b = s .b; lines = s .lines; unit = s .unit }
-nextPlace s (Line a b) = record { n = s .n; bus = s .bus; a = a; b = b; lines = s .lines + 1; unit = s .unit }
-nextPlace s (Circuits a b k) = record { n = s .n; bus = s .bus; a = a; b = b; lines = s .lines + 1; unit = s .unit }
+nextPlace s (Line a b) = placeAfterLine s a b
+nextPlace s (Circuits a b k) = placeAfterLine s a b
 nextPlace s (Pmu p) = record { n = s .n; bus = s .bus; a = s .a; b = s .b; lines = s .lines; unit = p }
 nextPlace s End = s
 nextPlace s Wrong = s
@@ -89,8 +113,8 @@ nextPlace s Wrong = s
 abbrev pub Fit : Place → Record → Type 0
 Fit s (Grid n) = Unit {0}
 Fit s (Bus k zero site) = IsBus width k
-Fit s (Line a b) = IsBus width a × IsBus width b × (s .lines < mostLines)
-Fit s (Circuits a b k) = (IsBus width a × IsBus width b × (s .lines < mostLines)) × (k ≤ mostCircuits)
+Fit s (Line a b) = LineFits s a b
+Fit s (Circuits a b k) = LineFits s a b × (k ≤ mostCircuits)
 Fit s (Pmu p) = IsBus width p
 Fit s End = Unit {0}
 Fit s Wrong = Unit {0}

@@ -3,9 +3,9 @@ ghost use mathlib.Core.Path.{_≡_};
 ghost use mathlib.Core.Bool.{_&&_};
 ghost use Prim.Native.Nat.{_+_, _<_};
 ghost use lib.Dec.{eqb, ltb};
-ghost use Rattle.case_line.specs.declared.Record.the-variants.{Line};
 ghost use Rattle.grid.specs.Limits.{mostLines};
 ghost use Rattle.case_judge.specs.Judging.{isSeveral, isAfter, pastBuses, inPlace, inRange, inOrder};
+ghost use Rattle.case_judge.specs.Judging.{lineInPlace, lineInRange, lineInOrder, placeAfterLine};
 ghost use Rattle.case_judge.specs.Judging.{nextOrLast, judged, nextPlace, Fit};
 use busset::is_bus;
 use case_line::Record;
@@ -86,13 +86,13 @@ fn is_several(k: usize) -> bool
 
 // Whether a `line` may stand here.
 fn is_line_place(s: Place) -> bool
-    ensures { λ t. ⌜ t ≡ (pastBuses s && eqb (s .unit) 0) ⌝ }
+    ensures { λ t. ⌜ t ≡ lineInPlace s ⌝ }
 {
     both(is_past_buses(s), is_zero(s.unit))
 }
 
 fn is_line_range(s: Place, a: usize, b: usize) -> bool
-    ensures { λ t. ⌜ t ≡ inRange s (Line a b) ⌝ }
+    ensures { λ t. ⌜ t ≡ lineInRange s a b ⌝ }
 {
     both(
         both(is_bus(s.n, a), is_bus(s.n, b)),
@@ -101,7 +101,7 @@ fn is_line_range(s: Place, a: usize, b: usize) -> bool
 }
 
 fn is_line_order(s: Place, a: usize, b: usize) -> bool
-    ensures { λ t. ⌜ t ≡ inOrder s (Line a b) ⌝ }
+    ensures { λ t. ⌜ t ≡ lineInOrder s a b ⌝ }
 {
     both(is_less(a, b), is_after(s.a, s.b, a, b))
 }
@@ -197,7 +197,7 @@ pub fn judge(s: Place, r: Record) -> Judgement
 // Where the reader stands after a `line`.
 fn after_line(s: Place, a: usize, b: usize) -> Place
     requires { ⌜ s .lines < mostLines ⌝ }
-    ensures { λ t. ⌜ t ≡ nextPlace s (Line a b) ⌝ }
+    ensures { λ t. ⌜ t ≡ placeAfterLine s a b ⌝ }
 {
     Place {
         n: s.n,

@@ -1,15 +1,16 @@
--- A case's text: `grid n`; n records `bus number class site`; `line a b`, a below b, rising by a then b; `pmu number`, rising; `end`.
+-- A case's text: `grid n`; n records `bus number class site`; `line a b` or `line a b circuits`, a below b, rising by a then b; `pmu number`, rising; `end`.
 use mathlib.Core.Bool.{Bool, cond}
 use mathlib.Core.List.{List, [], _∷_, _++_}
 use Prim.Native.Nat.{ℕ, zero, suc, _+_}
-use lib.Dec.{eqb}
+use lib.Dec.{eqb, ltb}
 use Rattle.busset.specs.Sets.{bit, setOf}
 use Rattle.busset.specs.Held.{SetWord}
 use Rattle.text_field.specs.Split.{lineFeed}
 use Rattle.case_line.specs.Record.{recordText}
 use Rattle.case_line.specs.declared.Record.{Record}
-use Rattle.case_line.specs.declared.Record.the-variants.{Grid, Bus, Line, Pmu, End}
-use Rattle.grid.specs.Rows.{Rows, neighbours}
+use Rattle.case_line.specs.declared.Record.the-variants.{Grid, Bus, Line, Circuits, Pmu, End}
+use Rattle.grid.specs.Limits.{leastSeveral}
+use Rattle.grid.specs.Rows.{Rows, neighbours, circuits}
 use Rattle.grid.specs.declared.Case.{Case}
 
 -- bus k is in the set s
@@ -30,17 +31,25 @@ unfoldable pub members : (ℕ → Record) → ℕ → ℕ → ℕ → List Recor
 members f s k zero = []
 members f s k (suc m) = cond (has s k) (f k ∷ members f s (k + 1) m) (members f s (k + 1) m)
 
+-- the line from a to b, by k circuits: a text says them where they are several
+abbrev pub lineRecord : ℕ → ℕ → ℕ → Record
+lineRecord a b k = cond (ltb k leastSeveral) (Line a b) (Circuits a b k)
+
+-- the line from a to b, where these are the circuits
+abbrev pub lineFrom : (ℕ → ℕ → ℕ) → ℕ → ℕ → Record
+lineFrom counts a b = lineRecord a b (counts a b)
+
 -- the lines of the m buses from a on, each at its lower bus
-unfoldable pub lineRecords : (ℕ → ℕ) → ℕ → ℕ → List Record
-lineRecords nbr a zero = []
-lineRecords nbr a (suc m) = members (Line a) (nbr a) (a + 1) m ++ lineRecords nbr (a + 1) m
+unfoldable pub lineRecords : (ℕ → ℕ) → (ℕ → ℕ → ℕ) → ℕ → ℕ → List Record
+lineRecords nbr counts a zero = []
+lineRecords nbr counts a (suc m) = members (lineFrom counts a) (nbr a) (a + 1) m ++ lineRecords nbr counts (a + 1) m
 
 -- all in order, of n buses with these rows, Z buses, Y sites and units
 abbrev pub recordsWith : ℕ → Rows → SetWord → SetWord → SetWord → List Record
 recordsWith n rows zeros sites units =
     Grid n
     ∷ (busRecords (setOf zeros) (setOf sites) 1 n
-    ++ (lineRecords (neighbours rows) 1 n
+    ++ (lineRecords (neighbours rows) (circuits rows) 1 n
     ++ (members Pmu (setOf units) 1 n
     ++ End ∷ [])))
 
