@@ -6,7 +6,7 @@ use Prim.Native.Nat.{ℕ, _+_}
 use Rattle.text_field.specs.Split.{split, lineFeed}
 use Rattle.case_line.specs.Record.{recordOf}
 use Rattle.case_line.specs.declared.Record.{Record}
-use Rattle.case_line.specs.declared.Record.the-variants.{Grid, Bus, Line, Pmu, End, Wrong}
+use Rattle.case_line.specs.declared.Record.the-variants.{Grid, Bus, Line, Circuits, Pmu, End, Wrong}
 use Rattle.grid.specs.declared.Case.{Case}
 use Rattle.refusals.specs.declared.Refusal.the-variants.{WrongForm, OutOfRange, OutOfOrder}
 use Rattle.refusals.specs.Refusals.{Check, checkThat}
@@ -54,6 +54,7 @@ record-judged : (x : Record) (k : ℕ) (on end : CaseRead) (ons ends : List Chec
 record-judged (Grid n) k on end ons ends p q = p
 record-judged (Bus b zero site) k on end ons ends p q = p
 record-judged (Line a b) k on end ons ends p q = p
+record-judged (Circuits a b c) k on end ons ends p q = p
 record-judged (Pmu b) k on end ons ends p q = p
 record-judged End k on end ons ends p q = q
 record-judged Wrong k on end ons ends p q = p

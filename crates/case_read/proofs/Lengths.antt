@@ -7,9 +7,8 @@ use native.Mathlib.Omega.{arith}
 use lib.ListN.{length, length-append}
 use Rattle.grid.specs.Limits.{mostBuses}
 use Rattle.case_line.specs.declared.Record.{Record}
-use Rattle.case_line.specs.declared.Record.the-variants.{Line}
 use Rattle.case_line.proofs.Lengths.{recordRoom, record-length}
-use Rattle.case_line.specs.CaseText.{has, busRecords, members, lineRecords, linesText}
+use Rattle.case_line.specs.CaseText.{has, busRecords, members, lineFrom, lineRecords, linesText}
 
 -- no record is longer than this, with its line feed
 abbrev pub lineRoom : ℕ
@@ -38,11 +37,11 @@ members-length f s k (suc m) = shorter (has s k) (f k) (members f s (k + 1) m) (
     shorter true x xs h = omega arith
     shorter false x xs h = omega arith
 
-rows-length : (nbr : ℕ → ℕ) (a m : ℕ) → m ≤ mostBuses → length (lineRecords nbr a m) ≤ mostBuses * m
+rows-length : (nbr : ℕ → ℕ) (counts : ℕ → ℕ → ℕ) (a m : ℕ) → m ≤ mostBuses → length (lineRecords nbr counts a m) ≤ mostBuses * m
 unfolding lineRecords
-rows-length nbr a zero h = omega arith
-rows-length nbr a (suc m) h =
-    simp length-append (omega (arith, members-length (Line a) (nbr a) (a + 1) m, rows-length nbr (a + 1) m (omega arith)))
+rows-length nbr counts a zero h = omega arith
+rows-length nbr counts a (suc m) h =
+    simp length-append (omega (arith, members-length (lineFrom counts a) (nbr a) (a + 1) m, rows-length nbr counts (a + 1) m (omega arith)))
 
 -- ---- bounds for a grid
 
@@ -50,8 +49,8 @@ module _ (n : ℕ) (h : n ≤ mostBuses) where
   pub buses-most : (zeros sites : ℕ) → length (linesText (busRecords zeros sites 1 n)) ≤ rowRoom
   buses-most zeros sites = omega (arith, lines-length (busRecords zeros sites 1 n), buses-length zeros sites 1 n)
 
-  pub rows-most : (nbr : ℕ → ℕ) → length (linesText (lineRecords nbr 1 n)) ≤ rowRoom * mostBuses
-  rows-most nbr = omega (arith, lines-length (lineRecords nbr 1 n), rows-length nbr 1 n h)
+  pub rows-most : (nbr : ℕ → ℕ) (counts : ℕ → ℕ → ℕ) → length (linesText (lineRecords nbr counts 1 n)) ≤ rowRoom * mostBuses
+  rows-most nbr counts = omega (arith, lines-length (lineRecords nbr counts 1 n), rows-length nbr counts 1 n h)
 
   pub members-most : (f : ℕ → Record) (s : ℕ) → length (linesText (members f s 1 n)) ≤ rowRoom
   members-most f s = omega (arith, lines-length (members f s 1 n), members-length f s 1 n)

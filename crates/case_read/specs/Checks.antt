@@ -7,7 +7,7 @@ use lib.ListN.{length}
 use Rattle.text_field.specs.Split.{split, lineFeed}
 use Rattle.case_line.specs.Record.{recordOf}
 use Rattle.case_line.specs.declared.Record.{Record}
-use Rattle.case_line.specs.declared.Record.the-variants.{Grid, Bus, Line, Pmu, End, Wrong}
+use Rattle.case_line.specs.declared.Record.the-variants.{Grid, Bus, Line, Circuits, Pmu, End, Wrong}
 use Rattle.grid.specs.Limits.{mostBytes}
 use Rattle.refusals.specs.Refusals.{Check, checkThat}
 use Rattle.case_judge.specs.Judging.{inPlace, inRange, inOrder}
@@ -24,6 +24,7 @@ abbrev pub afterRecord : Record → List Check → List Check → List Check
 afterRecord (Grid n) end on = on
 afterRecord (Bus k zero site) end on = on
 afterRecord (Line a b) end on = on
+afterRecord (Circuits a b k) end on = on
 afterRecord (Pmu p) end on = on
 afterRecord End end on = end
 afterRecord Wrong end on = on
