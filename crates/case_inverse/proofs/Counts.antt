@@ -14,10 +14,9 @@ use Rattle.busset.proofs.Members.{in-or, out-of, upTo-in, upTo-sub}
 use Rattle.busset.proofs.Sizes.{size-le}
 use Rattle.busset.proofs.Sums.{sum, sum-ap, ones-sum}
 use Rattle.case_line.specs.declared.Record.{Record}
-use Rattle.case_line.specs.declared.Record.the-variants.{Line}
 use Rattle.rules.specs.Grids.{total, lineCount}
 use Rattle.grid.specs.Cases.{Lines}
-use Rattle.case_line.specs.CaseText.{has, members, lineRecords}
+use Rattle.case_line.specs.CaseText.{has, members, lineFrom, lineRecords}
 
 -- ---- one bus more at the top
 
@@ -63,18 +62,19 @@ unfoldable column : (ℕ → ℕ) → ℕ → ℕ → ℕ → ℕ
 column nbr t a zero = 0
 column nbr t a (suc m) = bit (nbr a) t + column nbr t (a + 1) m
 
-rows-top : (nbr : ℕ → ℕ) (a m : ℕ) → length (lineRecords nbr a (suc m)) ≡ length (lineRecords nbr a m) + column nbr (a + m) a m
+rows-top : (nbr : ℕ → ℕ) (counts : ℕ → ℕ → ℕ) (a m : ℕ)
+    → length (lineRecords nbr counts a (suc m)) ≡ length (lineRecords nbr counts a m) + column nbr (a + m) a m
 unfolding lineRecords members column
-rows-top nbr a zero = refl
-rows-top nbr a (suc m) =
+rows-top nbr counts a zero = refl
+rows-top nbr counts a (suc m) =
     let e : a + 1 + m ≡ a + suc m = omega arith in
-    let row : ℕ → List Record = members (Line a) (nbr a) (a + 1) in
+    let row : ℕ → List Record = members (lineFrom counts a) (nbr a) (a + 1) in
     omega (
       arith,
-      length-append (row (suc m)) (lineRecords nbr (a + 1) (suc m)),
-      length-append (row m) (lineRecords nbr (a + 1) m),
-      members-top (Line a) (nbr a) (a + 1) m,
-      rows-top nbr (a + 1) m,
+      length-append (row (suc m)) (lineRecords nbr counts (a + 1) (suc m)),
+      length-append (row m) (lineRecords nbr counts (a + 1) m),
+      members-top (lineFrom counts a) (nbr a) (a + 1) m,
+      rows-top nbr counts (a + 1) m,
       ap (bit (nbr a)) e,
       ap (λ (t : ℕ). column nbr t (a + 1) m) e,
     )
@@ -114,9 +114,9 @@ module _ (n : ℕ) (nbr : ℕ → ℕ) (lines : Lines n nbr) where
   higher m = let t = suc m in omega (arith, column-sum t m, not-self t, upTo-sum t (nbr t))
 
   -- one record for each line
-  pub line-records : (m : ℕ) → length (lineRecords nbr 1 m) ≡ lineCount m nbr
+  pub line-records : (counts : ℕ → ℕ → ℕ) (m : ℕ) → length (lineRecords nbr counts 1 m) ≡ lineCount m nbr
   unfolding total lineRecords
-  line-records zero = refl
-  line-records (suc m) =
+  line-records counts zero = refl
+  line-records counts (suc m) =
       let e : 1 + m ≡ suc m = omega arith in
-      omega (arith, rows-top nbr 1 m, line-records m, higher m, ap (λ (t : ℕ). column nbr t 1 m) e)
+      omega (arith, rows-top nbr counts 1 m, line-records counts m, higher m, ap (λ (t : ℕ). column nbr t 1 m) e)

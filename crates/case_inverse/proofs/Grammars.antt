@@ -9,7 +9,7 @@ use Rattle.text_field.specs.Number.{mostRead}
 use Rattle.text_field.proofs.Cutting.{split-cut}
 use Rattle.case_line.specs.Record.{recordOf, recordText, Formed}
 use Rattle.case_line.specs.declared.Record.{Record}
-use Rattle.case_line.specs.declared.Record.the-variants.{Grid, Bus, Line, Pmu, End, Wrong}
+use Rattle.case_line.specs.declared.Record.the-variants.{Grid, Bus, Line, Circuits, Pmu, End, Wrong}
 use Rattle.case_line.proofs.Texts.{read-record, text-free, spelt}
 use Rattle.case_judge.specs.Judging.{isBus, inPlace, inRange, nextOrLast, judged}
 use Rattle.case_read.specs.Reading.{caseSoFar, Reader, nextReader, refused, caseEnded, recordSaid, got, readLines}
@@ -22,7 +22,7 @@ use Rattle.case_judge.specs.declared.Judgement.{Judgement}
 use Rattle.case_judge.specs.declared.Judgement.the-variants.{Next, Last, Form, Range, Order}
 use Rattle.refusals.specs.declared.Refusal.{Refusal}
 use Rattle.case_read.specs.declared.ReadAnswer.the-variants.{Read, Refused}
-use Rattle.case_judge.proofs.Judged.{accepted-of, last-of, small-of, bounded, line-ends, not-one}
+use Rattle.case_judge.proofs.Judged.{accepted-of, last-of, small-of, bounded, line-ends, circuits-range, not-one}
 use Rattle.case_judge.specs.declared.Place.{Place}
 
 small-number : (n k : ℕ) → n ≤ mostBuses → isBus n k ≡ true → k < mostRead
@@ -32,6 +32,10 @@ formed : (s : Place) (r : Record) → s .n ≤ mostBuses → inPlace s r ≡ tru
 formed s (Grid n) h p e = small-number mostBuses n (omega arith) e
 formed s (Bus k z o) h p e = small-number (s .n) k h e
 formed s (Line a b) h p e = let t = line-ends s a b e in (omega (arith, t .from .most), omega (arith, t .to .most))
+formed s (Circuits a b k) h p e =
+    let c = circuits-range s a b k e in
+    let t = line-ends s a b (c .0) in
+    (omega (arith, t .from .most), omega (arith, t .to .most), omega (arith, c .1 .most))
 formed s (Pmu q) h p e = small-number (s .n) q h e
 formed s End h p e = tt
 formed s Wrong h p e = not-one (cc)
@@ -60,6 +64,7 @@ last-end : (r : Record) → nextOrLast r ≡ Last → r ≡ End
 last-end (Grid n) e = not-one (cc)
 last-end (Bus k z o) e = not-one (cc)
 last-end (Line a b) e = not-one (cc)
+last-end (Circuits a b k) e = not-one (cc)
 last-end (Pmu p) e = not-one (cc)
 last-end End e = refl
 last-end Wrong e = not-one (cc)

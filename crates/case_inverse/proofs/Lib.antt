@@ -7,4 +7,5 @@ pub mod Written
 pub mod Counts
 pub mod Soundness
 pub mod Few
+pub mod Lengths
 pub mod Inverse

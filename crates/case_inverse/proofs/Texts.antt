@@ -12,14 +12,15 @@ use Rattle.busset.specs.Held.{SetWord, emptyWord}
 use Rattle.busset.proofs.Digits.{bit-zero}
 use Rattle.busset.proofs.Words.{set-empty}
 use Rattle.grid.specs.Limits.{mostBuses, mostBytes}
-use Rattle.grid.specs.Rows.{neighbours, noRows}
-use Rattle.grid.proofs.Rows.{no-rows-length}
+use Rattle.grid.specs.Rows.{setAt, neighbours, circuits, noRows}
+use Rattle.grid.proofs.Rows.{no-rows-set, no-rows-length}
+use Rattle.grid.proofs.Joined.{joined}
 use Rattle.text_field.proofs.Tested.{both}
 use Rattle.text_field.specs.Split.{lineFeed, split}
 use Rattle.text_field.proofs.Cutting.{join-split}
 use Rattle.case_line.specs.Record.{recordText}
 use Rattle.case_line.specs.declared.Record.{Record}
-use Rattle.case_line.specs.declared.Record.the-variants.{Grid, Bus, Line, Pmu, End, Wrong}
+use Rattle.case_line.specs.declared.Record.the-variants.{Grid, Bus, Line, Circuits, Pmu, End, Wrong}
 use Rattle.case_judge.specs.Judging.{judged, pastBuses}
 use Rattle.case_read.specs.Reading.{caseSoFar, Reader, nextReader, start, refused, got, readLines, readText, readCase}
 use Rattle.case_inverse.specs.Grammar.{ReadsAs}
@@ -54,24 +55,25 @@ of-reads x c h d = rw (le-ltb mostBytes (length x) h) (reads-read start x c 1 (o
 
 -- ---- the first line
 
-pub zeros : (k i : ℕ) → getD (replicate k emptyWord) i emptyWord ≡ emptyWord
-zeros zero i = refl
-zeros (suc k) zero = refl
-zeros (suc k) (suc i) = zeros k i
-
 pub no-bus : (k : ℕ) → bit (setOf emptyWord) k ≡ 0
 no-bus k = ap (λ (s : ℕ). bit s k) set-empty ∙ bit-zero k
 
-pub no-line : (i j : ℕ) → bit (neighbours noRows i) j ≡ 0
+no-set : (b i j : ℕ) → bit (setAt noRows b i) j ≡ 0
+no-set b i j = ap (λ (s : ℕ). bit s j) (no-rows-set b i) ∙ bit-zero j
+
+pub no-line : (i j : ℕ) → joined noRows i j ≡ 0
 unfolding neighbours
-no-line zero j = no-bus j
-no-line (suc i) j = ap (λ (w : SetWord). bit (setOf w) j) (zeros mostBuses i) ∙ no-bus j
+no-line i j = no-set i 0 j
+
+pub no-circuits : (i j : ℕ) → circuits noRows i j ≡ 0
+unfolding circuits
+no-circuits i j = omega (arith, no-set i 1 j, no-set i 2 j, no-set i 3 j, no-set i 4 j)
 
 pub empty-answer : (n : ℕ) (q : Ask) → answer (caseSoFar (nextReader start (Grid n))) q ≡ 0
 empty-answer n (zeroAt k) = no-bus k
 empty-answer n (siteAt k) = no-bus k
 empty-answer n (unitAt k) = no-bus k
-empty-answer n (lineAt i j) = no-line i j
+empty-answer n (lineAt i j) = omega (arith, no-line i j, no-circuits i j)
 
 pub first-stand : (n : ℕ) → judged (start .place) (Grid n) ≡ Next → Stand (nextReader start (Grid n)) (busPlace 0)
 first-stand n e =
@@ -117,6 +119,8 @@ first-grid (Grid n) x c e d =
 first-grid (Bus k z o) x c e d = let a = accepted-of (start .place) (Bus k z o) e .place in not-one (cc)
 first-grid (Line a b) x c e d =
     let p = both (pastBuses (start .place)) true (accepted-of (start .place) (Line a b) e .place) in absurd (not-past (p .0))
+first-grid (Circuits a b k) x c e d =
+    let p = both (pastBuses (start .place)) true (accepted-of (start .place) (Circuits a b k) e .place) in absurd (not-past (p .0))
 first-grid (Pmu p) x c e d = absurd (not-past (accepted-of (start .place) (Pmu p) e .place))
 first-grid End x c e d = absurd (not-past (accepted-of (start .place) End e .place))
 first-grid Wrong x c e d = let a = accepted-of (start .place) Wrong e .place in not-one (cc)

@@ -11,26 +11,27 @@ use Rattle.busset.specs.Sets.{bit, setOf, width, Bus as IsBus}
 use Rattle.busset.specs.Held.{holdIf}
 use Rattle.basics.proofs.Tests.{below-or, same-or}
 use Rattle.busset.proofs.Holding.{hold-here, if-here}
-use Rattle.grid.specs.Limits.{mostBuses, mostLines}
-use Rattle.grid.specs.Rows.{neighbours}
-use Rattle.grid.specs.Cases.{Sized}
+use Rattle.grid.specs.Limits.{mostBuses, mostLines, mostCircuits, leastSeveral}
+use Rattle.grid.specs.Rows.{neighbours, circuits}
+use Rattle.grid.specs.Cases.{Sized, JoinedCounted, OthersUncounted}
 use Rattle.case_judge.specs.declared.Place.{Place}
 use Rattle.case_line.specs.declared.Record.{Record}
-use Rattle.case_line.specs.declared.Record.the-variants.{Grid, Line, Pmu, End}
+use Rattle.case_line.specs.declared.Record.the-variants.{Grid, Line, Circuits, Pmu, End}
 use Rattle.case_judge.specs.Judging.{isBus, isAfter, pastBuses, judged}
 use Rattle.case_read.specs.Reading.{caseSoFar, Reader, nextReader, start}
 use Rattle.case_inverse.specs.Grammar.{ReadsAs}
 use Rattle.case_inverse.specs.Grammar.ReadsAs.{ends, goes}
-use Rattle.case_line.specs.CaseText.{has, busRecord, busRecords, members, lineRecords, linesText, records}
+use Rattle.case_line.specs.CaseText.{has, busRecord, busRecords, members, lineRecord, lineFrom, lineRecords, linesText, records}
 use Rattle.grid.specs.declared.Case.{Case}
-use Rattle.case_build.proofs.Joined.{joined, Pair, line-here}
+use Rattle.grid.proofs.Joined.{joined, Pair}
 use Rattle.case_judge.specs.declared.Judgement.the-variants.{Next}
-use Rattle.case_judge.proofs.Judged.{accept}
+use Rattle.case_judge.proofs.Judged.{TestsPassed, accept, accept-several}
 use Rattle.case_inverse.proofs.Spots.{next-spot, busPlace, linePlace, unitPlace, lastPlace, bus-rises, line-rises, row-rises}
 use Rattle.case_inverse.proofs.Spots.{unit-rises, bus-line, bus-unit, line-unit, unit-last, line-most, line-below}
 use Rattle.case_inverse.proofs.Spots.{bus-below, bus-past, unit-below, unit-past}
 use Rattle.case_inverse.proofs.Places.{Ask, AskInRange, place, recordPlace, answer, unchanged, pair-unit, all-below}
-use Rattle.case_inverse.proofs.Places.{at-bus, at-line, at-unit}
+use Rattle.case_inverse.proofs.Places.{at-bus, at-line, at-unit, LineBy, lineRead, line-tie}
+use Rattle.case_inverse.proofs.Places.LineBy.{single, multiple}
 use Rattle.case_inverse.proofs.Places.Ask.{zeroAt, siteAt, unitAt, lineAt}
 use Rattle.case_inverse.proofs.Unique.{Stand, stepped}
 use Rattle.case_inverse.proofs.Texts.{first-stand}
@@ -214,19 +215,56 @@ above-is a b c d k l =
     (λ (s : c ≤ a). let e : a ≡ c = omega (arith, t .0) in rw (le-ltb a c s, eq-eqb a c e, lt-ltb b d (t .1 e)))
     (below-or a c)
 
-line-answer : (c : Case) (s : Reader) (a b : ℕ) → Sized (caseSoFar s) → Pair a b → has (neighbours (c .nbr) a) b ≡ true → (q : Ask)
-    → AskInRange q → place q ≡ linePlace a b
-    → answer c q ≡ answer (caseSoFar (nextReader s (Line a b))) q
-line-answer c s a b l y t =
-    at-line (λ (q : Ask). answer c q ≡ answer (caseSoFar (nextReader s (Line a b))) q) a b y
-    (eqb-true _ 1 t ∙ sym (line-here (s .rows) a b (l .rows) y))
+-- what each bus counts: 1 to the most circuits to a neighbour, and none to another bus
+pub record CountsLines (c : Case) : Type 0 where
+  pub counted : (a : ℕ) → JoinedCounted (c .nbr) a
+  pub uncounted : (a : ℕ) → OthersUncounted (c .nbr) a
 
-line-none : (c : Case) (a b : ℕ) → Pair a b → has (neighbours (c .nbr) a) b ≡ false → (q : Ask) → AskInRange q
+-- the line from a to b, by the circuits that c counts
+abbrev lineOf : Case → ℕ → ℕ → Record
+lineOf c = lineFrom (circuits (c .nbr))
+
+abbrev countOf : Case → ℕ → ℕ → ℕ
+countOf c = circuits (c .nbr)
+
+line-by : (a b k : ℕ) → IsBus mostCircuits k → LineBy (lineRecord a b k) a b k
+line-by a b k n =
+    ⊎-elim
+    (λ (l : k < leastSeveral). let e : k ≡ 1 = omega (arith, n .some) in
+    subst⁻¹ (λ (t : Bool). LineBy (cond t (Line a b) (Circuits a b k)) a b k) (lt-ltb k leastSeveral l)
+    (subst⁻¹ (LineBy (Line a b) a b) e single))
+    (λ (l : leastSeveral ≤ k). subst⁻¹ (λ (t : Bool). LineBy (cond t (Line a b) (Circuits a b k)) a b k) (le-ltb k leastSeveral l)
+    (multiple (record { least = l; most = n .most })))
+    (below-or k leastSeveral)
+
+line-accepted : (s : Place) {r : Record} {a b k : ℕ} → LineBy r a b k → TestsPassed s (Line a b) → judged s r ≡ Next
+line-accepted s {a = a} {b = b} single t = accept s (Line a b) (t .place) (t .range) (t .order)
+line-accepted s {a = a} {b = b} {k = k} (multiple v) t = accept-several s a b k t v
+
+line-on : {c : Case} {s : Reader} {r : Record} {a b k : ℕ} {rs : List Record} → LineBy r a b k → judged (s .place) r ≡ Next
+    → Readable c (lineRead s a b k) rs → Readable c s (r ∷ rs)
+line-on {a = a} {b = b} single e t = read-on (Line a b) e t
+line-on {a = a} {b = b} {k = k} (multiple v) e t = read-on (Circuits a b k) e t
+
+line-upto : {c : Case} {s : Reader} {p : ℕ} {r : Record} {a b k : ℕ} → LineBy r a b k → Upto c s p (linePlace a b) → judged (s .place) r ≡ Next
+    → ((q : Ask) → AskInRange q → place q ≡ linePlace a b → answer c q ≡ answer (caseSoFar (lineRead s a b k)) q)
+    → Upto c (lineRead s a b k) (linePlace a b) (linePlace a (b + 1))
+line-upto {a = a} {b = b} single u e h = take-next (Line a b) (linePlace a (b + 1)) (next-spot _ _ _) u e refl h
+line-upto {a = a} {b = b} {k = k} (multiple v) u e h = take-next (Circuits a b k) (linePlace a (b + 1)) (next-spot _ _ _) u e refl h
+
+line-answer : (c : Case) (s : Reader) (a b : ℕ) → Sized (caseSoFar s) → Pair a b → joined (c .nbr) a b ≡ 1 → IsBus mostCircuits (countOf c a b)
+    → (q : Ask) → AskInRange q → place q ≡ linePlace a b → answer c q ≡ answer (caseSoFar (lineRead s a b (countOf c a b))) q
+line-answer c s a b l y t n =
+    at-line (λ (q : Ask). answer c q ≡ answer (caseSoFar (lineRead s a b (countOf c a b))) q) a b y
+    (omega (arith, t, line-tie s a b (countOf c a b) l y n))
+
+line-none : (c : Case) (a b : ℕ) → CountsLines c → Pair a b → has (neighbours (c .nbr) a) b ≡ false → (q : Ask) → AskInRange q
     → linePlace a b ≤ place q
     → place q < linePlace a (b + 1) → answer c q ≡ 0
-line-none c a b y t q h k l =
+line-none c a b v y t q h k l =
     let e : linePlace a b + 1 ≡ linePlace a (b + 1) = next-spot _ _ _ in
-    at-line (λ (q : Ask). answer c q ≡ 0) a b y (omega (arith, eqb-false (joined (c .nbr) a b) 1 t)) q h (omega arith)
+    let o : joined (c .nbr) a b ≡ 0 = omega (arith, eqb-false (joined (c .nbr) a b) 1 t) in
+    at-line (λ (q : Ask). answer c q ≡ 0) a b y (omega (arith, o, v .uncounted a b o)) q h (omega arith)
 
 -- past the buses and before the units, below the line a b, with room for so many lines
 pub record Lining (c : Case) (s : Reader) (p a b left : ℕ) : Type 0 where
@@ -236,12 +274,12 @@ pub record Lining (c : Case) (s : Reader) (p a b left : ℕ) : Type 0 where
   pub below : linePlace (s .place .a) (s .place .b) < linePlace a b
   pub room : s .place .lines + left ≤ mostLines
 
-line-turn : (c : Case) (ls rs : List Record) (a b : ℕ) (s : Reader) (p : ℕ) (t : Bool) → has (neighbours (c .nbr) a) b ≡ t → Pair a b
-    → b ≤ c .n
-    → Lining c s p a b (length (cond t (Line a b ∷ ls) ls)) →
+line-turn : (c : Case) (ls rs : List Record) (a b : ℕ) (s : Reader) (p : ℕ) (t : Bool) → CountsLines c → has (neighbours (c .nbr) a) b ≡ t
+    → Pair a b → b ≤ c .n
+    → Lining c s p a b (length (cond t (lineOf c a b ∷ ls) ls)) →
     ((v : Reader) (o : ℕ) → Lining c v o a (b + 1) (length ls) → Readable c v (ls ++ rs)) →
-    Readable c s (cond t (Line a b ∷ ls) ls ++ rs)
-line-turn c ls rs a b s p true t y l g on =
+    Readable c s (cond t (lineOf c a b ∷ ls) ls ++ rs)
+line-turn c ls rs a b s p true v t y l g on =
     let u = g .upto in
     let n = u .size in
     let yo = y .one in
@@ -249,23 +287,27 @@ line-turn c ls rs a b s p true t y l g on =
     let i : a ≤ s .place .n = omega arith in
     let j : b ≤ s .place .n = omega arith in
     let hb : 1 ≤ b = omega arith in
-    let e = accept (s .place) (Line a b)
-    (rw (past-is (s .place) (u .stand .grid) (g .past), eq-eqb (s .place .unit) 0 (g .none)))
-    (rw (inside (s .place .n) a yo i, inside (s .place .n) b hb j, lt-ltb (s .place .lines) mostLines (omega (arith, g .room))))
-    (rw (lt-ltb a b yl, above-is (s .place .a) (s .place .b) a b (y .high) (g .below))) in
-    read-on (Line a b) e (on (nextReader s (Line a b)) (linePlace a b)
+    let is = eqb-true _ 1 t in
+    let k = v .counted a b is in
+    let by = line-by a b (countOf c a b) k in
+    let e = line-accepted (s .place) by (record {
+      place = rw (past-is (s .place) (u .stand .grid) (g .past), eq-eqb (s .place .unit) 0 (g .none));
+      range = rw (inside (s .place .n) a yo i, inside (s .place .n) b hb j, lt-ltb (s .place .lines) mostLines (omega (arith, g .room)));
+      order = rw (lt-ltb a b yl, above-is (s .place .a) (s .place .b) a b (y .high) (g .below));
+    }) in
+    line-on by e (on (lineRead s a b (countOf c a b)) (linePlace a b)
     (record {
-      upto = take-next (Line a b) (linePlace a (b + 1)) (next-spot _ _ _) u e refl (line-answer c s a b (u .stand .at .sized) y t);
+      upto = line-upto by u e (line-answer c s a b (u .stand .at .sized) y is k);
       past = g .past;
       none = g .none;
       below = line-rises a b (b + 1) (omega arith);
       room = omega (arith, g .room);
     }))
-line-turn c ls rs a b s p false t y l g on =
+line-turn c ls rs a b s p false v t y l g on =
     let r = line-rises a b (b + 1) (omega arith) in
     on s p
     (record {
-      upto = skip (linePlace a (b + 1)) (omega arith) (g .upto) (line-none c a b y t);
+      upto = skip (linePlace a (b + 1)) (omega arith) (g .upto) (line-none c a b v y t);
       past = g .past;
       none = g .none;
       below = omega (arith, g .below);
@@ -276,23 +318,26 @@ pub row-push : (t : Bool) (r : Record) (xs ls : List Record) → cond t (r ∷ x
 row-push true r xs ls = refl
 row-push false r xs ls = refl
 
+-- the lines of c from a to the m buses from b on
+abbrev rowOf : Case → ℕ → ℕ → ℕ → List Record
+rowOf c a b m = members (lineOf c a) (neighbours (c .nbr) a) b m
+
 -- one row
-read-row : (c : Case) (ls rs : List Record) (a m b : ℕ) (s : Reader) (p : ℕ) → 1 ≤ a → a < b → b + m ≡ c .n + 1 → c .n ≤ mostBuses →
-    Lining c s p a b (length (members (Line a) (neighbours (c .nbr) a) b m ++ ls)) →
+read-row : (c : Case) (ls rs : List Record) (a m b : ℕ) (s : Reader) (p : ℕ) → CountsLines c → 1 ≤ a → a < b → b + m ≡ c .n + 1
+    → c .n ≤ mostBuses → Lining c s p a b (length (rowOf c a b m ++ ls)) →
     ((v : Reader) (o : ℕ) → Lining c v o a (c .n + 1) (length ls) → Readable c v (ls ++ rs)) →
-    Readable c s ((members (Line a) (neighbours (c .nbr) a) b m ++ ls) ++ rs)
+    Readable c s ((rowOf c a b m ++ ls) ++ rs)
 unfolding members
-read-row c ls rs a zero b s p h l e k g on =
+read-row c ls rs a zero b s p v h l e k g on =
     let f : b ≡ c .n + 1 = omega arith in
     on s p (subst (λ (x : ℕ). Lining c s p a x (length ls)) f g)
-read-row c ls rs a (suc m) b s p h l e k g on =
+read-row c ls rs a (suc m) b s p v h l e k g on =
     let y : Pair a b = record { one = h; less = l; high = omega arith } in
-    let M = members (Line a) (neighbours (c .nbr) a) (b + 1) m ++ ls in
-    let push = row-push (has (neighbours (c .nbr) a) b) (Line a b) (members (Line a) (neighbours (c .nbr) a) (b + 1) m) ls in
+    let push = row-push (has (neighbours (c .nbr) a) b) (lineOf c a b) (rowOf c a (b + 1) m) ls in
     subst⁻¹ (λ (L : List Record). Readable c s (L ++ rs)) push
-    (line-turn c M rs a b s p (has (neighbours (c .nbr) a) b) refl y (omega arith)
+    (line-turn c (rowOf c a (b + 1) m ++ ls) rs a b s p (has (neighbours (c .nbr) a) b) v refl y (omega arith)
     (subst (λ (L : List Record). Lining c s p a b (length L)) push g)
-    (λ v o w. read-row c ls rs a m (b + 1) v o h (omega arith) (omega arith) k w on))
+    (λ x o w. read-row c ls rs a m (b + 1) x o v h (omega arith) (omega arith) k w on))
 
 -- ---- a whole case
 
@@ -303,11 +348,16 @@ Above n (siteAt k) = n < k
 Above n (unitAt k) = n < k
 Above n (lineAt i j) = n < j
 
--- 1 to the most buses, at most the most lines, and nothing at a bus above n
+-- the lines of c at the m buses from a on
+abbrev pub linesOf : Case → ℕ → ℕ → List Record
+linesOf c a m = lineRecords (neighbours (c .nbr)) (circuits (c .nbr)) a m
+
+-- 1 to the most buses, at most the most lines, counted as they must be, and nothing at a bus above n
 pub record Writable (c : Case) : Type 0 where
   pub one : 1 ≤ c .n
   pub most : c .n ≤ mostBuses
-  pub few : length (lineRecords (neighbours (c .nbr)) 1 (c .n)) ≤ mostLines
+  pub few : length (linesOf c 1 (c .n)) ≤ mostLines
+  pub counts : CountsLines c
   pub above : (q : Ask) → AskInRange q → Above (c .n) q → answer c q ≡ 0
 
 -- the places after row a and before row a + 1
@@ -330,9 +380,9 @@ row-gap c a w l (lineAt i j) h x y =
     (same-or a i))
 
 pub read-lines : (c : Case) (rs : List Record) → Writable c → (m a : ℕ) (s : Reader) (p : ℕ) → 1 ≤ a → a + m ≡ c .n + 1
-    → Lining c s p a (a + 1) (length (lineRecords (neighbours (c .nbr)) a m))
+    → Lining c s p a (a + 1) (length (linesOf c a m))
     → ((v : Reader) (o : ℕ) → Lining c v o (c .n + 1) (c .n + 1 + 1) 0 → Readable c v rs)
-    → Readable c s (lineRecords (neighbours (c .nbr)) a m ++ rs)
+    → Readable c s (linesOf c a m ++ rs)
 unfolding lineRecords
 read-lines c rs w zero a s p h e g on =
     let f : a ≡ c .n + 1 = omega arith in
@@ -340,7 +390,7 @@ read-lines c rs w zero a s p h e g on =
 read-lines c rs w (suc m) a s p h e g on =
     let k = w .most in
     let rise = row-rises a (c .n + 1) (a + 1) (a + 1 + 1) (omega arith) (omega arith) in
-    read-row c (lineRecords (neighbours (c .nbr)) (a + 1) m) rs a m (a + 1) s p h (omega arith) (omega arith) k g
+    read-row c (linesOf c (a + 1) m) rs a m (a + 1) s p (w .counts) h (omega arith) (omega arith) k g
     (λ v o r. read-lines c rs w m (a + 1) v o (omega arith) (omega arith)
     (record {
       upto = skip (linePlace (a + 1) (a + 1 + 1)) (omega arith) (r .upto) (row-gap c a w (omega arith));

@@ -94,6 +94,11 @@ unfolding circuits
 same-circuits p =
     omega (arith, p .at 1 (omega arith), p .at 2 (omega arith), p .at 3 (omega arith), p .at 4 (omega arith))
 
+-- four digits count no further than this
+pub circuits-few : (rows : Rows) (a b : ℕ) → circuits rows a b < 2 * mostCircuits
+unfolding circuits
+circuits-few rows a b = omega arith
+
 -- ---- the four digits
 
 odd-digit : (k : ℕ) → cond (isOdd k) 1 0 ≡ k % 2

@@ -76,6 +76,18 @@ module _ (rows : Rows) (x i : ℕ) (w : SetWord) (h : 1 ≤ x) (k : i < busSets)
 pub set-put-length : (rows : Rows) (x i : ℕ) (w : SetWord) → length (withSet rows x i w) ≡ length rows
 set-put-length rows x i w = length-set rows (busSets * (x - 1) + i) w
 
+-- rows of no line have no set
+no-words : (m k i : ℕ) → getD (replicate m emptyWord ++ replicate k emptyWord) i emptyWord ≡ emptyWord
+no-words zero zero i = refl
+no-words zero (suc k) zero = refl
+no-words zero (suc k) (suc i) = no-words zero k i
+no-words (suc m) k zero = refl
+no-words (suc m) k (suc i) = no-words m k i
+
+pub no-rows-set : (b i : ℕ) → setAt noRows b i ≡ empty
+unfolding setAt
+no-rows-set b i = ap setOf (no-words busSets rowsLength (busSets * b + i)) ∙ set-empty
+
 pub no-rows-length : length noRows ≡ rowsLength
 no-rows-length = length-replicate rowsLength emptyWord
 

@@ -111,11 +111,11 @@ pub fn all_counted(nbr: &Rows) -> bool
     requires { ⌜ length (now nbr) ≡ rowsLength ⌝ }
     ensures { λ r. ⌜ Decides ((b : ℕ) → CountsAt (now (nbr .entry)) b) r ⌝ }
 {
-    for b in 1..=MOST_BUSES {
-        if !is_counted(nbr, b) {
+    for a in 1..=MOST_BUSES {
+        if !is_counted(nbr, a) {
             return false;
         }
-        if !is_alike(nbr, b) {
+        if !is_alike(nbr, a) {
             return false;
         }
     }

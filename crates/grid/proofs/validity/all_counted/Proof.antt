@@ -1,4 +1,4 @@
--- The buses below b count right; b rises past the most buses. A number that is no bus has no sets, so all are then checked.
+-- The buses below a count right; a rises past the most buses. A number that is no bus has no sets, so all are then checked.
 use Prim.Native.Nat.{suc, _-_, _≤_}
 use native.Mathlib.Omega.{arith}
 use borrow.Author.Needs.{needs}
@@ -15,10 +15,10 @@ use Rattle.grid.proofs.validity.is_alike.Reads as is-alike-reads
 use Rattle.grid.proofs.validity.is_counted.Reads as is-counted-reads
 
 abbrev Inv-loop : tie.InvT-loop
-Inv-loop nbr b₀ b = (1 ≤ b) × (b ≤ suc mostBuses) × CheckedBelow (CountsAt nbr) b
+Inv-loop nbr a₀ a = (1 ≤ a) × (a ≤ suc mostBuses) × CheckedBelow (CountsAt nbr) a
 
 abbrev μ-loop : tie.MeasureT-loop
-μ-loop nbr b₀ b = suc mostBuses - b
+μ-loop nbr a₀ a = suc mostBuses - a
 
 loop-holds : tie.Need-loop-holds Inv-loop μ-loop
 loop-holds c = (search needs, search needs, below-first (bare-counts (set-none _)))
@@ -35,8 +35,8 @@ is-alike-requires c κs = search needs
 returns-2 : tie.Need-returns-2 Inv-loop μ-loop
 returns-2 c = decides-no (λ all. refutes (c .before .is-alike .ensures) (not-true _ (c .if2 .taken)) (all _ .mirrored))
 
-add-b : tie.Need-add-b Inv-loop μ-loop
-add-b c = search needs
+add-a : tie.Need-add-a Inv-loop μ-loop
+add-a c = search needs
 
 loop-less : tie.Need-loop-less Inv-loop μ-loop
 loop-less c = search needs
@@ -57,7 +57,7 @@ loop-again c =
 returns-3 : tie.Need-returns-3 Inv-loop μ-loop
 returns-3 c =
     let rows = c .before .before .args .nbr .now in
-    decides-yes (below-all (c .before .loop .inv .2) (λ b l. bare-counts (λ i k. set-past rows b i (omega arith))))
+    decides-yes (below-all (c .before .loop .inv .2) (λ a l. bare-counts (λ i k. set-past rows a i (omega arith))))
 
 pub all-counted-spec : {M : Type 1} → statement M
 all-counted-spec =
@@ -70,7 +70,7 @@ all-counted-spec =
     returns
     is-alike-requires
     returns-2
-    add-b
+    add-a
     loop-less
     loop-again
     returns-3)
