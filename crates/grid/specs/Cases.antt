@@ -34,8 +34,8 @@ abbrev pub gridOf : Case → Grid
 gridOf c = gridWith (c .n) (c .nbr) (c .zero) (c .site) (c .units)
 
 -- the case with a line of k circuits between a and b
-abbrev pub lined : Case → ℕ → ℕ → ℕ → Case
-lined c a b k = caseOf (c .n) (withLine (c .nbr) a b k) (c .zero) (c .site) (c .units)
+abbrev pub lineAdded : Case → ℕ → ℕ → ℕ → Case
+lineAdded c a b k = caseOf (c .n) (withLine (c .nbr) a b k) (c .zero) (c .site) (c .units)
 
 -- what the type of a case value says: the sets of each bus
 pub record Sized (c : Case) : Type 0 where

@@ -8,7 +8,7 @@ ghost use Rattle.busset.specs.Sets.{Bus, width, bit, setOf, add, less};
 ghost use Rattle.rules.specs.Placing.{Full};
 ghost use Rattle.grid.specs.Rows.{busSets, setAt, neighbours, circuits as circuitsOf};
 ghost use Rattle.grid.specs.Rows.{withSet, withRow, withBit, isOdd, withCircuits, withEnd, withLine, noRows};
-ghost use Rattle.grid.specs.Cases.{lined};
+ghost use Rattle.grid.specs.Cases.{lineAdded};
 ghost use Rattle.grid.specs.Near.{WithNeighbours};
 
 pub mod limits;
@@ -145,7 +145,7 @@ pub fn add_line(rows: &mut Rows, a: usize, b: usize, k: usize)
 // The case with a line of k circuits between a and b.
 pub fn with_line(case: Case, a: usize, b: usize, k: usize) -> Case
     requires { ⌜ Bus width a × Bus width b ⌝ }
-    ensures { λ r. ⌜ r ≡ lined case a b k ⌝ }
+    ensures { λ r. ⌜ r ≡ lineAdded case a b k ⌝ }
 {
     let mut c = case;
     add_line(&mut c.nbr, a, b, k);

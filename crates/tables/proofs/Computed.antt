@@ -9,9 +9,9 @@ use Rattle.rules.specs.Grids.{total}
 use Rattle.rules.specs.Observation.{ObservedSet}
 use Rattle.tables.proofs.Tests.{gap, isOne, above, withinTest, given, subTest}
 use Rattle.tables.proofs.Tests.{closedTest}
-use Rattle.grid.specs.Rows.{neighbours}
+use Rattle.grid.specs.Rows.{setAt, neighbours}
 use Rattle.grid.specs.Cases.{Valid}
-use Rattle.tables.proofs.Drawn.{rowTest, linesTest, validTest, filled-passes}
+use Rattle.tables.proofs.Drawn.{writtenRow, rowTest, linesTest, validTest, filled-passes}
 use Rattle.tables.specs.Starred.{Drawing, shortCase, drawnCase, seven, path}
 use Rattle.tables.specs.Drawings.{set, drawnGrid, pathWith, sweep, leaf, lone, ring}
 use Rattle.tables.proofs.Deriving.{holdsTest, acceptedTest, leastTest, least-passes, derived, pick, reasonFor, reasonAt, stepFor}
@@ -47,8 +47,8 @@ pub record Known : Type 0 where
   pub lone1 : ObservedIn lone (set (1 ∷ []))
 
 pub known : Known
-unfolding validTest linesTest withinTest rowTest above leastTest acceptedTest holdsTest closedTest subTest isOne gap given total neighbours
-    hold wordOf setOf upTo less lack add ones onesIn pick reasonFor reasonAt stepFor passFrom extended derive
+unfolding validTest linesTest withinTest rowTest above leastTest acceptedTest holdsTest closedTest subTest isOne gap given total
+    neighbours hold wordOf setOf upTo less lack add ones onesIn pick reasonFor reasonAt stepFor passFrom extended derive setAt writtenRow
 known = record {
   none = observed (seven []) (set []) refl refl;
   at2 = observed (seven (2 ∷ [])) (set (1 ∷ 2 ∷ 3 ∷ [])) refl refl;

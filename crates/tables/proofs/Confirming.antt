@@ -14,8 +14,8 @@ use Rattle.rules.specs.Confirming.{Confirm, joined, share, UnconfirmedSet}
 use Rattle.rules.proofs.Choices.{unconfirmed-unique}
 use Rattle.tables.proofs.Tests.{gap, above, withinTest, within-passes, given}
 use Rattle.tables.proofs.Sought.{confirmTest, aloneTest, unconfirmedTest, unconfirmed-passes}
-use Rattle.grid.specs.Rows.{neighbours}
-use Rattle.tables.proofs.Drawn.{rowTest, linesTest, validTest, filled-passes}
+use Rattle.grid.specs.Rows.{setAt, neighbours}
+use Rattle.tables.proofs.Drawn.{writtenRow, rowTest, linesTest, validTest, filled-passes}
 use Rattle.tables.specs.Starred.{Drawing, wordWith, shortCase, seven}
 use Rattle.tables.proofs.Rows.{_&_}
 use Rattle.tables.specs.Tables.{AllRight}
@@ -28,7 +28,7 @@ strangers nbr a b e (joined j) = omega arith
 strangers nbr a b e (share c j k) = omega (arith, size-some (meet (nbr a) (nbr b)) c (let m = meet-at (nbr a) (nbr b) c in omega arith))
 
 pub confirm-right : AllRight tables.confirmTable
-unfolding meet neighbours hold wordOf add setOf ones onesIn
+unfolding meet neighbours hold wordOf add setOf ones onesIn setAt
 confirm-right =
     joined refl
     & joined refl
@@ -50,16 +50,16 @@ alone d bs v w e =
 -- no units, and a unit alone
 pub nobody : UnconfirmedSet (sevenGrid [] .neighbours) (set []) (set [])
 unfolding validTest linesTest withinTest above rowTest unconfirmedTest aloneTest confirmTest gap given total meet upTo neighbours hold
-    wordOf add setOf ones onesIn lack
+    wordOf add setOf ones onesIn lack setAt writtenRow
 nobody = alone (seven []) [] refl refl refl
 
 pub itself : UnconfirmedSet (sevenGrid [] .neighbours) (set (3 ∷ [])) (set (3 ∷ []))
 unfolding validTest linesTest withinTest above rowTest unconfirmedTest aloneTest confirmTest gap given total meet upTo neighbours hold
-    wordOf add setOf ones onesIn lack
+    wordOf add setOf ones onesIn lack setAt writtenRow
 itself = alone (seven (3 ∷ [])) (3 ∷ []) refl refl refl
 
 pub unconfirmed-right : AllRight tables.unconfirmedTable
-unfolding neighbours hold wordOf add setOf
+unfolding neighbours hold wordOf add setOf setAt
 unconfirmed-right =
     itself .only 3 refl
     & (λ h. h .none 4 refl (λ e. omega arith) (joined refl))
@@ -68,7 +68,7 @@ unconfirmed-right =
 
 pub sets-right : AllRight tables.unconfirmedSetTable
 unfolding validTest linesTest withinTest above rowTest unconfirmedTest aloneTest confirmTest gap given total meet upTo neighbours hold
-    wordOf add setOf ones onesIn lack
+    wordOf add setOf ones onesIn lack setAt writtenRow
 sets-right =
     nobody
     & itself

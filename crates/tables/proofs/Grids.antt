@@ -5,18 +5,18 @@ use mathlib.Core.Logic.{inl, inr}
 use Prim.Native.Nat.{_≤_}
 use native.Mathlib.Omega.{arith}
 use lib.Count.{ones, onesIn}
-use Rattle.busset.specs.Sets.{add, lack, upTo, setOf}
+use Rattle.busset.specs.Sets.{add, lack, less, upTo, setOf}
 use Rattle.busset.specs.Held.{wordOf, hold}
 use Rattle.rules.specs.Grids.{total}
 use Rattle.tables.proofs.Tests.{above, withinTest}
 use Rattle.refusals.specs.declared.Refusal.{Refusal}
 use Rattle.refusals.specs.declared.Refusal.the-variants.{InvalidCase, OverBudget}
 use Rattle.grid.specs.Limits.{mostBuses}
-use Rattle.grid.specs.Rows.{neighbours}
+use Rattle.grid.specs.Rows.{setAt, neighbours, circuits, withBit, withCircuits, withEnd, withLine}
 use Rattle.grid.specs.Cases.{Lines}
 use Rattle.refusals.specs.Refusals.{Check, checkThat, Failed}
 use Rattle.refusals.proofs.Orders.{itself, failed-unique, failed-or-passed}
-use Rattle.tables.proofs.Drawn.{rowTest, linesTest, validTest, filled-passes}
+use Rattle.tables.proofs.Drawn.{writtenRow, rowTest, linesTest, validTest, filled-passes}
 use Rattle.estimator_reply.specs.Results.{codeOf}
 use Rattle.tables.specs.Starred.{shortCase, seven, path}
 use Rattle.tables.proofs.Rows.{_&_}
@@ -31,16 +31,20 @@ pub limits-right : grids.LimitsRight
 limits-right = refl
 
 pub neighbours-right : grids.NeighboursRight
-unfolding neighbours
+unfolding neighbours setAt
 neighbours-right = refl
 
 pub parts-right : grids.GridPartsRight
-unfolding neighbours hold wordOf add setOf
+unfolding neighbours hold wordOf add setOf setAt
 parts-right = refl
 
 pub sums-right : grids.SumsRight
-unfolding total upTo neighbours hold wordOf add setOf ones onesIn
+unfolding total upTo neighbours hold wordOf add setOf ones onesIn setAt
 sums-right = refl
+
+pub circuits-right : grids.CircuitsRight
+unfolding circuits withLine withEnd withCircuits withBit setAt neighbours less lack hold wordOf add setOf
+circuits-right = refl
 
 pub table-right : refusals.RefusalTableRight
 table-right = refl
@@ -48,7 +52,7 @@ table-right = refl
 -- ---- which case values are valid
 
 pub valid-right : AllRight grids.validTable
-unfolding validTest linesTest withinTest above rowTest total lack upTo neighbours hold wordOf add setOf ones onesIn
+unfolding validTest linesTest withinTest above rowTest total lack upTo neighbours hold wordOf add setOf ones onesIn setAt writtenRow circuits withCircuits withBit less
 valid-right =
     filled-passes (shortCase (seven (3 ∷ []))) refl
     & filled-passes (shortCase path) refl
@@ -65,10 +69,16 @@ valid-right =
     & (λ v. omega (arith, v .proper .units 3 refl .most))
     & (λ v. omega (arith, v .proper .zeros 3 refl .most))
     & (λ v. omega (arith, v .proper .sites 3 refl .most))
+    & (λ v. omega (arith, v .joined 1 2 refl .some))
+    & (λ v. omega (arith, v .joined 1 2 refl .most))
+    & (λ v. omega (arith, v .others 1 3 refl))
+    & (λ v. omega (arith, v .others 1 1 refl))
+    & (λ v. omega (arith, v .others 3 4 refl))
+    & (λ v. omega (arith, v .alike 1 2))
     & tt
 
 pub proper-right : AllRight grids.properTable
-unfolding neighbours hold wordOf add setOf
+unfolding neighbours hold wordOf add setOf setAt
 proper-right =
     valid-right .0 .proper
     & (λ v. omega (arith, v .lines 1 2 refl .back))
@@ -76,7 +86,7 @@ proper-right =
     & tt
 
 pub lines-right : AllRight grids.lineTable
-unfolding neighbours hold wordOf add setOf validTest linesTest withinTest above rowTest total lack upTo ones onesIn
+unfolding neighbours hold wordOf add setOf validTest linesTest withinTest above rowTest total lack upTo ones onesIn setAt writtenRow
 lines-right =
     pair-lines 1 2 refl
     & (λ l. omega (arith, l .back))

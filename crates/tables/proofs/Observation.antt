@@ -10,7 +10,7 @@ use Rattle.rules.specs.Grids.{Grid}
 use Rattle.rules.specs.Observation.{AllBut, O2, Closed, ObservedSet}
 use Rattle.rules.proofs.Firing.{fired-by, others-in}
 use Rattle.rules.proofs.Leasts.{least-unique, all-closed}
-use Rattle.grid.specs.Rows.{neighbours}
+use Rattle.grid.specs.Rows.{setAt, neighbours}
 use Rattle.tables.specs.Starred.{path}
 use Rattle.tables.proofs.Rows.{_&_}
 use Rattle.tables.proofs.Computed.{known}
@@ -22,7 +22,7 @@ use Rattle.tables.specs.Observation as tables
 -- ---- the rules
 
 pub o1-right : AllRight tables.o1Table
-unfolding neighbours hold wordOf add setOf
+unfolding neighbours hold wordOf add setOf setAt
 o1-right =
     known .at3 .least .closed .direct
     & (λ h. omega (arith, h .near 3 refl 2))
@@ -54,11 +54,11 @@ fired-right =
 
 -- bus 2 of the seven asks for 1
 asks-1 : O2 (sevenGrid [] .neighbours) (sevenGrid [] .zeros) (set (2 ∷ 3 ∷ 4 ∷ 7 ∷ [])) → ⊥
-unfolding neighbours lack hold wordOf add setOf ones onesIn
+unfolding neighbours lack hold wordOf add setOf ones onesIn setAt
 asks-1 h = omega (arith, h 2 refl refl 1 refl (but-one (set (1 ∷ 3 ∷ [])) 1 (set (2 ∷ 3 ∷ 4 ∷ 7 ∷ [])) refl refl refl))
 
 pub o2-right : AllRight tables.o2Table
-unfolding neighbours lack hold wordOf add setOf ones onesIn
+unfolding neighbours lack hold wordOf add setOf ones onesIn setAt
 o2-right =
     asks-1
     & known .at3 .least .closed .zeros .o2

@@ -23,9 +23,9 @@ use Rattle.tables.proofs.Sought.{noBetter, bestTest, noneTest, greedyTe
 use Rattle.tables.proofs.Sought.{soughtFrom, judge, orElse, choose, seek, firstOf, smallest, fewest-passes}
 use Rattle.grid.specs.declared.Case.{Case}
 use Rattle.grid.specs.Limits.{mostBudget}
-use Rattle.grid.specs.Rows.{neighbours}
+use Rattle.grid.specs.Rows.{setAt, neighbours}
 use Rattle.grid.specs.Cases.{gridOf}
-use Rattle.tables.proofs.Drawn.{rowTest, linesTest, validTest, filled-passes}
+use Rattle.tables.proofs.Drawn.{writtenRow, rowTest, linesTest, validTest, filled-passes}
 use Rattle.tables.specs.Starred.{filled, shortCase, seven}
 use Rattle.tables.proofs.Rows.{_&_}
 use Rattle.tables.proofs.Computed.{known}
@@ -171,9 +171,9 @@ pub record Placed : Type 0 where
   pub greedyBarred : GreedyList (barred []) 1 (2 ∷ [])
 
 pub known-places : Placed
-unfolding validTest linesTest withinTest rowTest above leastTest acceptedTest holdsTest closedTest subTest isOne gap given total neighbours
-    hold wordOf setOf upTo less lack add ones onesIn pick reasonFor reasonAt stepFor passFrom extended derive soughtFrom judge orElse choose
-    seek firstOf smallest noBetter bestTest noneTest greedyTest
+unfolding validTest linesTest withinTest rowTest above leastTest acceptedTest holdsTest closedTest subTest isOne gap given total
+    neighbours hold wordOf setOf upTo less lack add ones onesIn pick reasonFor reasonAt stepFor passFrom extended derive soughtFrom judge
+    orElse choose seek firstOf smallest noBetter bestTest noneTest greedyTest setAt writtenRow
 known-places = record {
   fewest1 = found (shortCase (seven [])) 1 none refl refl;
   fewest2 = found (shortCase (seven [])) 2 (some (set (1 ∷ 4 ∷ []))) refl refl;

@@ -23,7 +23,7 @@ use Rattle.refusals.specs.declared.Refusal.{Refusal}
 use Rattle.refusals.specs.declared.Refusal.the-variants.{WrongForm, OutOfRange, ReasonFails, OverBudget, NoCover}
 use Rattle.refusals.proofs.Orders.{itself}
 use Rattle.case_line.specs.CaseText.{members, linesText}
-use Rattle.grid.specs.Rows.{neighbours}
+use Rattle.grid.specs.Rows.{setAt, neighbours}
 use Rattle.case_judge.specs.Judging.{isBus, isAfter, pastBuses, judged}
 use Rattle.case_read.specs.Reading.{readLines, readText, readCase}
 use Rattle.report_lines.specs.Printing.{refusedText}
@@ -66,9 +66,9 @@ other : (i : ℕ) (s t : List ℕ) → s ≡ t → (getD s i 0 ≡ getD t i 0 �
 other i s t e ne = ne (ap (λ (x : List ℕ). getD x i 0) e)
 
 pub days-right : AllRight tables.dayPrintedTable
-unfolding readCase readText readLines judged isBus isAfter pastBuses recordOf recordWordOf lineFields busFields markOf ifOneField ifNoField
-    split same isDigit takesDigit numberFrom numeralOf add held.hold held.wordOf setOf neighbours stepsText stepText refusedText join digits
-    ones onesIn
+unfolding readCase readText readLines judged isBus isAfter pastBuses recordOf recordWordOf lineFields busFields markOf ifOneField
+    ifNoField split same isDigit takesDigit numberFrom numeralOf add held.hold held.wordOf setOf neighbours stepsText stepText refusedText
+    join digits ones onesIn setAt isSeveral withLine withEnd withCircuits withBit less lack
 days-right =
     day
     & day-none
@@ -101,9 +101,10 @@ days-right =
     }
 
 pub plans-right : AllRight tables.planPrintedTable
-unfolding readPlan planLines budgetOf planFields readCase readText readLines judged isBus isAfter pastBuses recordOf recordWordOf lineFields
-    busFields markOf ifOneField ifNoField split same isDigit takesDigit numberFrom numeralOf add held.hold held.wordOf setOf neighbours
-    refusedText members linesText recordText join digits ones onesIn
+unfolding readPlan planLines budgetOf planFields readCase readText readLines judged isBus isAfter pastBuses recordOf recordWordOf
+    lineFields busFields markOf ifOneField ifNoField split same isDigit takesDigit numberFrom numeralOf add held.hold held.wordOf setOf
+    neighbours refusedText members linesText recordText join digits ones onesIn setAt isSeveral withLine withEnd withCircuits withBit less
+    lack
 plans-right =
     found (set (1 ∷ 4 ∷ [])) (omega arith, (fewest-some (known-places .fewest2), tt)) (known-places .fewest2) refl
     & no-plan NoCover (omega arith then stop (known-places .fewest1) (itself _)) refl
@@ -125,8 +126,7 @@ not-unread (listed.Refused r) q e = let z : _≡_ {A = ℕ} 0 1 = cc in omega ar
 
 pub replays-right : AllRight tables.textReplayTable
 unfolding readSteps stepLines stepInRange stepsFrom stepsIn stepLineOf stepWordOf letteredFields reasonFields stepFields ifOneField
-    ifNoField
-    split same isBus isDigit takesDigit numberFrom numeralOf
+    ifNoField split same isBus isDigit takesDigit numberFrom numeralOf
 replays-right =
     (listed.Reached _ true, replies.replays-right .0, refl)
     & refl
@@ -139,8 +139,7 @@ replays-right =
 
 pub readings-right : AllRight tables.stepsReadTable
 unfolding readSteps stepLines stepInRange stepsFrom stepsIn stepLineOf stepWordOf letteredFields reasonFields stepFields ifOneField
-    ifNoField
-    split same isBus isDigit takesDigit numberFrom numeralOf
+    ifNoField split same isBus isDigit takesDigit numberFrom numeralOf
 readings-right =
     (refl, refl)
     & (refl, refl)
@@ -177,9 +176,10 @@ abbrev five : SetWord
 five = wordWith (1 ∷ 2 ∷ 3 ∷ 4 ∷ 7 ∷ [])
 
 pub calls-right : AllRight tables.estimatorTable
-unfolding readCase readText readLines judged isBus isAfter pastBuses recordOf recordWordOf lineFields busFields markOf ifOneField ifNoField
-    split same isDigit takesDigit numberFrom numeralOf add held.hold held.wordOf setOf neighbours readSteps stepLines stepInRange stepsFrom
-    stepsIn stepLineOf stepWordOf letteredFields reasonFields stepFields byteOf bytesFrom
+unfolding readCase readText readLines judged isBus isAfter pastBuses recordOf recordWordOf lineFields busFields markOf ifOneField
+    ifNoField split same isDigit takesDigit numberFrom numeralOf add held.hold held.wordOf setOf neighbours readSteps stepLines
+    stepInRange stepsFrom stepsIn stepLineOf stepWordOf letteredFields reasonFields stepFields byteOf bytesFrom setAt isSeveral withLine
+    withEnd withCircuits withBit less lack
 calls-right =
     gives tables.lent (Set five) (says (observed.Set five) (replies.sets-right .0))
     & gives tables.lent (Set (wordWith (3 ∷ [])))

@@ -14,7 +14,7 @@ use Rattle.case_line.specs.Fields.{markOf, ifOneField, ifNoField}
 use Rattle.case_line.specs.Record.{recordWordOf, lineFields, busFields, recordOf, recordText}
 use Rattle.step_line.specs.StepLine.{letteredFields, stepWordOf, reasonFields, stepFields, stepLineOf, stepText}
 use Rattle.grid.specs.Limits.{mostBuses}
-use Rattle.grid.specs.Rows.{neighbours}
+use Rattle.grid.specs.Rows.{setAt, neighbours}
 use Rattle.case_inverse.proofs.Grammars.{reads-read, not-got, read-reads}
 use Rattle.case_judge.specs.Judging.{isBus, isAfter, pastBuses, judged}
 use Rattle.case_read.specs.Reading.{start, readLines, readText, readCase}
@@ -35,17 +35,18 @@ use Rattle.tables.proofs.Deriving.{names-pass}
 -- ---- case texts
 
 pub cases-right : case.CasesRight
-unfolding readCase readText readLines judged isBus isAfter pastBuses recordOf recordWordOf lineFields busFields markOf ifOneField ifNoField
-    split same isDigit takesDigit numberFrom numeralOf add held.hold held.wordOf setOf neighbours
+unfolding readCase readText readLines judged isBus isAfter pastBuses recordOf recordWordOf lineFields busFields markOf ifOneField
+    ifNoField split same isDigit takesDigit numberFrom numeralOf add held.hold held.wordOf setOf neighbours setAt isSeveral withLine
+    withEnd withCircuits withBit less lack
 cases-right = refl
 
 pub texts-right : case.CaseTextsRight
-unfolding busRecords members lineRecords linesText recordText join digits neighbours held.hold held.wordOf add setOf
+unfolding busRecords members lineRecords linesText recordText join digits neighbours held.hold held.wordOf add setOf setAt circuits
 texts-right = refl
 
 pub allowed-right : AllRight case.grammarTable
 unfolding readLines judged isBus isAfter pastBuses recordOf recordWordOf lineFields busFields markOf ifOneField ifNoField split join same
-    isDigit takesDigit numberFrom numeralOf
+    isDigit takesDigit numberFrom numeralOf isSeveral
 allowed-right =
     read-reads (split lineFeed (block case.oneInput) .rest) start 1 (split lineFeed (block case.oneInput) .first) case.oneCase refl
     & (λ h. not-got _ (reads-read start _ _ 1 (omega arith) h))
@@ -53,22 +54,22 @@ allowed-right =
     & tt
 
 pub wired-right : case.WiredRight
-unfolding held.hold held.wordOf neighbours
+unfolding held.hold held.wordOf neighbours setAt
 wired-right = refl
 
 pub whole-right : case.WholeTextsRight
-unfolding readCase readText readLines judged isBus isAfter pastBuses recordOf recordWordOf lineFields busFields markOf ifOneField ifNoField
-    split same isDigit takesDigit numberFrom numeralOf
+unfolding readCase readText readLines judged isBus isAfter pastBuses recordOf recordWordOf lineFields busFields markOf ifOneField
+    ifNoField split same isDigit takesDigit numberFrom numeralOf isSeveral
 whole-right = refl
 
 pub bus-limits-right : case.BusLimitsRight
 unfolding readCase readText readLines judged isBus isAfter pastBuses recordOf recordWordOf recordText join digits ifOneField split same
-    isDigit takesDigit numberFrom numeralOf
+    isDigit takesDigit numberFrom numeralOf isSeveral
 bus-limits-right = refl
 
 pub later-right : case.LaterLinesRight
-unfolding readCase readText readLines judged isBus isAfter pastBuses recordOf recordWordOf lineFields busFields markOf ifOneField ifNoField
-    split same isDigit takesDigit numberFrom numeralOf
+unfolding readCase readText readLines judged isBus isAfter pastBuses recordOf recordWordOf lineFields busFields markOf ifOneField
+    ifNoField split same isDigit takesDigit numberFrom numeralOf isSeveral
 later-right = refl
 
 pub case-limits-right : case.CaseLimitsRight
@@ -76,7 +77,7 @@ unfolding readCase readText readLines judged recordOf recordWordOf split same
 case-limits-right = refl
 
 pub verdicts-right : case.JudgementsRight
-unfolding judged isBus isAfter pastBuses
+unfolding judged isBus isAfter pastBuses isSeveral
 verdicts-right = refl
 
 -- ---- step texts
@@ -86,8 +87,8 @@ unfolding stepInRange isBus
 ranges-right = refl
 
 pub readings-right : steps.ReadStepsRight
-unfolding readSteps stepLines stepInRange isBus stepLineOf stepWordOf letteredFields reasonFields stepFields ifOneField ifNoField split same
-    isDigit takesDigit numberFrom numeralOf
+unfolding readSteps stepLines stepInRange isBus stepLineOf stepWordOf letteredFields reasonFields stepFields ifOneField ifNoField split
+    same isDigit takesDigit numberFrom numeralOf
 readings-right = refl
 
 pub beyond-right : steps.BeyondRight
@@ -100,13 +101,13 @@ unfolding readSteps stepLines stepLineOf stepWordOf split same
 step-limits-right = refl
 
 pub lists-right : steps.StepsOfRight
-unfolding stepsFrom stepsIn stepLineOf stepWordOf letteredFields reasonFields stepFields ifOneField ifNoField split same isDigit takesDigit
-    numberFrom numeralOf
+unfolding stepsFrom stepsIn stepLineOf stepWordOf letteredFields reasonFields stepFields ifOneField ifNoField split same isDigit
+    takesDigit numberFrom numeralOf
 lists-right = refl
 
 pub found-right : AllRight steps.stepAtTable
-unfolding stepsFrom stepsIn stepLineOf stepWordOf letteredFields reasonFields stepFields ifOneField ifNoField split same isDigit takesDigit
-    numberFrom numeralOf
+unfolding stepsFrom stepsIn stepLineOf stepWordOf letteredFields reasonFields stepFields ifOneField ifNoField split same isDigit
+    takesDigit numberFrom numeralOf
 found-right =
     (names-pass mostBuses (own 1) refl, (names-pass mostBuses (near mostBuses 1) refl, tt))
     & (λ h. omega (arith, h .1 .0 .reason .most))
@@ -149,13 +150,14 @@ unfolding budgetOf planFields split same isDigit takesDigit numberFrom numeralOf
 budgets-right = refl
 
 pub inputs-right : reports.InputsRight
-unfolding readPlan planLines budgetOf planFields readLines judged isBus isAfter pastBuses recordOf recordWordOf lineFields busFields markOf
-    ifOneField ifNoField split same isDigit takesDigit numberFrom numeralOf
+unfolding readPlan planLines budgetOf planFields readLines judged isBus isAfter pastBuses recordOf recordWordOf lineFields busFields
+    markOf ifOneField ifNoField split same isDigit takesDigit numberFrom numeralOf isSeveral
 inputs-right = refl
 
 pub asked-right : reports.AskedRight
-unfolding readPlan planLines budgetOf planFields readLines judged isBus isAfter pastBuses recordOf recordWordOf lineFields busFields markOf
-    ifOneField ifNoField split same isDigit takesDigit numberFrom numeralOf add held.hold held.wordOf setOf neighbours
+unfolding readPlan planLines budgetOf planFields readLines judged isBus isAfter pastBuses recordOf recordWordOf lineFields busFields
+    markOf ifOneField ifNoField split same isDigit takesDigit numberFrom numeralOf add held.hold held.wordOf setOf neighbours setAt
+    isSeveral withLine withEnd withCircuits withBit less lack
 asked-right = refl
 
 pub plan-limits-right : reports.PlanLimitsRight

@@ -27,11 +27,11 @@ use Rattle.rules.proofs.Ordering.{fewest-some}
 use Rattle.tables.proofs.Tests.{above, withinTest, bus-passes}
 use Rattle.refusals.specs.declared.Refusal.the-variants.{InvalidCase, NoSuchBus, ReasonFails, OverBudget, NoCover}
 use Rattle.grid.specs.Limits.{mostBudget}
-use Rattle.grid.specs.Rows.{neighbours}
+use Rattle.grid.specs.Rows.{setAt, neighbours}
 use Rattle.grid.specs.Cases.{Valid}
 use Rattle.refusals.specs.Refusals.{Failed, numberOf}
 use Rattle.refusals.proofs.Orders.{itself, failed-or-passed, failed-unique}
-use Rattle.tables.proofs.Drawn.{rowTest, linesTest, validTest, filled-passes}
+use Rattle.tables.proofs.Drawn.{writtenRow, rowTest, linesTest, validTest, filled-passes}
 use Rattle.case_line.specs.Fields.{ifNoField}
 use Rattle.step_line.specs.StepLine.{stepWordOf, stepLineOf}
 use Rattle.step_text.specs.Taking.{countRead}
@@ -71,7 +71,7 @@ named23 = names-pass 7 (near 2 3) refl
 -- ---- one question
 
 pub figures-right : AllRight tables.figureReplyTable
-unfolding figure meet less lack upTo neighbours hold wordOf add setOf ones onesIn
+unfolding figure meet less lack upTo neighbours hold wordOf add setOf ones onesIn setAt
 figures-right =
     ((known .at2 .valid, ((bus-passes 7 2 refl, bus-passes 7 1 refl), (refl, tt))), refl)
     & (λ h. omega (arith, ap mag (h .1)))
@@ -85,7 +85,7 @@ figures-right =
     & tt
 
 pub tests-right : AllRight tables.stepReplyTable
-unfolding upTo neighbours hold wordOf add setOf
+unfolding upTo neighbours hold wordOf add setOf setAt
 tests-right =
     (v, (named23, (refl, (record { unit = refl; joined = refl }, tt))))
     & stop invalid (itself _)
@@ -106,7 +106,7 @@ refused-9 : Failed (replayChecks (tables.sevenCase (3 ∷ [])) (zeroAt 1 2 ∷ o
 refused-9 = known .at3 .valid then omega arith then named12 then refl then stop (λ h. omega (arith, h .observed)) (itself _)
 
 pub replays-right : AllRight tables.replayReplyTable
-unfolding reasonTest allowedTest neighbours add hold wordOf setOf
+unfolding reasonTest allowedTest neighbours add hold wordOf setOf setAt
 replays-right = (
   (v, (omega arith, accepted-checks (tables.sevenCase (3 ∷ [])) (v .proper) 1 empty derivationSteps (derived-accepted is-derivation .0))),
   refl,
@@ -142,7 +142,7 @@ replays-right = (
     none-allowed = closed-finished (sevenGrid []) (set []) (known .none .least .closed)
 
 pub weaves-right : AllRight tables.weaveReplyTable
-unfolding neighbours add hold wordOf setOf
+unfolding neighbours add hold wordOf setOf setAt
 weaves-right = (
   (
     v,
@@ -245,7 +245,8 @@ fewests-right =
 
 pub texts-right : AllRight tables.textReplyTable
 unfolding readCase readText readLines readSteps stepLines stepLineOf stepWordOf ifNoField split same validTest linesTest withinTest above
-    rowTest total busRecords members lineRecords linesText recordText join digits neighbours setOf ones onesIn lack
+    rowTest total busRecords members lineRecords linesText recordText join digits neighbours setOf ones onesIn lack setAt writtenRow withLine
+    withEnd withCircuits withBit less circuits
 texts-right =
     refl
     & refl

@@ -20,9 +20,9 @@ use Rattle.tables.proofs.Sought.{aloneTest, unconfirmedTest, noBetter, 
 use Rattle.tables.proofs.Sought.{some, unsure, soughtFrom, judge, orElse, choose, seek, firstOf, smallest}
 use Rattle.refusals.proofs.Orders.{itself}
 use Rattle.grid.specs.Limits.{mostBudget, mostGreedyBudget}
-use Rattle.grid.specs.Rows.{neighbours}
+use Rattle.grid.specs.Rows.{setAt, neighbours}
 use Rattle.grid.specs.Cases.{Valid}
-use Rattle.tables.proofs.Drawn.{rowTest, linesTest, validTest, filled-passes}
+use Rattle.tables.proofs.Drawn.{writtenRow, rowTest, linesTest, validTest, filled-passes}
 use Rattle.observe_calls.specs.Replies.{stated}
 use Rattle.tables.specs.Drawings.{set, drawnGrid}
 use Rattle.tables.proofs.StarredSites.{free, verdict-right, greedy-right, fewest-right, uncovered-right}
@@ -137,5 +137,5 @@ pub table-right : AllStarredRight starredTable
 unfolding allWrong wrong gapSought validTest linesTest withinTest rowTest leastTest acceptedTest holdsTest closedTest subTest isOne gap
     given total neighbours hold wordOf setOf figure upTo less lack meet add ones onesIn pick reasonFor reasonAt stepFor passFrom extended
     derive confirmTest aloneTest unconfirmedTest noBetter bestTest noneTest greedyTest above soughtFrom judge orElse choose seek firstOf
-    smallest
+    smallest setAt writtenRow
 table-right = all-right starredTable refl

@@ -2,11 +2,11 @@
 use mathlib.Core.Path.{_≡_, refl, ap, ap₂, _∙_, subst⁻¹}
 use mathlib.Core.Logic.{⊎-elim}
 use mathlib.Core.List.{[], _∷_}
-use Prim.Native.Nat.{ℕ, zero, suc, _-_, _≤_, _<_, zero-le}
+use Prim.Native.Nat.{ℕ, zero, suc, _-_, _*_, _≤_, _<_, zero-le}
 use native.Mathlib.Omega.{arith}
 use lib.Dec.{lit≤}
-use lib.IntN.{pos, _+ℤ_, _-ℤ_}
-use lib.ListN.{getD-replicate, length-replicate}
+use lib.IntN.{ℤ, pos, _+ℤ_, _-ℤ_}
+use lib.ListN.{length, getD-replicate, length-replicate}
 use Rattle.busset.specs.Sets.{Bus, bit, In, empty, meet, less, upTo, size, setOf}
 use Rattle.busset.specs.Held.{emptyWord}
 use Rattle.basics.proofs.Tests.{below-or, same-or}
@@ -18,16 +18,16 @@ use Rattle.busset.proofs.Holding.{word-set, hold-here, hold-there}
 use Rattle.rules.specs.Grids.{Line, total, lineCount}
 use Rattle.rules.specs.Figures.{figure}
 use Rattle.grid.specs.Limits.{mostBuses}
-use Rattle.grid.specs.Rows.{neighbours}
-use Rattle.grid.specs.Cases.{Lines, Valid}
-use Rattle.grid.proofs.Rows.{row-zero, row-past, row-bus}
+use Rattle.grid.specs.Rows.{busSets}
+use Rattle.grid.specs.Cases.{gridOf, Lines, Valid}
 use Rattle.tables.proofs.Listed.{all-buses, size-buses}
 use Rattle.tables.proofs.Tests.{bus-passes}
+use Rattle.tables.proofs.Drawn.{writtenRow, written-zero, written-past, written-bus, written-is, filled-valid}
 use Rattle.tables.proofs.Rows.{_&_}
 use Rattle.tables.specs.Tables.{AllRight}
 use Rattle.tables.specs.Starred.{wordWith, busesTo}
 use Rattle.tables.specs.Drawings.{set}
-use Rattle.tables.specs.Figures.{starRows, star, figureEndTable}
+use Rattle.tables.specs.Figures.{starRows, shortStar, star, figureEndTable}
 
 -- ---- the rows of m + 1 buses
 
@@ -37,18 +37,18 @@ every m = set (busesTo (suc m))
 
 -- the neighbours of each
 abbrev near : ℕ → ℕ → ℕ
-near m = neighbours (starRows m)
+near m = writtenRow (starRows m)
 
 first-row : (m : ℕ) → near m 1 ≡ less (every m) 1
-unfolding neighbours
+unfolding writtenRow
 first-row m = word-set (less (every m) 1) (omega (arith, less-sub (every m) 1 0, set-zero (wordWith (busesTo (suc m)))))
 
 other-row : (m i : ℕ) → i < m → near m (suc (suc i)) ≡ set (1 ∷ [])
-unfolding neighbours
+unfolding writtenRow
 other-row m i l = ap setOf (getD-replicate m i (wordWith (1 ∷ [])) emptyWord l)
 
 past-row : (m i : ℕ) → m ≤ i → near m (suc (suc i)) ≡ empty
-past-row m i l = row-past (starRows m) (suc (suc i)) (omega (arith, length-replicate m (wordWith (1 ∷ []))))
+past-row m i l = written-past (starRows m) (suc (suc i)) (omega (arith, length-replicate m (wordWith (1 ∷ []))))
 
 -- the set of bus 1 has no other
 only-1 : (b : ℕ) → In (set (1 ∷ [])) b → b ≡ 1
@@ -93,8 +93,8 @@ star-line m i l =
     )
 
 star-lines : (m : ℕ) → Lines (suc m) (near m)
-star-lines m zero b h = absurd (omega (arith, ap (λ (s : ℕ). bit s b) (row-zero (starRows m)), bit-zero b))
-star-lines m (suc zero) zero h = absurd (omega (arith, row-bus (starRows m) 1))
+star-lines m zero b h = absurd (omega (arith, ap (λ (s : ℕ). bit s b) (written-zero (starRows m)), bit-zero b))
+star-lines m (suc zero) zero h = absurd (omega (arith, written-bus (starRows m) 1))
 star-lines m (suc zero) (suc zero) h = absurd (omega (arith, ap (λ (s : ℕ). bit s 1) (first-row m), less-here (every m) 1))
 star-lines m (suc zero) (suc (suc i)) h =
     let there = ap (λ (s : ℕ). bit s (suc (suc i))) (first-row m) in
@@ -111,8 +111,8 @@ one-lower : (m b : ℕ) → size (upTo b (near m b)) ≤ 1
 one-lower m b = size-most 1 (upTo b (near m b)) (λ c h. go b c (omega (arith, upTo-sub b (near m b) c)) h)
   where
     go : (b c : ℕ) → In (near m b) c → In (upTo b (near m b)) c → Bus 1 c
-    go zero c j h = absurd (omega (arith, ap (λ (s : ℕ). bit s c) (row-zero (starRows m)), bit-zero c))
-    go (suc zero) zero j h = absurd (omega (arith, row-bus (starRows m) 1))
+    go zero c j h = absurd (omega (arith, ap (λ (s : ℕ). bit s c) (written-zero (starRows m)), bit-zero c))
+    go (suc zero) zero j h = absurd (omega (arith, written-bus (starRows m) 1))
     go (suc zero) (suc zero) j h = record { some = omega arith; most = omega arith }
     go (suc zero) (suc (suc c)) j h = absurd (omega (arith, upTo-out 1 (near m 1) (suc (suc c)) (omega arith)))
     go (suc (suc i)) c j h = let e = other-1 m i c j in record { some = omega arith; most = omega arith }
@@ -126,16 +126,9 @@ no-buses : (n b : ℕ) → In (set []) b → Bus n b
 no-buses n b h = absurd (omega (arith, ap (λ (s : ℕ). bit s b) set-empty, bit-zero b))
 
 star-valid : Valid star
-star-valid = record {
-  buses = record { some = lit≤ tt; most = lit≤ tt };
-  proper = record {
-    lines = star-lines (mostBuses - 1);
-    zeros = no-buses mostBuses;
-    sites = no-buses mostBuses;
-    units = no-buses mostBuses;
-  };
-  few = omega (arith, few-lines (mostBuses - 1) mostBuses);
-}
+star-valid =
+    filled-valid shortStar (record { some = lit≤ tt; most = lit≤ tt }) (star-lines (mostBuses - 1)) (no-buses mostBuses)
+    (no-buses mostBuses) (no-buses mostBuses) (omega (arith, few-lines (mostBuses - 1) mostBuses))
 
 -- ---- its figures
 
@@ -170,11 +163,18 @@ unfolding figure
 figure-from nbr s i j a d b p q r =
     ap₂ (λ (x y : ℕ). pos 1 -ℤ pos x +ℤ pos (bit s i) +ℤ pos y) p r ∙ ap (λ (x : ℕ). pos 1 -ℤ pos a +ℤ pos x +ℤ pos b) q
 
+-- the neighbours that the case value has are those that are written
+star-near : gridOf star .neighbours ≡ near (mostBuses - 1)
+star-near = written-is (starRows (mostBuses - 1)) (busSets * (mostBuses - length (starRows (mostBuses - 1))))
+
+star-figure : (s : ℕ) (z : ℤ) → figure (near (mostBuses - 1)) s 1 2 ≡ z → figure (gridOf star .neighbours) s 1 2 ≡ z
+star-figure s z e = ap (λ (nbr : ℕ → ℕ). figure nbr s 1 2) star-near ∙ e
+
 pub ends-right : AllRight figureEndTable
 ends-right =
     star-valid
-    & figure-from (near (mostBuses - 1)) (set []) 1 2 (mostBuses - 1) 0 0 (first-size (mostBuses - 1))
-    (ap (λ (s : ℕ). bit s 1) set-empty ∙ bit-zero 1) (none-observed (mostBuses - 1))
-    & figure-from (near (mostBuses - 1)) (every (mostBuses - 1)) 1 2 (mostBuses - 1) 1 (mostBuses - 2) (first-size (mostBuses - 1))
-    (all-buses mostBuses .has 1 (bus-passes mostBuses 1 refl)) (all-observed (mostBuses - 2))
+    & star-figure _ _ (figure-from (near (mostBuses - 1)) (set []) 1 2 (mostBuses - 1) 0 0 (first-size (mostBuses - 1))
+    (ap (λ (s : ℕ). bit s 1) set-empty ∙ bit-zero 1) (none-observed (mostBuses - 1)))
+    & star-figure _ _ (figure-from (near (mostBuses - 1)) (every (mostBuses - 1)) 1 2 (mostBuses - 1) 1 (mostBuses - 2)
+    (first-size (mostBuses - 1)) (all-buses mostBuses .has 1 (bus-passes mostBuses 1 refl)) (all-observed (mostBuses - 2)))
     & tt

@@ -17,7 +17,7 @@ use Rattle.rules.proofs.Reasons.{closed-reasoned}
 use Rattle.rules.proofs.Lists.{closed-finished}
 use Rattle.rules.proofs.Derivations.{derived-unique, derived-accepted}
 use Rattle.tables.proofs.Tests.{gap, given, subTest, bus-passes}
-use Rattle.grid.specs.Rows.{neighbours}
+use Rattle.grid.specs.Rows.{setAt, neighbours}
 use Rattle.list_value.specs.declared.StepList.{StepList}
 use Rattle.tables.proofs.Rows.{_&_}
 use Rattle.tables.proofs.Computed.{known}
@@ -53,7 +53,7 @@ places-right = refl
 -- ---- one step
 
 pub reasons-right : AllRight steps.reasonTable
-unfolding reasonTest allowedTest gap neighbours lack hold wordOf add setOf ones onesIn
+unfolding reasonTest allowedTest gap neighbours lack hold wordOf add setOf ones onesIn setAt
 reasons-right =
     refl
     & (λ h. omega arith)
@@ -71,7 +71,7 @@ reasons-right =
     & tt
 
 pub allowed-right : AllRight steps.allowedTable
-unfolding reasonTest allowedTest gap neighbours lack hold wordOf add setOf ones onesIn
+unfolding reasonTest allowedTest gap neighbours lack hold wordOf add setOf ones onesIn setAt
 allowed-right =
     allowed-passes (sevenGrid (3 ∷ [])) (set []) (near 2 3) refl
     & allowed-passes (sevenGrid (3 ∷ [])) (set (2 ∷ [])) (own 3) refl
@@ -100,17 +100,17 @@ names-right =
 
 -- document 01's derivation
 pub is-derivation : Derivation (sevenGrid (3 ∷ [])) steps.derivationSteps
-unfolding derivedTest nextTest noSooner noReason noUnit noZero allowedTest reasonTest holdsTest subTest given gap total neighbours add lack
-    less hold wordOf setOf ones onesIn
+unfolding derivedTest nextTest noSooner noReason noUnit noZero allowedTest reasonTest holdsTest subTest given gap total neighbours add
+    lack less hold wordOf setOf ones onesIn setAt
 is-derivation = derived-passes (sevenGrid (3 ∷ [])) (known .at3 .valid .proper) (set []) steps.derivationSteps refl
 
 -- and that of no units
 pub no-steps : Derivation (sevenGrid []) []
-unfolding derivedTest noReason noUnit noZero holdsTest subTest given total neighbours less lack hold wordOf add setOf
+unfolding derivedTest noReason noUnit noZero holdsTest subTest given total neighbours less lack hold wordOf add setOf setAt
 no-steps = derived-passes (sevenGrid []) (known .none .valid .proper) (set []) [] refl
 
 pub accepted-right : AllRight steps.acceptedTable
-unfolding reasonTest allowedTest gap neighbours lack add hold wordOf setOf ones onesIn
+unfolding reasonTest allowedTest gap neighbours lack add hold wordOf setOf ones onesIn setAt
 accepted-right =
     derived-accepted is-derivation .0
     & tt
@@ -121,7 +121,7 @@ accepted-right =
     & tt
 
 pub finished-right : AllRight steps.finishedTable
-unfolding reasonTest allowedTest gap neighbours lack hold wordOf add setOf ones onesIn
+unfolding reasonTest allowedTest gap neighbours lack hold wordOf add setOf ones onesIn setAt
 finished-right =
     closed-finished (sevenGrid (3 ∷ [])) (set (1 ∷ 2 ∷ 3 ∷ 4 ∷ 7 ∷ [])) (known .at3 .least .closed)
     & (λ h. h (zeroAt 1 2) (allowed-passes (sevenGrid (3 ∷ [])) (set (2 ∷ 3 ∷ 4 ∷ 7 ∷ [])) (zeroAt 1 2) refl))
@@ -153,8 +153,8 @@ before-right =
     & tt
 
 pub next-right : AllRight derivation.nextStepTable
-unfolding nextTest noSooner noReason noUnit noZero allowedTest reasonTest holdsTest subTest given gap total neighbours lack less hold wordOf
-    add setOf ones onesIn
+unfolding nextTest noSooner noReason noUnit noZero allowedTest reasonTest holdsTest subTest given gap total neighbours lack less hold
+    wordOf add setOf ones onesIn setAt
 next-right =
     next-passes (sevenGrid (3 ∷ [])) (known .at3 .valid .proper) (set []) (near 2 3) refl
     & (λ h. omega (arith, h .lowest (near 2 3) (allowed-passes (sevenGrid (3 ∷ [])) (set []) (near 2 3) refl)))
@@ -181,8 +181,8 @@ other : (g : Grid) (i : ℕ) (xs ys : List Step) → Derivation g xs
 other g i xs ys d ne h = let e = derived-unique d ys h in ne (ap length e) (ap (λ (zs : List Step). getD zs i noStep .bus) e)
 
 pub derivations-right : AllRight derivation.derivationTable
-unfolding derivedTest nextTest noSooner noReason noUnit noZero allowedTest reasonTest holdsTest subTest given gap total neighbours add lack
-    less hold wordOf setOf ones onesIn
+unfolding derivedTest nextTest noSooner noReason noUnit noZero allowedTest reasonTest holdsTest subTest given gap total neighbours add
+    lack less hold wordOf setOf ones onesIn setAt
 derivations-right =
     is-derivation
     & (λ xs d. sym (derived-unique is-derivation xs d))

@@ -17,7 +17,7 @@ use Rattle.basics.specs.Lists.{Each}
 use Rattle.rules.specs.Weaving.{TakenFromOne, here, there, Shuffle, none, next}
 use Rattle.rules.specs.Figures.{figure}
 use Rattle.rules.proofs.Shuffles.{weaving-shuffles}
-use Rattle.grid.specs.Rows.{neighbours}
+use Rattle.grid.specs.Rows.{setAt, neighbours}
 use Rattle.list_follow.specs.declared.Wove.the-variants as wove
 use Rattle.demands.proofs.Demand3.{demand-3}
 use Rattle.tables.specs.Starred.{wordWith, drawnCase, seven}
@@ -41,7 +41,7 @@ unfolding add hold wordOf setOf
 wovens-from-right = refl
 
 pub figures-right : figures.FiguresRight
-unfolding figure meet less lack neighbours hold wordOf add setOf ones onesIn
+unfolding figure meet less lack neighbours hold wordOf add setOf ones onesIn setAt
 figures-right = refl
 
 pub stated-right : figures.StatedRight
@@ -59,7 +59,7 @@ runs-right =
 -- ---- weaving
 
 pub weavable-right : AllRight weaving.weavableTable
-unfolding add neighbours hold wordOf setOf
+unfolding add neighbours hold wordOf setOf setAt
 weavable-right =
     ((λ o. record { unit = refl; joined = refl }), ((λ o. refl), tt))
     & ((λ o. refl), ((λ o. absurd (omega arith)), tt))
@@ -123,7 +123,7 @@ shuffles-right =
 
 -- each desk's list is accepted
 accepted : Each (Accepted (sevenGrid (3 ∷ []))) weaving.desks
-unfolding reasonTest allowedTest neighbours add hold wordOf setOf
+unfolding reasonTest allowedTest neighbours add hold wordOf setOf setAt
 accepted = (
   (allowed-passes (sevenGrid (3 ∷ [])) (set []) (near 2 3) refl, (allowed-passes (sevenGrid (3 ∷ [])) (set (2 ∷ [])) (own 3) refl, tt)),
   ((allowed-passes (sevenGrid (3 ∷ [])) (set []) (own 3) refl, tt), tt),
@@ -140,7 +140,7 @@ demand-right =
     & tt
 
 pub calls-right : AllRight weaving.demand3Table
-unfolding neighbours add hold wordOf setOf
+unfolding neighbours add hold wordOf setOf setAt
 calls-right =
     demand-3 .weaves (drawnCase (seven (3 ∷ []))) weaving.desks weaving.sent
     (own 7 ∷ own 8 ∷ own 9 ∷ []) (own 3 ∷ near 2 3 ∷ own 9 ∷ []) (wove.Written 2 (wordWith (2 ∷ 3 ∷ [])))

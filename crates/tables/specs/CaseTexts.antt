@@ -1,18 +1,18 @@
 -- Case texts: what reading one says, the case that it gives, and the text that a case has.
 use mathlib.Core.List.{List, [], _∷_, _++_}
-use Prim.Native.Nat.{ℕ, suc, _-_}
+use Prim.Native.Nat.{ℕ, suc, _-_, _*_}
 use Prim.Native.String.{String}
 use lib.ListN.{replicate}
 use Rattle.text_field.specs.Split.{bytes, lineFeed}
 use Rattle.busset.specs.Held.{emptyWord}
 use Rattle.case_line.specs.Record.{recordText}
 use Rattle.case_line.specs.declared.Record.{Record}
-use Rattle.case_line.specs.declared.Record.the-variants.{Grid, Line, Pmu, End, Wrong}
+use Rattle.case_line.specs.declared.Record.the-variants.{Grid, Line, Circuits, Pmu, End, Wrong}
 use Rattle.grid.specs.declared.Case.{Case}
-use Rattle.grid.specs.Limits.{mostBuses, mostLines, mostBytes}
-use Rattle.grid.specs.Rows.{Rows}
+use Rattle.grid.specs.Limits.{mostBuses, mostLines, mostCircuits, leastSeveral, mostBytes}
+use Rattle.grid.specs.Rows.{Rows, busSets, withLine}
+use Rattle.grid.specs.Cases.{lineAdded}
 use Rattle.refusals.specs.declared.Refusal.the-variants.{TextTooLong, WrongForm, OutOfRange, OutOfOrder}
-use Rattle.case_build.specs.Building.{withLine}
 use Rattle.case_judge.specs.Judging.{judged}
 use Rattle.case_read.specs.Reading.{start, readCase, got}
 use Rattle.case_inverse.specs.Grammar as grammar
@@ -23,7 +23,7 @@ use Rattle.case_read.specs.declared.ReadAnswer.{ReadAnswer}
 use Rattle.case_read.specs.declared.ReadAnswer.the-variants.{Read, Refused}
 use Rattle.case_judge.specs.declared.Judgement.{Judgement}
 use Rattle.case_judge.specs.declared.Judgement.the-variants.{Next, Last, Form, Range, Order}
-use Rattle.tables.specs.Starred.{wordWith, drawnCase, seven, path}
+use Rattle.tables.specs.Starred.{Drawing, wordWith, singles, drawnCase, seven, path}
 use Rattle.tables.specs.Tables.{Right, Reads, Row, holds, fails, block}
 use Rattle.tables.specs.Drawings.{value}
 
@@ -64,7 +64,20 @@ pathInput =
 abbrev pub oneInput : List String
 oneInput = "grid 1" ∷ "bus 1 Z N" ∷ "pmu 1" ∷ "end" ∷ []
 
+-- three buses in a row, the middle one Z, a unit at the first; the second line is a double circuit
+abbrev pub doubleInput : List String
+doubleInput =
+    "grid 3" ∷ "bus 1 I Y" ∷ "bus 2 Z Y" ∷ "bus 3 I Y" ∷ "line 1 2" ∷ "line 2 3 2" ∷ "pmu 1" ∷ "end" ∷ []
+
+-- the same, with single circuits
+abbrev pub row : Drawing
+row = record { n = 3; lines = (1, 2) ∷ (2, 3) ∷ []; zeros = 2 ∷ []; units = 1 ∷ [] }
+
 -- its case
+abbrev pub doubleCase : Case
+doubleCase = lineAdded (drawnCase row) 2 3 2
+
+-- the case of the one bus
 abbrev pub oneCase : Case
 oneCase = value 1 [] (1 ∷ []) [] (1 ∷ [])
 
@@ -75,6 +88,7 @@ caseTable =
     ∷ (block bareInput, got (drawnCase (seven [])))
     ∷ (block pathInput, got (drawnCase path))
     ∷ (block oneInput, got oneCase)
+    ∷ (block doubleInput, got doubleCase)
     -- a refusal has no case beside it
     ∷ (bytes "", record { answer = Refused (WrongForm 1); case = value 0 [] [] [] [] })
     ∷ []
@@ -85,7 +99,12 @@ CasesRight = Right readCase caseTable
 
 -- cases, and the text of each
 abbrev pub caseTextTable : List (Case × List ℕ)
-caseTextTable = (drawnCase (seven (3 ∷ [])), block input) ∷ (drawnCase path, block pathInput) ∷ (oneCase, block oneInput) ∷ []
+caseTextTable =
+    (drawnCase (seven (3 ∷ [])), block input)
+    ∷ (drawnCase path, block pathInput)
+    ∷ (oneCase, block oneInput)
+    ∷ (doubleCase, block doubleInput)
+    ∷ []
 
 -- every row is right
 abbrev pub CaseTextsRight : Type 0
@@ -99,16 +118,21 @@ grammarTable =
     ∷ fails (grammar.ReadsAs start (block ("grid 1" ∷ "pmu 1" ∷ "bus 1 Z N" ∷ "end" ∷ [])) oneCase)
     ∷ []
 
--- a line of three buses, and the rows with it: each end has the other
-abbrev pub wiredTable : List ((ℕ × ℕ) × Rows)
+-- a line of three buses and its circuits, and the rows with it: each end has the other, and counts the circuits in its digits
+abbrev pub wiredTable : List ((ℕ × ℕ × ℕ) × Rows)
 wiredTable =
-    ((1, 3), wordWith (3 ∷ []) ∷ emptyWord ∷ wordWith (1 ∷ []) ∷ [])
-    ∷ ((1, 2), wordWith (2 ∷ []) ∷ wordWith (1 ∷ []) ∷ emptyWord ∷ [])
+    ((1, 3, 1), singles (wordWith (3 ∷ []) ∷ emptyWord ∷ wordWith (1 ∷ []) ∷ []))
+    ∷ ((1, 2, 1), singles (wordWith (2 ∷ []) ∷ wordWith (1 ∷ []) ∷ emptyWord ∷ []))
+    ∷ (
+      (1, 2, 6),
+      wordWith (2 ∷ []) ∷ emptyWord ∷ wordWith (2 ∷ []) ∷ wordWith (2 ∷ []) ∷ emptyWord
+          ∷ wordWith (1 ∷ []) ∷ emptyWord ∷ wordWith (1 ∷ []) ∷ wordWith (1 ∷ []) ∷ emptyWord ∷ replicate busSets emptyWord,
+    )
     ∷ []
 
 -- every row is right
 abbrev pub WiredRight : Type 0
-WiredRight = Right (λ q. withLine (replicate 3 emptyWord) (q .0) (q .1)) wiredTable
+WiredRight = Right (λ q. withLine (replicate (busSets * 3) emptyWord) (q .0) (q .1) (q .2)) wiredTable
 
 -- ---- refusals
 
@@ -156,11 +180,14 @@ abbrev pub laterLineTable : List (String × ReadAnswer)
 laterLineTable =
     ("end\n", Read)
     ∷ ("line\t1\t2\nend\n", Read)
+    ∷ ("line\t1\t2\t2\nend\n", Read)
+    ∷ ("line\t1\t2\t8\nend\n", Read)
     ∷ ("pmu\t3\nend\n", Read)
     -- a missing record or line feed
     ∷ ("", Refused (WrongForm 9))
     ∷ ("end", Refused (WrongForm 9))
     ∷ ("line\t9\t1", Refused (WrongForm 9))
+    ∷ ("line\t9\t1\t02\n", Refused (WrongForm 9))
     ∷ ("line\t1\t2\n", Refused (WrongForm 10))
     -- another record than may stand there
     ∷ ("bus\t8\tI\tY\n", Refused (WrongForm 9))
@@ -174,12 +201,18 @@ laterLineTable =
     ∷ ("line\t9\t1\n", Refused (OutOfRange 9))
     ∷ ("line\t0\t1\n", Refused (OutOfRange 9))
     ∷ ("line\t1\t8\n", Refused (OutOfRange 9))
+    ∷ ("line\t1\t2\t0\n", Refused (OutOfRange 9))
+    ∷ ("line\t1\t2\t1\n", Refused (OutOfRange 9))
+    ∷ ("line\t1\t2\t9\n", Refused (OutOfRange 9))
+    ∷ ("line\t2\t1\t9\n", Refused (OutOfRange 9))
     ∷ ("pmu\t8\n", Refused (OutOfRange 9))
     ∷ ("pmu\t0\n", Refused (OutOfRange 9))
     -- rising is strict, by a and then b
     ∷ ("line\t5\t3\n", Refused (OutOfOrder 9))
     ∷ ("line\t3\t3\n", Refused (OutOfOrder 9))
     ∷ ("line\t1\t2\nline\t1\t2\n", Refused (OutOfOrder 10))
+    ∷ ("line\t1\t2\nline\t1\t2\t2\n", Refused (OutOfOrder 10))
+    ∷ ("line\t2\t1\t2\n", Refused (OutOfOrder 9))
     ∷ ("line\t1\t7\nline\t1\t2\n", Refused (OutOfOrder 10))
     ∷ ("line\t2\t3\nline\t1\t7\n", Refused (OutOfOrder 10))
     ∷ ("line\t1\t7\nline\t2\t3\nend\n", Read)
@@ -211,6 +244,10 @@ judgementTable =
     ((mostLines - 1, Line 6 7), Next)
     ∷ ((mostLines, Line 6 7), Range)
     ∷ ((mostLines, Line 7 6), Range)
+    -- whatever its circuits
+    ∷ ((mostLines - 1, Circuits 6 7 mostCircuits), Next)
+    ∷ ((mostLines - 1, Circuits 6 7 (suc mostCircuits)), Range)
+    ∷ ((mostLines, Circuits 6 7 leastSeveral), Range)
     ∷ ((mostLines - 1, Line 7 6), Order)
     ∷ ((mostLines, Wrong), Form)
     ∷ ((mostLines, Grid mostBuses), Form)

@@ -6,6 +6,7 @@ use Rattle.step.specs.declared.Reason.the-variants.{OwnUnit, NeighbourOf, ZeroI
 use Rattle.step.specs.declared.Step.{Step}
 use Rattle.rules.specs.Grids.{Grid}
 use Rattle.grid.specs.declared.Case.{Case}
+use Rattle.grid.specs.Rows.{withCircuits}
 use Rattle.grid.specs.Cases.{gridOf}
 use Rattle.tables.specs.Starred.{Drawing, wordWith, filled, drawnCase, seven, path}
 
@@ -25,7 +26,7 @@ near b p = record { bus = b; reason = NeighbourOf p }
 abbrev pub zeroAt : ℕ → ℕ → Step
 zeroAt b w = record { bus = b; reason = ZeroInjection w }
 
--- a case value: n, the neighbours of each bus in bus order, the Z buses, the Y sites and the units; with no row but these
+-- n, the neighbours of each bus in bus order, the Z buses, the Y sites and the units: a case value, but for its rows
 abbrev pub shortValue : ℕ → List (List ℕ) → List ℕ → List ℕ → List ℕ → Case
 shortValue n rows zeros sites units = record {
   n = n;
@@ -35,9 +36,13 @@ shortValue n rows zeros sites units = record {
   units = wordWith units;
 }
 
--- the same, with a row for each bus
+-- the case value
 abbrev pub value : ℕ → List (List ℕ) → List ℕ → List ℕ → List ℕ → Case
 value n rows zeros sites units = filled (shortValue n rows zeros sites units)
+
+-- the case value, where bus a counts k circuits to bus b
+abbrev pub counts : Case → ℕ → ℕ → ℕ → Case
+counts c a b k = record { n = c .n; nbr = withCircuits (c .nbr) a b k; zero = c .zero; site = c .site; units = c .units }
 
 -- the grid that a drawing says
 abbrev pub drawnGrid : Drawing → Grid

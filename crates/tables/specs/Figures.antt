@@ -5,13 +5,12 @@ use Prim.Native.Nat.{ℕ, suc, _-_}
 use lib.IntN.{ℤ, pos, negsuc}
 use lib.ListN.{replicate}
 use Rattle.busset.specs.Sets.{less}
-use Rattle.busset.specs.Held.{emptyWord, wordOf}
+use Rattle.busset.specs.Held.{SetWord, emptyWord, wordOf}
 use Rattle.rules.specs.Figures.{figure, Runs}
 use Rattle.grid.specs.declared.Case.{Case}
 use Rattle.grid.specs.Limits.{mostBuses}
-use Rattle.grid.specs.Rows.{Rows}
 use Rattle.grid.specs.Cases.{gridOf, Valid}
-use Rattle.tables.specs.Starred.{wordWith, busesTo, drawnCase, seven}
+use Rattle.tables.specs.Starred.{wordWith, busesTo, filled, drawnCase, seven}
 use Rattle.observe_calls.specs.Replies.{stated}
 use Rattle.tables.specs.Tables.{Right, Row, holds, fails}
 use Rattle.tables.specs.Drawings.{set, sevenGrid}
@@ -40,19 +39,17 @@ figureTable =
 abbrev pub FiguresRight : Type 0
 FiguresRight = Right (λ q. figure (sevenGrid [] .neighbours) (set (q .0)) (q .1) (q .2)) figureTable
 
--- the rows of m buses and one more, of which 1 is joined to every other
-abbrev pub starRows : ℕ → Rows
+-- the neighbours of m buses and one more, of which 1 is joined to every other
+abbrev pub starRows : ℕ → List SetWord
 starRows m = wordOf (less (set (busesTo (suc m))) 1) ∷ replicate m (wordWith (1 ∷ []))
 
--- the most buses, so joined
+-- the most buses, so joined: a case value, but for its rows
+abbrev pub shortStar : Case
+shortStar = record { n = mostBuses; nbr = starRows (mostBuses - 1); zero = emptyWord; site = emptyWord; units = emptyWord }
+
+-- the case value
 abbrev pub star : Case
-star = record {
-  n = mostBuses;
-  nbr = starRows (mostBuses - 1);
-  zero = emptyWord;
-  site = emptyWord;
-  units = emptyWord;
-}
+star = filled shortStar
 
 -- its figures of 1 towards 2 where no bus is observed, and where all are: the lowest and the highest that there are
 abbrev pub figureEndTable : List Row

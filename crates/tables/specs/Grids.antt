@@ -3,20 +3,20 @@ use mathlib.Core.List.{List, [], _∷_, _++_}
 use Prim.Native.Nat.{ℕ, zero, suc}
 use lib.Dec.{leb}
 use Rattle.busset.specs.Sets.{width, less}
-use Rattle.busset.specs.Held.{emptyWord, wordOf, holdIf}
+use Rattle.busset.specs.Held.{SetWord, emptyWord, wordOf, holdIf}
 use Rattle.busset.specs.Bytes.{setLength}
 use Rattle.rules.specs.Grids.{Line, Proper, total, lineCount}
 use Rattle.grid.specs.declared.Case.{Case}
-use Rattle.grid.specs.Limits.{mostBuses, mostLines, mostSteps, largestBudget, mostBudget, mostGreedyBudget}
+use Rattle.grid.specs.Limits.{mostBuses, mostLines, mostCircuits, leastSeveral, mostSteps, largestBudget, mostBudget, mostGreedyBudget}
 use Rattle.grid.specs.Limits.{mostBytes, mostStepBytes}
-use Rattle.grid.specs.Rows.{Rows, neighbours}
-use Rattle.grid.specs.Cases.{gridOf, LinesAt, Lines, Valid}
+use Rattle.grid.specs.Rows.{neighbours, circuits}
+use Rattle.grid.specs.Cases.{gridOf, lineAdded, LinesAt, Lines, Valid}
 use Rattle.plan_input.specs.Asking.{defaultBudget}
 use Rattle.tables.specs.Starred.{wordWith, busesTo, filled, drawnCase, seven, path}
 use Rattle.tables.specs.Tables.{Right, Row, holds, fails}
-use Rattle.tables.specs.Drawings.{set, value, sevenGrid, drawnGrid}
+use Rattle.tables.specs.Drawings.{set, value, counts, sevenGrid, drawnGrid}
 
--- ---- document 01's numbers
+-- ---- the numbers of documents 01 and 02
 
 -- each limit, how many bytes a set has, and the budget of `plan` alone, with its number: no other line of the tables says one
 abbrev pub limitTable : List (ℕ × ℕ)
@@ -24,6 +24,8 @@ limitTable =
     (mostBuses, 64)
     ∷ (width, 64)
     ∷ (mostLines, 256)
+    ∷ (mostCircuits, 8)
+    ∷ (leastSeveral, 2)
     ∷ (mostSteps, 1024)
     ∷ (mostBytes, 8192)
     ∷ (mostStepBytes, 16384)
@@ -128,6 +130,33 @@ lineTable =
     ∷ fails (Lines 2 (neighboursIn far))
     ∷ []
 
+-- ---- the circuits that a case value counts
+
+-- two buses, joined, each of which counts so many circuits to the other
+abbrev pub counting : ℕ → ℕ → Case
+counting j k = counts (counts (value 2 pair [] [] []) 1 2 j) 2 1 k
+
+-- what bus a counts to bus b: in the seven-bus grid 1 to each neighbour, and what is put
+abbrev pub circuitTable : List (ℕ × ℕ)
+circuitTable =
+    (circuits (drawnCase (seven []) .nbr) 3 4, 1)
+    ∷ (circuits (drawnCase (seven []) .nbr) 3 5, 0)
+    ∷ (circuits (drawnCase (seven []) .nbr) 3 3, 0)
+    ∷ (circuits (drawnCase (seven []) .nbr) 0 1, 0)
+    ∷ (circuits (counting 3 8 .nbr) 1 2, 3)
+    ∷ (circuits (counting 3 8 .nbr) 2 1, 8)
+    ∷ (circuits (counting 15 0 .nbr) 1 2, 15)
+    ∷ (circuits (counting 15 0 .nbr) 2 1, 0)
+    -- the count of a line that is put anew is the new one, and its buses are joined once
+    ∷ (circuits (lineAdded (counting 3 8) 1 2 4 .nbr) 1 2, 4)
+    ∷ (circuits (lineAdded (counting 3 8) 1 2 4 .nbr) 2 1, 4)
+    ∷ (neighbours (lineAdded (counting 3 8) 1 2 4 .nbr) 1, set (2 ∷ []))
+    ∷ []
+
+-- every row is right
+abbrev pub CircuitsRight : Type 0
+CircuitsRight = Right (λ k. k) circuitTable
+
 -- ---- which case values are valid
 
 -- what 5 does not refuse, and for each clause of it a value that it refuses
@@ -153,14 +182,23 @@ validTable =
     ∷ fails (Valid (value 2 pair [] [] (3 ∷ [])))
     ∷ fails (Valid (value 2 pair (3 ∷ []) [] []))
     ∷ fails (Valid (value 2 pair [] (3 ∷ []) []))
+    -- a joined pair counted 0, or above the most
+    ∷ fails (Valid (counting 0 0))
+    ∷ fails (Valid (counting 9 9))
+    -- another pair counted: not joined, a bus with itself, a bus above n
+    ∷ fails (Valid (counts (counts (value 3 pair [] [] []) 1 3 1) 3 1 1))
+    ∷ fails (Valid (counts (value 2 pair [] [] []) 1 1 1))
+    ∷ fails (Valid (counts (value 2 pair [] [] []) 3 4 1))
+    -- the two ends unlike
+    ∷ fails (Valid (counting 2 1))
     ∷ []
 
--- the rows of m buses from b on: each is joined to all of 1 to 23 but itself, and to bus 24 where it is one of the first k
-abbrev pub crowdRows : ℕ → ℕ → ℕ → Rows
+-- the neighbours of m buses from b on: each is joined to all of 1 to 23 but itself, and to bus 24 where it is one of the first k
+abbrev pub crowdRows : ℕ → ℕ → ℕ → List SetWord
 crowdRows k b zero = []
 crowdRows k b (suc m) = holdIf (leb b k) (wordOf (less (set (busesTo 23)) b)) 24 ∷ crowdRows k (suc b) m
 
--- 24 buses, 1 to 23 all joined to one another by 253 lines, and bus 24 to the first k; with no row but theirs
+-- 24 buses, 1 to 23 all joined to one another by 253 lines, and bus 24 to the first k; the neighbours alone for rows
 abbrev pub shortCrowd : ℕ → Case
 shortCrowd k = record {
   n = 24;
@@ -170,7 +208,7 @@ shortCrowd k = record {
   units = emptyWord;
 }
 
--- the same, with a row for each bus
+-- the case value
 abbrev pub crowd : ℕ → Case
 crowd k = filled (shortCrowd k)
 

@@ -6,7 +6,7 @@ use Rattle.case_line.specs.Fields.{classOf, siteOf}
 use Rattle.case_line.specs.Record.{recordOf, recordText, Formed}
 use Rattle.step_line.specs.StepLine.{stepLineOf, stepText}
 use Rattle.case_line.specs.declared.Record.{Record}
-use Rattle.case_line.specs.declared.Record.the-variants.{Grid, Bus, Line, Pmu, End, Wrong}
+use Rattle.case_line.specs.declared.Record.the-variants.{Grid, Bus, Line, Circuits, Pmu, End, Wrong}
 use Rattle.case_line.specs.declared.Mark.{Mark}
 use Rattle.case_line.specs.declared.Mark.the-variants.{Is, Neither}
 use Rattle.step_line.specs.declared.StepLine.{StepLine}
@@ -44,6 +44,9 @@ recordTable =
     ∷ ("bus\t2\tZ\tN", Bus 2 true false)
     ∷ ("line\t1\t2", Line 1 2)
     ∷ ("line\t9\t1", Line 9 1)
+    ∷ ("line\t1\t2\t3", Circuits 1 2 3)
+    ∷ ("line\t2\t1\t9", Circuits 2 1 9)
+    ∷ ("line\t1\t2\t0", Circuits 1 2 0)
     ∷ ("pmu\t3", Pmu 3)
     ∷ ("pmu\t9999", Pmu 9999)
     ∷ ("end", End)
@@ -59,7 +62,7 @@ recordTable =
     ∷ ("bus\t1\tI", Wrong)
     ∷ ("bus\t1\tI\tY\tY", Wrong)
     ∷ ("line\t1", Wrong)
-    ∷ ("line\t1\t2\t3", Wrong)
+    ∷ ("line\t1\t2\t3\t4", Wrong)
     ∷ ("pmu", Wrong)
     ∷ ("pmu\t3\t4", Wrong)
     ∷ ("end\tend", Wrong)
@@ -68,6 +71,8 @@ recordTable =
     ∷ ("grid\t7\t", Wrong)
     ∷ ("\tgrid\t7", Wrong)
     ∷ ("end\t", Wrong)
+    ∷ ("line\t1\t2\t", Wrong)
+    ∷ ("line\t1\t2\t3\t", Wrong)
     -- class, site, the form of a number
     ∷ ("bus\t9\tQ\tY", Wrong)
     ∷ ("bus\t1\ti\tY", Wrong)
@@ -75,6 +80,7 @@ recordTable =
     ∷ ("bus\t1\tI\tZ", Wrong)
     ∷ ("bus\t01\tI\tY", Wrong)
     ∷ ("line\t1\t02", Wrong)
+    ∷ ("line\t1\t2\t02", Wrong)
     ∷ ("pmu\t10000", Wrong)
     -- carriage return is a byte like any other
     ∷ ("grid\t7\r", Wrong)
@@ -92,6 +98,7 @@ recordTextTable =
     ∷ (Bus 1 false true, "bus\t1\tI\tY")
     ∷ (Bus 42 true false, "bus\t42\tZ\tN")
     ∷ (Line 5 6, "line\t5\t6")
+    ∷ (Circuits 5 6 8, "line\t5\t6\t8")
     ∷ (Pmu 3, "pmu\t3")
     ∷ (End, "end")
     ∷ []
@@ -109,6 +116,8 @@ formedTable =
     ∷ fails (Formed (Bus 10000 true true))
     ∷ holds (Formed (Line 0 9999))
     ∷ fails (Formed (Line 1 10000))
+    ∷ holds (Formed (Circuits 1 2 9999))
+    ∷ fails (Formed (Circuits 1 2 10000))
     ∷ holds (Formed (Pmu 0))
     ∷ holds (Formed End)
     ∷ fails (Formed Wrong)

@@ -1,6 +1,6 @@
 -- The starred grids of document 01, as one table under one statement: each row asks a public call, and has the reply that it promises.
 use mathlib.Core.List.{List, [], _∷_, _++_}
-use Prim.Native.Nat.{ℕ, zero, suc, _-_, _≤_}
+use Prim.Native.Nat.{ℕ, zero, suc, _-_, _*_, _≤_}
 use lib.Dec.{eqb}
 use lib.IntN.{ℤ, pos, negsuc}
 use lib.ListN.{length, drop, replicate}
@@ -9,7 +9,7 @@ use Rattle.step.specs.declared.Reason.the-variants.{ZeroInjection}
 use Rattle.step.specs.declared.Step.{Step}
 use Rattle.grid.specs.declared.Case.{Case}
 use Rattle.grid.specs.Limits.{mostBuses}
-use Rattle.grid.specs.Rows.{Rows}
+use Rattle.grid.specs.Rows.{Rows, busSets}
 use Rattle.refusals.specs.declared.Refusal.the-variants.{ReasonFails, NoCover}
 use Rattle.list_follow.specs.Replies.{ReplayReply}
 use Rattle.list_follow.specs.declared.Replayed.the-variants as replayed
@@ -45,12 +45,17 @@ abbrev pub rowOf : ℕ → List (ℕ × ℕ) → SetWord
 rowOf b [] = emptyWord
 rowOf b (l ∷ ls) = holdIf (eqb (l .0) b) (holdIf (eqb (l .1) b) (rowOf b ls) (l .0)) (l .1)
 
--- the rows of k buses, from bus b on
-abbrev pub rowsFrom : ℕ → ℕ → List (ℕ × ℕ) → Rows
+-- the neighbours of k buses, from bus b on
+abbrev pub rowsFrom : ℕ → ℕ → List (ℕ × ℕ) → List SetWord
 rowsFrom b zero ls = []
 rowsFrom b (suc k) ls = rowOf b ls ∷ rowsFrom (suc b) k ls
 
--- the case value of a drawing, with no row but those of its n buses
+-- the rows of buses with these neighbours, each by one circuit
+abbrev pub singles : List SetWord → Rows
+singles [] = []
+singles (w ∷ ws) = w ∷ w ∷ emptyWord ∷ emptyWord ∷ emptyWord ∷ singles ws
+
+-- a drawing as a case value, but for its rows: the neighbours of its n buses alone
 abbrev pub shortCase : Drawing → Case
 shortCase d = record {
   n = d .n;
@@ -60,11 +65,11 @@ shortCase d = record {
   units = wordWith (d .units);
 }
 
--- a case value with a row for each bus: after those that it has, rows with no neighbour
+-- the case value with these neighbours, each by one circuit, and after them buses with none
 abbrev pub filled : Case → Case
 filled c = record {
   n = c .n;
-  nbr = c .nbr ++ replicate (mostBuses - length (c .nbr)) emptyWord;
+  nbr = singles (c .nbr) ++ replicate (busSets * (mostBuses - length (c .nbr))) emptyWord;
   zero = c .zero;
   site = c .site;
   units = c .units;
