@@ -34,7 +34,7 @@ use denote.Triple.Statement.{Contract, Triple}
 use Rattle.step.specs.declared.Step.{Step as StepRecord}
 use Rattle.step.proofs.Step as T
 use Rattle.step.proofs.Calling.{calls-lent}
-use Rattle.grid.specs.Limits.{mostBuses}
+use Rattle.grid.specs.Rows.{rowsLength}
 use Rattle.grid.specs.Cases.{caseOf}
 use Rattle.grid.specs.declared.Case.{Case}
 use Rattle.grid.proofs.Case as D
@@ -73,7 +73,7 @@ module _ (cs : Case) (gcs : Is D.the-row cs (LL.vals D.the-type D′.the-laws cs
       × (Is u64 (cs .site) (vint w64 (cs .site) ∷ []) × (Is u64 (cs .units) (vint w64 (cs .units) ∷ []) × Unit {0}))))
   case-facts = LL.owed D.the-type D′.the-laws cs _ gcs
 
-  pub rows-sized : length (rowsIn cs) ≡ mostBuses
+  pub rows-sized : length (rowsIn cs) ≡ rowsLength
   rows-sized = case-facts .1 .0 .1 .0 .1
 
 module _ {M : Type 1} (𝓤 : URA M) (H : Heap 𝓤) (A : Atoms 𝓤) where
@@ -88,10 +88,10 @@ module _ {M : Type 1} (𝓤 : URA M) (H : Heap 𝓤) (A : Atoms 𝓤) where
 
   module _ (W : Given 𝓤 H A) where
     pub rows-made : Makes 𝓤 H A RowArray (Is RowArray)
-    rows-made = array-makes 𝓤 H A W u64 (uint-makes 𝓤 H A W w64) mostBuses
+    rows-made = array-makes 𝓤 H A W u64 (uint-makes 𝓤 H A W w64) rowsLength
 
 pub rows-tell : Tells RowArray (Is RowArray) (λ rows. rows-val rows ∷ [])
-rows-tell = array-tells u64 (uint-vals w64) (uint-tells w64) mostBuses
+rows-tell = array-tells u64 (uint-vals w64) (uint-tells w64) rowsLength
 
 module _ {M : Type 1} {𝓤 : URA M} {H : Heap 𝓤} {A : Atoms 𝓤} {K : Type 0} {W : Given 𝓤 H A} where
   pub rows-part : K → (cs : Case) (l : ℕ) → Part K W (cell 𝓤 H A cs l) fullShare (lone (RowArray .mir)) l rowsAt (rows-val (rowsIn cs))
@@ -159,7 +159,7 @@ module _ {M : Type 1} {𝓤 : URA M} {H : Heap 𝓤} {A : Atoms 𝓤} {K : Type 
       owned t u64 (Is u64) (uint-makes 𝓤 H A W w64) (cs .zero) _ (facts .1 .1 .0) $ fjoin t $ move t (2 ∷ 0 ∷ []) $ fjoin t $
       owned t usize (Is usize) (uint-makes 𝓤 H A W w64) (cs .n) _ (facts .0) $ fjoin t $ move t (1 ∷ 0 ∷ []) $
       calls-lent t fm follow.ended (follow.clauses 𝓤 H A mem run) known (follow-at 𝓤 H A mem run α γ l κ q cs k x .0) tt
-      (factI 𝓤 (length (rowsIn cs) ≡ mostBuses) (emp 𝓤) (rows-sized cs gcs))
+      (factI 𝓤 (length (rowsIn cs) ≡ rowsLength) (emp 𝓤) (rows-sized cs gcs))
       (λ st ws. StandsAfter (caseOf (cs .n) (rowsIn cs) (cs .zero) (cs .site) (cs .units)) k (length (x .now)) (x .now) st)
       (λ st ws. id⊢ 𝓤 _) (os α γ)
       (λ v st ws is e.

@@ -12,7 +12,7 @@ use denote.Enum.Laws as EL
 use denote.Array.{Array}
 use denote.Builtin.{u64}
 use denote.RattleType.{RattleType}
-use Rattle.grid.specs.Limits.{mostBuses}
+use Rattle.grid.specs.Rows.{rowsLength}
 use Rattle.grid.specs.declared.Case.{Case}
 use Rattle.list_follow.specs.declared.Following.{Following}
 use Rattle.list_follow.specs.declared.Task.{Task}
@@ -32,7 +32,7 @@ use Rattle.list_follow.proofs.Replayed.Laws as replayed′
 
 -- the neighbours of all buses, as their type is lent
 abbrev pub RowArray : RattleType
-RowArray = Array u64 mostBuses
+RowArray = Array u64 rowsLength
 
 -- a task's fact
 pub task-is : (k : Task) → Is task.the-row k (EL.vals task.the-type task′.the-laws k)

@@ -1,7 +1,7 @@
 // The calls on lists of steps: the derivation; replay and weaving over lent records.
 ghost use mathlib.Core.Path.{_≡_};
 ghost use lib.ListN.{length};
-ghost use Rattle.grid.specs.Limits.{mostBuses};
+ghost use Rattle.grid.specs.Rows.{rowsLength};
 ghost use Rattle.grid.specs.Cases.{caseOf};
 ghost use Rattle.list_follow.specs.Following.{StandsAfter};
 ghost use Rattle.list_follow.specs.Replies.{ReplayReply, WeaveReply, CanPut, putWoven};
@@ -32,7 +32,7 @@ pub fn follow(
     task: Task,
     steps: &[Step],
 ) -> Following
-    requires { ⌜ length (now nbr) ≡ mostBuses ⌝ }
+    requires { ⌜ length (now nbr) ≡ rowsLength ⌝ }
     ensures { λ r. ⌜ StandsAfter (caseOf n (now (nbr .entry)) zero site units) task (length (now (steps .entry)))
         (now (steps .entry)) r ⌝ }
 {

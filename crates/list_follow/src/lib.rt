@@ -3,7 +3,8 @@ ghost use mathlib.Core.Path.{_≡_};
 ghost use mathlib.Core.List.{[], _∷_};
 ghost use Prim.Native.Nat.{ℕ, suc, _<_};
 ghost use lib.ListN.{length};
-ghost use Rattle.grid.specs.Limits.{mostBuses, mostSteps};
+ghost use Rattle.grid.specs.Limits.{mostSteps};
+ghost use Rattle.grid.specs.Rows.{rowsLength};
 ghost use Rattle.basics.specs.Deciding.{Decides};
 ghost use Rattle.busset.specs.Sets.{setOf};
 ghost use Rattle.rules.specs.Steps.{Finished};
@@ -60,7 +61,7 @@ fn opening(
     units: BusSet,
     count: usize,
 ) -> Standing
-    requires { ⌜ length (now nbr) ≡ mostBuses ⌝ }
+    requires { ⌜ length (now nbr) ≡ rowsLength ⌝ }
     ensures { λ r. ⌜ StandingBy (beginChecks (caseOf n (now (nbr .entry)) zero site units) count) r ⌝ }
 {
     if !grid::validity::is_valid(n, nbr, zero, site, units) {
@@ -82,7 +83,7 @@ pub fn begin(
     task: Task,
     count: usize,
 ) -> Following
-    requires { ⌜ length (now nbr) ≡ mostBuses ⌝ }
+    requires { ⌜ length (now nbr) ≡ rowsLength ⌝ }
     ensures { λ r. ⌜ StandsAfter (caseOf n (now (nbr .entry)) zero site units) task count [] r ⌝ }
 {
     let standing = opening(n, nbr, zero, site, units, count);

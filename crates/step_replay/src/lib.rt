@@ -1,7 +1,7 @@
 // A step text replayed straight from the text: no list is stored.
 ghost use mathlib.Core.Path.{_≡_};
 ghost use lib.ListN.{length};
-ghost use Rattle.grid.specs.Limits.{mostBuses};
+ghost use Rattle.grid.specs.Rows.{rowsLength};
 ghost use Rattle.grid.specs.Cases.{caseOf};
 ghost use Rattle.step_text.specs.Steps.{stepsOf};
 ghost use Rattle.list_follow.specs.Following.{StandsAfter};
@@ -40,7 +40,7 @@ fn follow_text(
     text: &[u8],
     count: usize,
 ) -> Following
-    requires { ⌜ (length (now nbr) ≡ mostBuses) × (length (stepsOf (now text)) ≡ count) ⌝ }
+    requires { ⌜ (length (now nbr) ≡ rowsLength) × (length (stepsOf (now text)) ≡ count) ⌝ }
     ensures { λ r. ⌜ StandsAfter (caseOf n (now (nbr .entry)) zero site units) Replay count
         (stepsOf (now (text .entry))) r ⌝ }
 {

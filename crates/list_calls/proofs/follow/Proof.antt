@@ -54,7 +54,7 @@ use Rattle.step.proofs.StepRow.{step-made, step-typed}
 use Rattle.step.proofs.Calling.{calls-lent}
 use Rattle.step.proofs.Counting.{next-fits, next-le, nearer, Nearer, nearer-wf, below, above}
 use Rattle.step.proofs.Walking.{let-go}
-use Rattle.grid.specs.Limits.{mostBuses}
+use Rattle.grid.specs.Rows.{rowsLength}
 use Rattle.grid.specs.Cases.{caseOf}
 use Rattle.grid.specs.declared.Case.{Case}
 use Rattle.list_follow.specs.Following.{StandsAfter, Follows}
@@ -105,7 +105,7 @@ module _ {M : Type 1} (𝓤 : URA M) (H : Heap 𝓤) (A : Atoms 𝓤) (W : Given
     (q₁ q : Share) (buses : ℕ) (gbuses : buses < 2 ^ 64) (b₁ o₁ : ℕ) (γ₁ : GName) (rows : List ℕ) (zero : ℕ) (gzero : zero < 2 ^ 64)
     (site : ℕ) (gsite : site < 2 ^ 64) (units : ℕ) (gunits : units < 2 ^ 64) (k : Task)
     (gk : Is K.the-row k (EL.vals K.the-type K′.the-laws k)) (b o : ℕ) (γ : GName)
-    (ys : List Step) (gn : Room T.the-row (length ys)) (sized : length rows ≡ mostBuses) where
+    (ys : List Step) (gn : Room T.the-row (length ys)) (sized : length rows ≡ rowsLength) where
   abbrev n : ℕ
   n = length ys
 
@@ -405,7 +405,7 @@ module _ {M : Type 1} (𝓤 : URA M) (H : Heap 𝓤) (A : Atoms 𝓤) (W : Given
             ),
           ),
         ) tt
-        (factI 𝓤 (length rows ≡ mostBuses) (emp 𝓤) sized)
+        (factI 𝓤 (length rows ≡ rowsLength) (emp 𝓤) sized)
         (λ s ws. StandsAfter cs k n [] s) (λ s ws. id⊢ 𝓤 _)
         (and-then ! (load ! (from ! (stop !)) (look ! 30 refl)) (and-then ! (load ! (from ! (stop !)) (look ! 28 refl))
         (and-then ! (load ! (from ! (stop !)) (look ! 26 refl)) (and-then ! (load ! (from ! (stop !)) (look ! 24 refl))
@@ -448,7 +448,7 @@ module _ {M : Type 1} (𝓤 : URA M) (H : Heap 𝓤) (A : Atoms 𝓤) (W : Given
           ),
         ),
       ))
-      (λ κs a. length (a .1 .0 .now) ≡ mostBuses) (λ κs a g. id⊢ 𝓤 _)
+      (λ κs a. length (a .1 .0 .now) ≡ rowsLength) (λ κs a g. id⊢ 𝓤 _)
       (λ κs qs bounds a g sized are. let x = a .1 .1 .1 .1 .1 .1 .0 in
       walk 𝓤 H A W mem run (κs .0) (κs .1 .0) (qs .0) (qs .1 .0) (a .0) (are .0 .1) (a .1 .0 .ptr .0) (a .1 .0 .ptr .1) (a .1 .0 .name)
       (a .1 .0 .now) (a .1 .1 .0) (are .1 .1 .0 .1) (a .1 .1 .1 .0) (are .1 .1 .1 .0 .1) (a .1 .1 .1 .1 .0) (are .1 .1 .1 .1 .0 .1)
