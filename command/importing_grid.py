@@ -1,7 +1,7 @@
 """The grid that a foreign file says, and the case text of it."""
 import re
 
-from command.limits import MOST_BUSES, MOST_LINES
+from command.limits import LEAST_SEVERAL, MOST_BUSES, MOST_CIRCUITS, MOST_LINES
 from command.speaking import counted, quoted
 
 FIGURE = re.compile(r"[+-]?([0-9]+\.?[0-9]*|\.[0-9]+)([eEdD][+-]?[0-9]+)?|[+-]?inf|[+-]?nan", re.IGNORECASE)
@@ -56,8 +56,8 @@ class Grid:
     def __init__(self):
         self.buses = []
         self.left_out = 0
-        # The one count of branches: {(a, b): how many}, with a below b, by the new numbers. A case text has one line
-        # for each pair, so that parallel branches are one line.
+        # The one count of branches in service: {(a, b): how many}, with a below b, by the new numbers. Each pair is
+        # one line of the case text, and parallel branches are its circuits.
         self.circuits = {}
         self._new = {}
 
@@ -87,9 +87,9 @@ class Grid:
         pair = min(ends), max(ends)
         self.circuits[pair] = self.circuits.get(pair, 0) + 1
 
-    def joined(self):
-        """How many branches are parallel to one that is counted before them."""
-        return sum(self.circuits.values()) - len(self.circuits)
+    def all_circuits(self):
+        """How many circuits all lines have together."""
+        return sum(self.circuits.values())
 
 
 def check_size(grid):
@@ -97,6 +97,11 @@ def check_size(grid):
         raise TooLarge("it has {:,} buses, and a case has at most {}".format(len(grid.buses), MOST_BUSES))
     if len(grid.circuits) > MOST_LINES:
         raise TooLarge("it has {:,} lines, and a case has at most {}".format(len(grid.circuits), MOST_LINES))
+    for pair, count in sorted(grid.circuits.items()):
+        if count > MOST_CIRCUITS:
+            first, second = (grid.buses[new - 1].number for new in pair)
+            raise TooLarge("{:,} branches in service join buses {} and {}, and a line has at most {} circuits".format(
+                count, first, second, MOST_CIRCUITS))
 
 
 def case_text(grid):
@@ -104,8 +109,13 @@ def case_text(grid):
     records = ["grid\t%d" % len(grid.buses)]
     for new, bus in enumerate(grid.buses, 1):
         records.append("bus\t%d\t%s\tY" % (new, "Z" if bus.is_zero else "I"))
-    records += ["line\t%d\t%d" % pair for pair in sorted(grid.circuits)]
+    records += [line_record(pair, count) for pair, count in sorted(grid.circuits.items())]
     return "\n".join(records + ["end", ""])
+
+
+def line_record(pair, count):
+    """The record of a line: its two buses, and the number of its circuits if they are several."""
+    return "\t".join(map(str, ("line", *pair, count) if count >= LEAST_SEVERAL else ("line", *pair)))
 
 
 def names_table(grid):
@@ -117,8 +127,8 @@ def names_table(grid):
 def summary(grid):
     """What was read, in words."""
     words = [counted(len(grid.buses), "bus", "buses"), counted(len(grid.circuits), "line")]
-    if grid.joined():
-        words.append(counted(grid.joined(), "parallel branch", "parallel branches") + " joined")
+    if grid.all_circuits() > len(grid.circuits):
+        words[-1] += " with " + counted(grid.all_circuits(), "circuit")
     if grid.left_out:
         words.append(counted(grid.left_out, "branch", "branches") + " out of service left out")
     return ", ".join(words)
