@@ -138,12 +138,13 @@ def of_range(case, word, numbers):
     """Refusal 3."""
     if word == b"grid":
         return "n is to be 1 to %d, and it is %d" % (MOST_BUSES, numbers[0])
-    for number in numbers:
+    buses, circuits = numbers[:2], numbers[2:]
+    for number in buses:
         if not 1 <= number <= case.n:
             return "a bus number is to be 1 to %d, as 'grid' says, and here is %d" % (case.n, number)
     if word == b"line" and len(case.lines) == MOST_LINES:
         return "this is the %dth line, and a grid has at most %d" % (MOST_LINES + 1, MOST_LINES)
-    return None
+    return records.wrong_circuits(*circuits) if circuits else None
 
 
 def of_order(case, word, numbers):
@@ -168,14 +169,16 @@ def of_next_bus(case, number, later):
     return missing_bus(case) + " before this bus %d" % number
 
 
-def of_lines(case, a, b):
+def of_lines(case, a, b, *circuits):
     """Refusal 4 at a line."""
     if a == b:
         return "a line joins two different buses, and this one joins bus %d to itself" % a
     if (min(a, b), max(a, b)) in case.lines:
-        return "the line of buses %d and %d is here again" % (min(a, b), max(a, b))
+        return "the line of buses %d and %d is here again: several circuits are one line, which says their number" % (
+            min(a, b), max(a, b))
     if a > b:
-        return Mendable("the lower bus of a line comes first: 'line %d %d' is wanted" % (b, a))
+        wanted = " ".join(map(str, (b, a) + circuits))
+        return Mendable("the lower bus of a line comes first: 'line %s' is wanted" % wanted)
     if case.lines and (a, b) < case.lines[-1]:
         return Mendable("the line %d %d comes after %d %d: lines rise by a, and then by b" % ((a, b) + case.lines[-1]))
     return None

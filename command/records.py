@@ -1,6 +1,7 @@
 """The records of a case text: their fields, and what is wrong with the form of a line."""
 import re
 
+from command.limits import LEAST_SEVERAL, MOST_CIRCUITS
 from command.speaking import quoted
 
 FIELDS = {
@@ -10,8 +11,10 @@ FIELDS = {
     b"pmu": ["number"],
     b"end": [],
 }
+LEFT_OFF_FOR_ONE = {b"line": "circuits"}
 LETTERS = {"class": (b"Z", b"I"), "site": (b"Y", b"N")}
 NUMBER = re.compile(rb"0|[1-9][0-9]{0,3}")
+BETWEEN_FIELDS = re.compile(rb" *\t *| +")
 MARK = b"\xef\xbb\xbf"
 WIDE_MARKS = b"\xff\xfe", b"\xfe\xff"
 
@@ -21,12 +24,13 @@ class Mendable(str):
 
 
 class Case:
-    """What the records of a case text say, as far as they are read."""
+    """What the records of a case text say, as far as they are read. `circuits` has the lines of several, by ends."""
 
     def __init__(self):
         self.n = None
         self.buses = []
         self.lines = []
+        self.circuits = {}
         self.units = []
         self.ended = False
 
@@ -38,7 +42,9 @@ class Case:
         elif word == b"bus":
             self.buses.append((fields[1].decode(), fields[2].decode()))
         elif word == b"line":
-            self.lines.append((int(fields[0]), int(fields[1])))
+            a, b, *circuits = map(int, fields)
+            self.lines.append((a, b))
+            self.circuits.update(((a, b), count) for count in circuits)
         elif word == b"pmu":
             self.units.append(int(fields[0]))
         else:
@@ -76,20 +82,35 @@ def wrong_letter(field, kind):
     return "the %s %s is wrong: %s is wanted" % (kind, quoted(field), wanted)
 
 
+def forms(word):
+    """The forms of a record with this word: the names of its fields."""
+    wanted = FIELDS[word]
+    return [wanted, wanted + [LEFT_OFF_FOR_ONE[word]]] if word in LEFT_OFF_FOR_ONE else [wanted]
+
+
 def wrong_fields(line):
     """What is wrong with the fields after a known word, in words; None if nothing is."""
     word, *fields = line.split(b"\t")
-    wanted = FIELDS[word]
-    form = " ".join([word.decode()] + wanted)
-    if len(fields) < len(wanted):
-        return "the field '%s' is missing: '%s' is wanted" % (wanted[len(fields)], form)
-    if len(fields) > len(wanted):
-        return "there is a field too many, %s: '%s' is wanted" % (quoted(fields[len(wanted)]), form)
-    for kind, field in zip(wanted, fields):
+    least, most = forms(word)[0], forms(word)[-1]
+    wanted = " or ".join("'%s'" % " ".join([word.decode()] + form) for form in forms(word)) + " is wanted"
+    if len(fields) < len(least):
+        return "the field '%s' is missing: %s" % (least[len(fields)], wanted)
+    if len(fields) > len(most):
+        return "there is a field too many, %s: %s" % (quoted(fields[len(most)]), wanted)
+    for kind, field in zip(most, fields):
         wrong = wrong_letter(field, kind) if kind in LETTERS else wrong_number(field)
         if wrong:
             return wrong
     return None
+
+
+def wrong_circuits(count):
+    """What is wrong with the number of a line's circuits, in words; None if nothing is."""
+    if LEAST_SEVERAL <= count <= MOST_CIRCUITS:
+        return None
+    words = "the circuits of a line are to be %d to %d, or left off for one, and here is %d"
+    words %= LEAST_SEVERAL, MOST_CIRCUITS, count
+    return Mendable(words) if count == 1 else words
 
 
 def wrong_bytes(line, first):
@@ -123,8 +144,14 @@ def wrong_blanks(line):
 
 
 def squeeze(line):
-    """A line with one tab between two fields, and no other blanks."""
-    return b"\t".join(field for field in line.replace(b" ", b"\t").split(b"\t") if field)
+    """A line with one tab between two fields, and no other blanks.
+
+    A `line` with two numbers keeps an empty field before one of them: a bus may be missing, and the last number may be
+    the circuits.
+    """
+    spaced = BETWEEN_FIELDS.sub(b"\t", line.strip(b" \t"))
+    fields = [field for field in spaced.split(b"\t") if field]
+    return spaced if fields[:1] == [b"line"] and len(fields) == 3 else b"\t".join(fields)
 
 
 def wrong_word(line):

@@ -28,15 +28,16 @@ REFUSALS = {
         "missing; something follows `end`", "line",
         "day plan", ALL_C, "read_case check_steps read_steps replay_text"),
     3: Refusal(
-        "the `grid` number is not 1 to 64; another number of a case text is 0 or above n; a number of a step text is 0 "
-        "or above 64; this is the 257th `line`", "line",
+        "the `grid` number is not 1 to 64; a `line`'s circuits are written and not 2 to 8; another number of a case "
+        "text is 0 or above n; a number of a step text is 0 or above 64; this is the 257th `line`", "line",
         "day plan", ALL_C, "read_case check_steps read_steps replay_text"),
     4: Refusal(
         "a bus is not the next; a is not below b; `line` or `pmu` does not rise", "line",
         "day plan", ALL_C, "read_case"),
     5: Refusal(
         "a case value is not a grid: n is not 1 to 64, lines are not the same seen from both ends, a bus is joined to "
-        "itself, a line, unit, class Z or site Y is at a bus above n, or there are over 256 lines", "0",
+        "itself, a line, unit, class Z or site Y is at a bus above n, there are over 256 lines, a joined pair has 0 "
+        "circuits or above 8, another pair has any, or circuits are not the same seen from both ends", "0",
         calls=CASES + " write_case replay_text"),
     6: Refusal(
         "the answer is longer than the room lent", "0",
@@ -74,7 +75,7 @@ REFUSALS = {
 }
 NOTES = {
     1: "a case text has at most 8,192 bytes, with the plan line in the planning program, and a step text 16,384",
-    3: "n is the number in the first line of the case text",
+    3: "n is the number in the first line of the case text; for one circuit a `line` has two numbers",
     10: "the limit is 8 for the fewest units, and 64 for greedy",
     11: "new units go only to sites Y that have none, and installed units stay",
 }

@@ -21,7 +21,7 @@ def check_table(checks):
         reply = programs.ask("day", words_of_day, text[:8193])
         said = explain(number, place, text[:8193])
         checks.that("%s: %r, %s" % (name, reply, said), (reply, said) == (refused(number, place), words))
-    checks.that("there are 40 damaged texts", len(damaged_texts.DAMAGED) >= 40)
+    checks.that("there are 100 damaged texts", len(damaged_texts.DAMAGED) >= 100)
 
 
 def refused(number, place):
@@ -51,6 +51,7 @@ def check_every_damage(checks):
     """Every kind of damage has words of its own, and not only the table's for its number."""
     known, rng, plain, count = texts.texts(), random.Random(2026), [], 0
     damaged = list(texts.damaged(known["seven"], 8192, rng, 60)) + list(texts.damaged(known["full"], 8192, rng, 40))
+    damaged += texts.damaged(stored("cases", "double-circuit.case"), 8192, rng, 40)
     for text in damaged:
         try:
             read_case(text)
@@ -95,9 +96,11 @@ def check_limits(checks):
     calls = stored("docs", "CALLS.md").decode()
     rows = re.findall(r"\| ([0-9,]+) \| `(most[A-Z][A-Za-z]*)` \|$", calls, re.M)
     known = {name: int(most.replace(",", "")) for most, name in rows}
-    for ours, theirs in [("MOST_BUSES", "mostBuses"), ("MOST_LINES", "mostLines"), ("MOST_BYTES", "mostBytes"),
-                         ("MOST_BUDGET", "mostBudget")]:
+    for ours, theirs in [("MOST_BUSES", "mostBuses"), ("MOST_LINES", "mostLines"), ("MOST_CIRCUITS", "mostCircuits"),
+                         ("MOST_BYTES", "mostBytes"), ("MOST_BUDGET", "mostBudget")]:
         checks.that("%s is %s" % (ours, theirs), getattr(limits, ours) == known.get(theirs))
+    defined = stored("crates", "grid", "specs", "Limits.antt").decode()
+    checks.that("LEAST_SEVERAL is leastSeveral", "\nleastSeveral = %d\n" % limits.LEAST_SEVERAL in defined)
 
 
 def check_refusal(checks):

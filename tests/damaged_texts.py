@@ -9,6 +9,9 @@ CR_RULE = "the line ends with a carriage return, as in CRLF: a line feed alone i
 AFTER_END = "follows 'end', which is to be the last line"
 CUT = "; its line feed is missing too, so that the text may be cut off"
 WORDS = ": the words are grid, bus, line, pmu and end"
+LINE_FORMS = ": 'line a b' or 'line a b circuits' is wanted"
+CIRCUITS = "the circuits of a line are to be 2 to 8, or left off for one, and here is "
+AGAIN = " is here again: several circuits are one line, which says their number"
 
 
 def put(at, *lines):
@@ -31,11 +34,11 @@ def quote(line):
     return "; the line is '%s'" % line
 
 
-def many_lines(count):
-    """A text with so many lines."""
+def many_lines(count, circuits=b"\n"):
+    """A text with so many lines, each with these bytes after its buses."""
     ends = [(a, b) for a in range(1, 25) for b in range(a + 1, 25)][:count]
     text = b"grid\t24\n" + b"".join(b"bus\t%d\tI\tY\n" % bus for bus in range(1, 25))
-    return text + b"".join(b"line\t%d\t%d\n" % two for two in ends) + b"end\n"
+    return text + b"".join(b"line\t%d\t%d" % two + circuits for two in ends) + b"end\n"
 
 
 # of the whole text
@@ -130,7 +133,7 @@ FORM = [
     ("'grid' alone", put(1, b"grid\n"), 2, 1, "line 1: the field 'n' is missing: 'grid n' is wanted" + quote("grid")),
     ("'end' with a field", put(16, b"end\t1\n"), 2, 16,
      "line 16: there is a field too many, '1': 'end' is wanted" + quote(r"end\t1")),
-    ("one end of a line", put(9, b"line\t1\n"), 2, 9, "line 9: the field 'b' is missing: 'line a b' is wanted" + quote(
+    ("one end of a line", put(9, b"line\t1\n"), 2, 9, "line 9: the field 'b' is missing" + LINE_FORMS + quote(
         r"line\t1")),
     ("a leading zero", put(2, b"bus\t01\tI\tY\n"), 2, 2, "line 2: the number '01' has a leading zero" + quote(
         r"bus\t01\tI\tY")),
@@ -177,10 +180,10 @@ NUMBERS = [
      + quote(r"line\t2\t1") + TIDY),
     ("a bus joined to itself", put(9, b"line\t1\t1\n"), 4, 9, "line 9: a line joins two different buses, and this one "
      "joins bus 1 to itself" + quote(r"line\t1\t1")),
-    ("a line twice", put(10, LINES[8], LINES[9]), 4, 10, "line 10: the line of buses 1 and 2 is here again" + quote(
+    ("a line twice", put(10, LINES[8], LINES[9]), 4, 10, "line 10: the line of buses 1 and 2" + AGAIN + quote(
         r"line\t1\t2")),
     ("a line twice, turned", put(11, b"line\t2\t1\n"), 4, 11,
-     "line 11: the line of buses 1 and 2 is here again" + quote(r"line\t2\t1")),
+     "line 11: the line of buses 1 and 2" + AGAIN + quote(r"line\t2\t1")),
     ("a line too late", put(11, LINES[10], b"line\t1\t7\n"), 4, 12,
      "line 12: the line 1 7 comes after 3 4: lines rise by a, and then by b" + quote(r"line\t1\t7") + TIDY),
     ("a unit twice", put(15, LINES[14], LINES[14]), 4, 16, "line 16: the unit at bus 3 is here again" + quote(
@@ -189,4 +192,55 @@ NUMBERS = [
      "line 16: the unit at bus 1 comes after the one at 3: units rise" + quote(r"pmu\t1") + TIDY),
 ]
 
-DAMAGED = WHOLE + MISSING + FORM + NUMBERS
+# of the circuits of a line: their form, their range, and the order of lines that have some
+CIRCUITS_OF_LINES = [
+    ("a fourth number", put(9, b"line\t1\t2\t2\t2\n"), 2, 9,
+     "line 9: there is a field too many, '2'" + LINE_FORMS + quote(r"line\t1\t2\t2\t2")),
+    ("a fourth number beside 9 circuits", put(9, b"line\t1\t2\t9\t1\n"), 2, 9,
+     "line 9: there is a field too many, '1'" + LINE_FORMS + quote(r"line\t1\t2\t9\t1")),
+    ("circuits with a leading zero", put(9, b"line\t1\t2\t02\n"), 2, 9,
+     "line 9: the number '02' has a leading zero" + quote(r"line\t1\t2\t02")),
+    ("circuits of five digits", put(9, b"line\t1\t2\t10000\n"), 2, 9,
+     "line 9: the number '10000' has over 4 digits" + quote(r"line\t1\t2\t10000")),
+    ("circuits that are no number", put(9, b"line\t1\t2\tx2\n"), 2, 9,
+     "line 9: 'x2' is no number" + quote(r"line\t1\t2\tx2")),
+    ("a tab after the buses", put(9, b"line\t1\t2\t\n"), 2, 9,
+     "line 9: there is a tab too many in the line" + TAB_RULE + quote(r"line\t1\t2\t") + TIDY),
+    ("a tab after the circuits", put(9, b"line\t1\t2\t2\t\n"), 2, 9,
+     "line 9: there is a tab too many in the line" + TAB_RULE + quote(r"line\t1\t2\t2\t") + TIDY),
+    ("two tabs before the circuits", put(9, b"line\t1\t2\t\t2\n"), 2, 9,
+     "line 9: there is a tab too many in the line" + TAB_RULE + quote(r"line\t1\t2\t\t2") + TIDY),
+    ("blanks before the circuits", put(9, b"line 1 2 3\n"), 2, 9,
+     "line 9: there are blanks in the line" + TAB_RULE + quote("line 1 2 3") + TIDY),
+    ("an empty bus, and a bus or circuits", put(9, b"line\t1\t\t2\n"), 2, 9,
+     "line 9: a number is missing: its field is empty" + quote(r"line\t1\t\t2")),
+    ("blanks, an empty bus, and a bus or circuits", put(9, b"line 1\t \t2\n"), 2, 9,
+     "line 9: there are blanks in the line" + TAB_RULE + quote(r"line 1\t \t2")),
+    ("circuits after a unit", put(16, b"line\t6\t7\t2\n", LINES[15]), 2, 16,
+     "line 16: a 'line' comes after a 'pmu': every line comes before the first pmu" + quote(r"line\t6\t7\t2") + TIDY),
+    ("0 circuits", put(9, b"line\t1\t2\t0\n"), 3, 9, "line 9: " + CIRCUITS + "0" + quote(r"line\t1\t2\t0")),
+    ("1 circuit", put(9, b"line\t1\t2\t1\n"), 3, 9, "line 9: " + CIRCUITS + "1" + quote(r"line\t1\t2\t1") + TIDY),
+    ("9 circuits", put(9, b"line\t1\t2\t9\n"), 3, 9, "line 9: " + CIRCUITS + "9" + quote(r"line\t1\t2\t9")),
+    ("9,999 circuits", put(9, b"line\t1\t2\t9999\n"), 3, 9, "line 9: " + CIRCUITS + "9999" + quote(
+        r"line\t1\t2\t9999")),
+    ("9 circuits of a line that is turned", put(9, b"line\t2\t1\t9\n"), 3, 9,
+     "line 9: " + CIRCUITS + "9" + quote(r"line\t2\t1\t9")),
+    ("9 circuits of a line that is there twice", put(10, b"line\t1\t2\t9\n"), 3, 10,
+     "line 10: " + CIRCUITS + "9" + quote(r"line\t1\t2\t9")),
+    ("circuits of a line to bus 8", put(14, b"line\t5\t8\t2\n"), 3, 14,
+     "line 14: a bus number is to be 1 to 7, as 'grid' says, and here is 8" + quote(r"line\t5\t8\t2")),
+    ("257 lines of 2 circuits", many_lines(257, b"\t2\n"), 3, 282,
+     "line 282: this is the 257th line, and a grid has at most 256" + quote(r"line\t18\t20\t2")),
+    ("a line twice, then with circuits", put(10, b"line\t1\t2\t2\n"), 4, 10,
+     "line 10: the line of buses 1 and 2" + AGAIN + quote(r"line\t1\t2\t2")),
+    ("a line twice, first with circuits", put(9, b"line\t1\t2\t2\n", LINES[8]), 4, 10,
+     "line 10: the line of buses 1 and 2" + AGAIN + quote(r"line\t1\t2")),
+    ("a above b, with circuits", put(9, b"line\t2\t1\t3\n"), 4, 9,
+     "line 9: the lower bus of a line comes first: 'line 1 2 3' is wanted" + quote(r"line\t2\t1\t3") + TIDY),
+    ("circuits from a bus to itself", put(9, b"line\t1\t1\t2\n"), 4, 9, "line 9: a line joins two different buses, "
+     "and this one joins bus 1 to itself" + quote(r"line\t1\t1\t2")),
+    ("a line with circuits too late", put(11, LINES[10], b"line\t1\t7\t2\n"), 4, 12,
+     "line 12: the line 1 7 comes after 3 4: lines rise by a, and then by b" + quote(r"line\t1\t7\t2") + TIDY),
+]
+
+DAMAGED = WHOLE + MISSING + FORM + NUMBERS + CIRCUITS_OF_LINES
