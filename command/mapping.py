@@ -79,7 +79,7 @@ def is_unconfirmed(unit, count, case, lines, ask):
 
 
 def table(grid):
-    """The map as a table, with the dark buses and the unconfirmed units below it."""
+    """The map as a table, with the dark buses and the unconfirmed units below it, and lines of several circuits."""
     rows = [HEADS] + [row(grid, bus) for bus in grid.buses()]
     widths = [max(len(cells[column]) for cells in rows) for column in range(len(HEADS))]
     right = HEADS.index("bus"), HEADS.index("step")
@@ -89,6 +89,8 @@ def table(grid):
                   for column, (cell, width) in enumerate(zip(cells, widths))]
         lines.append("  ".join(padded).rstrip())
     lines += ["", "dark buses: " + listed(grid.dark()), "unconfirmed units: " + listed(grid.unconfirmed)]
+    several = ["%d-%d x%d" % (a, b, count) for (a, b), count in grid.case.circuits.items()]
+    lines += ["lines of several circuits: " + listed(several)] if several else []
     return "\n".join(lines) + "\n"
 
 
@@ -103,6 +105,6 @@ def row(grid, bus):
     return str(bus), sort, site, unit, confirmed, state, str(place), reason
 
 
-def listed(numbers):
-    """Numbers in a line, or 'none'."""
-    return ", ".join(map(str, numbers)) or "none"
+def listed(things):
+    """Numbers or words in a line, or 'none'."""
+    return ", ".join(map(str, things)) or "none"

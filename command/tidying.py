@@ -92,25 +92,32 @@ def check_forms(rows):
 
 
 def in_order(rows, changes):
-    """The records in their order, and each line's lower bus first."""
-    turned = [(at, turn(fields)) for at, fields in rows]
-    note(changes, sum(a != b for a, b in zip(rows, turned)), "the lower bus is put first in %s")
+    """The records in their order, each line's lower bus first, and one circuit left off."""
+    written = [(at, leave_off(fields)) for at, fields in rows]
+    note(changes, sum(a != b for a, b in zip(rows, written)), "the circuits, 1, are left off in %s")
+    turned = [(at, turn(fields)) for at, fields in written]
+    note(changes, sum(a != b for a, b in zip(written, turned)), "the lower bus is put first in %s")
     ordered = sorted(turned, key=lambda row: (ORDER.index(row[1][0]), numbers_of(row[1])))
     if ordered != turned:
         changes.append("the records are put in order")
     return ordered
 
 
+def leave_off(fields):
+    """A record's fields, without the circuits of a line that has one."""
+    return fields[:3] if fields[0] == b"line" and fields[3:] == [b"1"] else fields
+
+
 def turn(fields):
     """A record's fields, with the lower bus of a line first."""
     if fields[0] == b"line" and int(fields[1]) > int(fields[2]):
-        return [fields[0], fields[2], fields[1]]
+        return [fields[0], fields[2], fields[1], *fields[3:]]
     return fields
 
 
 def numbers_of(fields):
-    """The numbers of a record, by which it is put in order."""
-    return [int(field) for field in fields[1:2 if fields[0] == b"bus" else None]]
+    """The numbers of a record by which it is put in order: the buses of a line without its circuits."""
+    return [int(field) for field in fields[1:2 if fields[0] == b"bus" else 3]]
 
 
 def check_numbers(rows):
@@ -126,13 +133,22 @@ def check_numbers(rows):
         outside = [number for number in numbers if not 1 <= number <= most]
         if outside:
             raise Unmendable("line %d: a bus number is to be 1 to %d, and here is %d" % (at, most, outside[0]))
-        if len(numbers) == 2 and numbers[0] == numbers[1]:
-            raise Unmendable("line %d: this line joins bus %d to itself" % (at, numbers[0]))
+        if fields[0] == b"line":
+            check_line(at, *map(int, fields[1:]))
     check_counts(rows, most)
 
 
+def check_line(at, a, b, *circuits):
+    """Stops if a line joins a bus to itself, or if its circuits are out of range."""
+    if a == b:
+        raise Unmendable("line %d: this line joins bus %d to itself" % (at, a))
+    wrong = records.wrong_circuits(*circuits) if circuits else None
+    if wrong:
+        raise Unmendable("line %d: %s" % (at, wrong))
+
+
 def check_twice(rows):
-    """Stops if a record is there twice. A second `grid` or `bus` need not say the same as the first."""
+    """Stops if a record is there twice. A second `grid`, `bus` or `line` need not say the same as the first."""
     known = {}
     for at, fields in rows:
         key = fields[0].decode(), *([] if fields[0] == b"grid" else numbers_of(fields))

@@ -13,6 +13,7 @@ from reference_sites import unconfirmed
 from reference_texts import read_case, write_case
 
 SEVEN = os.path.join(TOP, "cases", "seven.case")
+SEVERAL = "lines of several circuits: "
 ROW = re.compile(r" *(\d+)  ([ZI])      ([YN])     (unit|-   )  (yes|no|-) +(observed|DARK) +(\d+|-)  (\S.*)")
 
 
@@ -40,6 +41,18 @@ def wanted(case):
     return rows, ", ".join(dark) or "none", ", ".join(map(str, sorted(alone))) or "none"
 
 
+def several_circuits(text):
+    """The lines of several circuits that a case text says, each with how many."""
+    return {(int(a), int(b)): int(count) for a, b, count in re.findall(rb"^line\t(\d+)\t(\d+)\t(\d)$", text, re.M)}
+
+
+def read_several(table):
+    """A printed table without its line on several circuits, and these lines, each with how many."""
+    above, found, listed = table.partition(SEVERAL)
+    rows = [re.fullmatch(r"(\d+)-(\d+) x(\d)", entry) for entry in listed.strip().split(", ")] if found else []
+    return above, {(int(row[1]), int(row[2])): int(row[3]) for row in rows}
+
+
 def read_table(table):
     """The rows of a printed table, the dark buses and the unconfirmed units."""
     head, *rows, empty, dark, alone = table.splitlines()
@@ -52,8 +65,9 @@ def check_tables(checks):
     """Every case has the table that the references give, and the stored one if there is one."""
     for name in sorted(glob.glob(os.path.join(TOP, "cases", "*.case"))):
         text = stored(name)
-        table = mapping.table(observed(text))
+        table, several = read_several(mapping.table(observed(text)))
         checks.that("the map of %s:\n%s" % (name, table), read_table(table) == wanted(read_case(text)))
+        checks.that("the circuits of %s: %s" % (name, several), several == several_circuits(text))
     kept = sorted(glob.glob(os.path.join(TOP, "cases", "*.map")))
     checks.that("maps are stored", len(kept) >= 2)
     for name in kept:
@@ -83,6 +97,26 @@ def check_drawn(checks):
     checks.that("in %d grids some units are confirmed and some are not" % mixed, mixed >= 10)
 
 
+def check_circuits(checks):
+    """A line of several circuits is listed and drawn double with their number; all else is as with one circuit."""
+    several = {(1, 2): 8, (3, 7): 2, (5, 6): 3}
+    one = stored("cases", "seven.case")
+    text = one
+    for (a, b), count in several.items():
+        text = text.replace(b"line\t%d\t%d\n" % (a, b), b"line\t%d\t%d\t%d\n" % (a, b, count))
+    table, source = mapping.table(observed(text)), drawing.dot(observed(text))
+    line = SEVERAL + "1-2 x8, 3-7 x2, 5-6 x3\n"
+    checks.that("the map of seven buses with circuits:\n" + table, table == stored("cases", "seven.map").decode() + line)
+    drawn = {(int(a), int(b)): (int(count), look) for a, b, count, look in re.findall(
+        r'^  (\d+) -- (\d+) \[label="x(\d)" (.*)\]$', source, re.M)}
+    checks.that("circuits are drawn: %s" % drawn, {ends: count for ends, (count, _) in drawn.items()} == several)
+    double = 'color="{0}:invis:{0}" '.format(drawing.GREY)
+    checks.that("such lines are double", all(look.startswith(double) for _, look in drawn.values()))
+    checks.that("the legend says so", source.count("a line of several circuits") == 1)
+    bare = re.sub(r"<TR><TD[^>]*>x2</TD>.*?</TR>", "", re.sub(r"( -- \d+) \[.*\]", r"\1", source))
+    checks.that("nothing else is drawn anew", bare == stored("cases", "seven.dot").decode())
+
+
 def check_refused(checks):
     """A refused text is refused as by the day report."""
     text = stored("cases", "seven.case")[:-1]
@@ -104,9 +138,10 @@ def check_count(checks):
 
 def check_dot(checks):
     """The source of a drawing has each bus and each line, and tells observed and dark buses apart."""
-    called = checks.call("map", "--dot", SEVEN)
-    checks.that("map --dot, as in seven.dot", called == (0, stored("cases", "seven.dot"), b""), called)
-    for name in ("ieee14-placed", "ieee30-placed", "ieee57", "source000-theorem34"):
+    for name in ("seven", "double-circuit"):
+        called = checks.call("map", "--dot", os.path.join(TOP, "cases", name + ".case"))
+        checks.that("map --dot, as in %s.dot" % name, called == (0, stored("cases", name + ".dot"), b""), called)
+    for name in ("ieee14-placed", "ieee30-placed", "ieee57", "ieee57-circuits", "source000-theorem34"):
         text = stored("cases", name + ".case")
         case, grid = read_case(text), observed(text)
         source = drawing.dot(grid)
@@ -120,7 +155,7 @@ def check_dot(checks):
         units = {int(bus) for bus, look in looks.items() if "peripheries=2" in look}
         zero = {int(bus) for bus, look in looks.items() if 'shape="diamond"' in look}
         checks.that("%s: units and Z buses" % name, (units, zero) == (set(case.units), set(case.zero)))
-        lines = {(int(a), int(b)) for a, b in re.findall(r"^  (\d+) -- (\d+)$", source, re.M)}
+        lines = {(int(a), int(b)) for a, b in re.findall(r"^  (\d+) -- (\d+)(?: \[.*\])?$", source, re.M)}
         checks.that("%s: each line is drawn" % name, lines == {
             (a, b) for a in range(1, case.n + 1) for b in case.rows[a] if a < b})
 
@@ -151,7 +186,7 @@ def check_svg(checks):
     if shutil.which("neato") is None:
         print("not run: the drawings as SVG, since Graphviz is not installed")
         return
-    for name in ("seven", "ieee57"):
+    for name in ("seven", "ieee57-circuits"):
         called = checks.call("map", "--svg", os.path.join(TOP, "cases", name + ".case"))
         checks.that("map --svg %s" % name, called.status == 0 and not called.err, called)
         titles = [title.text for title in xml.etree.ElementTree.fromstring(called.out).iter() if
@@ -160,6 +195,10 @@ def check_svg(checks):
         buses = {str(bus) for bus in range(1, case.n + 1)}
         lines = {"%d--%d" % (a, b) for a in range(1, case.n + 1) for b in case.rows[a] if a < b}
         checks.that("%s.svg has every bus and line" % name, buses | lines <= set(titles))
+        marks = re.findall(rb">x(\d)</text>", called.out)
+        several = several_circuits(stored("cases", name + ".case"))
+        # the legend has one mark too
+        checks.that("%s.svg has the circuits" % name, len(marks) == len(several) + bool(several))
 
 
 def check_kept_picture(checks):
@@ -175,5 +214,5 @@ def check_kept_picture(checks):
 
 
 CHECKS = [
-    check_tables, check_drawn, check_refused, check_count, check_dot, check_marks, check_svg, check_kept_picture,
+    check_tables, check_drawn, check_circuits, check_refused, check_count, check_dot, check_marks, check_svg, check_kept_picture,
 ]

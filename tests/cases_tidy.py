@@ -14,6 +14,7 @@ from reference import Refused
 from reference_texts import read_case
 
 SEVEN = stored("cases", "seven.case")
+DOUBLE = stored("cases", "double-circuit.case")
 COMMANDS = "day", "plan", "map", "tidy", "import", "refusal"
 LINES = SEVEN.splitlines(True)
 TURNED = b"".join([LINES[0], LINES[7], *LINES[1:7], *LINES[14:15], *LINES[8:14], LINES[15]])
@@ -38,7 +39,22 @@ NEARLY = [
         "the lower bus is put first in 1 line", "the records are put in order"]),
 ]
 
+# The same for the text with a line of two circuits.
+ONE_CIRCUIT = "the circuits, 1, are left off in %s"
+NEARLY_DOUBLE = [
+    ("blanks before circuits", DOUBLE.replace(b"\t", b" "), [BLANKS % "7 lines"]),
+    ("one circuit", DOUBLE.replace(b"line\t1\t2\n", b"line\t1\t2\t1\n"), [ONE_CIRCUIT % "1 line"]),
+    ("one circuit, b before a", DOUBLE.replace(b"line\t1\t2\n", b"line\t2\t1\t1\n"), [
+        ONE_CIRCUIT % "1 line", "the lower bus is put first in 1 line"]),
+    ("b before a, and circuits", DOUBLE.replace(b"2\t3\t2", b"3\t2\t2"), ["the lower bus is put first in 1 line"]),
+    ("a tab for no circuits", DOUBLE.replace(b"line\t1\t2\n", b"line\t1\t2\t\n"), [BLANKS % "1 line"]),
+    ("two tabs before circuits", DOUBLE.replace(b"2\t3\t2", b"2\t3\t\t2"), [BLANKS % "1 line"]),
+    ("lines in another order", DOUBLE.replace(b"line\t1\t2\nline\t2\t3\t2\n", b"line\t2\t3\t2\nline\t1\t2\n"), [
+        "the records are put in order"]),
+]
+
 # What is not tidy's to mend, and what it says.
+CIRCUITS_RANGE = "the circuits of a line are to be 2 to 8, or left off for one, and here is "
 UNMENDABLE = [
     ("an empty text", b"", "the text is empty"),
     ("blanks alone", b" \r\n\n", "the text is empty"),
@@ -58,6 +74,16 @@ UNMENDABLE = [
     ("65 buses", SEVEN.replace(b"grid\t7", b"grid 65"), "line 1: n is to be 1 to 64, and it is 65"),
     ("a unit at bus 8", SEVEN.replace(b"pmu\t3", b"pmu\t8"), "line 15: a bus number is to be 1 to 7, and here is 8"),
     ("a line of one bus", SEVEN.replace(b"line\t1\t2", b"line\t2\t2"), "line 9: this line joins bus 2 to itself"),
+    ("0 circuits", SEVEN.replace(b"line\t1\t2", b"line 1 2 0"), "line 9: %s0" % CIRCUITS_RANGE),
+    ("9 circuits", SEVEN.replace(b"line\t1\t2", b"line 1 2 9"), "line 9: %s9" % CIRCUITS_RANGE),
+    ("circuits with a leading zero", SEVEN.replace(b"line\t1\t2", b"line 1 2 02"), "line 9: the number '02' has"),
+    ("a fourth number", SEVEN.replace(b"line\t1\t2", b"line 1 2 2 2"), "line 9: there is a field too many, '2'"),
+    ("a line twice, with circuits", SEVEN.replace(b"line\t1\t2\n", b"line 1 2\nline 2 1 2\n"),
+     "lines 9 and 10: 'line 1 2' is there twice"),
+    ("a line twice, with other circuits", SEVEN.replace(b"line\t1\t2\n", b"line 1 2 3\nline 1 2 2\n"),
+     "lines 9 and 10: 'line 1 2' is there twice"),
+    ("a bus or circuits", SEVEN.replace(b"line\t1\t2", b"line\t1\t\t2"), "line 9: a number is missing: its field is"),
+    ("a bus or circuits, with blanks", SEVEN.replace(b"line\t1\t2", b" line 1\t \t 2"), "line 9: a number is missing"),
     ("CR alone", SEVEN.replace(b"\n", b"\r"), "line 1: there is a carriage return in the line"),
     ("UTF-16", SEVEN.decode().encode("utf-16"), "line 1: the text is in UTF-16"),
     ("too long", SEVEN + b" " * 70000, "the text is over 65,536 bytes"),
@@ -66,8 +92,9 @@ UNMENDABLE = [
 
 def check_mended(checks):
     """What is nearly right becomes right, and each change is said in a line."""
-    for name, text, changes in NEARLY:
-        checks.that("tidy: " + name, tidying.tidy(text) == (SEVEN, changes))
+    for whole, nearly in (SEVEN, NEARLY), (DOUBLE, NEARLY_DOUBLE):
+        for name, text, changes in nearly:
+            checks.that("tidy: " + name, tidying.tidy(text) == (whole, changes))
     for name, text, changes in NEARLY[::5]:
         called = checks.call("tidy", text=text)
         said = "".join("wozgrzyt: standard input: %s\n" % change for change in changes)
@@ -95,8 +122,9 @@ def check_hints(checks):
 
 def check_drawn_damage(checks):
     """What tidy makes of a damaged text is a case text, and the words of its refusal said that tidy mends it."""
-    known, rng, wrong, count = texts.texts(), random.Random(16), [], 0
-    for text in texts.damaged(known["seven"], 8192, rng, 100):
+    rng, wrong, count = random.Random(16), [], 0
+    damaged = list(texts.damaged(SEVEN, 8192, rng, 100)) + list(texts.damaged(DOUBLE, 8192, rng, 60))
+    for text in damaged:
         try:
             read_case(text)
             continue
@@ -141,7 +169,8 @@ def untidy(text, rng):
     first, *rest, last = text.splitlines()
     rng.shuffle(rest)
     rows = [line.split(b"\t") for line in [first] + rest + [last]]
-    rows = [[row[0], row[2], row[1]] if row[0] == b"line" and rng.random() < 0.5 else row for row in rows]
+    rows = [row + [b"1"] if row[0] == b"line" and len(row) == 3 and rng.random() < 0.2 else row for row in rows]
+    rows = [[row[0], row[2], row[1], *row[3:]] if row[0] == b"line" and rng.random() < 0.5 else row for row in rows]
     blanks = [b" ", b"\t", b"\t ", b"   "]
     lines = [rng.choice([b"", b" "]) + rng.choice(blanks).join(row) + rng.choice([b"", b"\t"]) for row in rows]
     feed, mark = rng.choice([b"\n", b"\r\n", b"\n\n"]), rng.choice([b"", b"\xef\xbb\xbf"])
@@ -175,7 +204,7 @@ def check_help(checks):
         checks.that(" ".join(arguments), called == (0, helping.TEXTS[arguments[0]].encode(), b""), called)
     called = checks.call("help", "case")
     example = b"".join(b" ".join(line.split()[:words]) + b"\n" for line, words in zip(
-        called.out.splitlines()[2:10], (2, 4, 4, 4, 3, 3, 2, 1)))
+        called.out.splitlines()[2:10], (2, 4, 4, 4, 3, 4, 2, 1)))
     tidied = checks.call("tidy", text=example)
     checks.that("help case has a case text", tidied.status == 0 and tidied.out.count(b"\n") == 8, tidied)
     report = checks.call("day", text=tidied.out)
