@@ -55,8 +55,9 @@ and whether it is observed or dark. An observed bus has the number of its step i
     N 3    as a neighbour of the unit at bus 3
     Z 2    by zero injection at bus 2
 
-The dark buses and the units that no other unit confirms are listed at the end.
-In a drawing an observed bus is filled, and a dark one is hollow with a dashed border.
+The dark buses and the units that no other unit confirms are listed at the end, and lines of several circuits if there
+are any: '2-3 x2' is a line of 2 circuits. In a drawing an observed bus is filled, and a dark one is hollow with a
+dashed border. A line of several circuits is drawn double, with their number.
 """
 
 TIDY = """\
@@ -68,10 +69,12 @@ Prints a case text that is nearly right as it should be, and says on standard er
     a carriage return at the end of a line goes, and so does a byte order mark
     the records are put in order: grid, buses by number, lines by a and then b, units by number, end
     the lower bus of a line comes first
+    a line's circuits are left off if they are 1
     the line feed at the end of the last line is added
 
 What it says of the grid never changes. A text that is valid already keeps its bytes. If anything else is wrong, it
-prints nothing, says what, and ends with status 1: a bus that is missing, a record that is there twice.
+prints nothing, says what, and ends with status 1: a bus that is missing, a record that is there twice. Two lines of the
+same buses may be one line or two circuits, so it leaves them too.
 """
 
 IMPORT = """\
@@ -82,11 +85,11 @@ which it is. Buses are numbered from 1 in the file's order. Standard error has a
 numbers and the names, separated by tabs; with --names it goes to that file.
 
 A bus is Z only if the file says that it has no load, no generator and no shunt. What is unknown makes it I, and so does
-a generator that is out of service. Parallel branches become one line. Branches out of service are left out. All sites
-are Y, and there is no unit. '-' stands for standard input.
+a generator that is out of service. Parallel branches are the circuits of one line. Branches out of service are left
+out. All sites are Y, and there is no unit. '-' stands for standard input.
 
-A damaged file is refused with its line and status 2, and nothing is printed. If it has over 64 buses or over 256 lines,
-no case can hold it, and the status is 1.
+A damaged file is refused with its line and status 2, and nothing is printed. If it has over 64 buses, over 256 lines or
+a line of over 8 circuits, no case can hold it, and the status is 1.
 """
 
 REFUSAL = """\
@@ -104,13 +107,14 @@ A case text says a grid and its installed units, one record a line:
     bus 1 I Y       bus 1 is of class I (anything but zero injection); at site Y a new unit may be put
     bus 2 Z N       bus 2 is of class Z (zero injection: nothing is drawn or fed there); at site N none may be put
     bus 3 I Y       one record for each bus, in the order of their numbers
-    line 1 2        a line joins buses 1 and 2, the lower one first
-    line 2 3        0 to 256 lines, rising by the first bus and then by the second
+    line 1 2        a line of one circuit joins buses 1 and 2, the lower one first
+    line 2 3 2      a line of 2 circuits, or up to 8; 0 to 256 lines, rising by the first bus and then by the second
     pmu 1           a unit is installed at bus 1; 0 to 64 units, rising
     end             nothing follows this line
 
 One tab separates two fields, where the lines above have a blank. A line feed ends each line, the last one too.
 Numbers have 1 to 4 digits and no leading zero. The text has at most 8,192 bytes.
+However many circuits a line has, it makes its two buses neighbours once.
 'wozgrzyt tidy' makes such a text of one with blanks for tabs, or with its records in another order.
 """
 
