@@ -106,7 +106,7 @@ def check_circuits(checks):
         text = text.replace(b"line\t%d\t%d\n" % (a, b), b"line\t%d\t%d\t%d\n" % (a, b, count))
     table, source = mapping.table(observed(text)), drawing.dot(observed(text))
     line = SEVERAL + "1-2 x8, 3-7 x2, 5-6 x3\n"
-    checks.that("the map of seven buses with circuits:\n" + table, table == stored("cases", "seven.map").decode() + line)
+    checks.that("the map with circuits:\n" + table, table == stored("cases", "seven.map").decode() + line)
     drawn = {(int(a), int(b)): (int(count), look) for a, b, count, look in re.findall(
         r'^  (\d+) -- (\d+) \[label="x(\d)" (.*)\]$', source, re.M)}
     checks.that("circuits are drawn: %s" % drawn, {ends: count for ends, (count, _) in drawn.items()} == several)
@@ -214,5 +214,6 @@ def check_kept_picture(checks):
 
 
 CHECKS = [
-    check_tables, check_drawn, check_circuits, check_refused, check_count, check_dot, check_marks, check_svg, check_kept_picture,
+    check_tables, check_drawn, check_circuits, check_refused, check_count, check_dot, check_marks, check_svg,
+    check_kept_picture,
 ]
