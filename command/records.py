@@ -44,7 +44,8 @@ class Case:
         elif word == b"line":
             a, b, *circuits = map(int, fields)
             self.lines.append((a, b))
-            self.circuits.update(((a, b), count) for count in circuits)
+            if circuits:
+                self.circuits[a, b] = circuits[0]
         elif word == b"pmu":
             self.units.append(int(fields[0]))
         else:
