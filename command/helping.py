@@ -107,8 +107,8 @@ A case text says a grid and its installed units, one record a line:
     bus 1 I Y       bus 1 is of class I (anything but zero injection); at site Y a new unit may be put
     bus 2 Z N       bus 2 is of class Z (zero injection: nothing is drawn or fed there); at site N none may be put
     bus 3 I Y       one record for each bus, in the order of their numbers
-    line 1 2        a line joins buses 1 and 2, the lower one first; 0 to 256 lines, rising by the first, then the second
-    line 2 3 2      a line of 2 circuits: 2 to 8 are written, and 1 is not
+    line 1 2        a line joins buses 1 and 2, the lower one first; lines rise by the first, and then by the second
+    line 2 3 2      a line of 2 circuits: 2 to 8 are written, and 1 is not; there are 0 to 256 lines
     pmu 1           a unit is installed at bus 1; 0 to 64 units, rising
     end             nothing follows this line
 
