@@ -5,17 +5,19 @@ use mathlib.Core.List.{List, [], _∷_, _++_, append-assoc}
 use Prim.Native.Nat.{ℕ, suc, _+_, _-_, _*_, _≤_, _<_}
 use native.Mathlib.Omega.{arith}
 use borrow.Author.Tests.{eq-eqb, ne-eqb}
+use lib.Dec.{ltb}
 use lib.ListN.{length, length-append}
-use Rattle.grid.specs.Limits.{mostBuses}
+use Rattle.grid.specs.Limits.{mostBuses, mostCircuits, leastSeveral}
+use Rattle.grid.specs.Rows.{Rows, circuits}
 use Rattle.basics.specs.Deciding.{Decides}
 use Rattle.busset.specs.Sets.{bit, In}
 use Rattle.basics.proofs.Tests.{refutes}
 use Rattle.text_field.specs.Split.{lineFeed}
-use Rattle.case_line.specs.Record.{recordText}
+use Rattle.case_line.specs.Record.{recordText, Formed}
 use Rattle.case_line.specs.declared.Record.{Record}
-use Rattle.case_line.specs.declared.Record.the-variants.{Line}
+use Rattle.case_line.specs.declared.Record.the-variants.{Line, Circuits}
 use Rattle.case_line.proofs.Lengths.{record-length}
-use Rattle.case_line.specs.CaseText.{has, busRecord, busRecords, members, lineRecords, linesText}
+use Rattle.case_line.specs.CaseText.{has, busRecord, busRecords, members, lineFrom, lineRecords, linesText}
 use Rattle.case_read.proofs.Lengths.{lineRoom, lines-length, members-length, rowRoom}
 use Rattle.text_put.specs.Put.{Put}
 use Rattle.case_write.specs.Lines.{lineText}
@@ -41,6 +43,19 @@ line-length r = simp length-append (omega (arith, record-length r))
 lined-length : (t : Bool) (r : Record) → length (cond t (lineText r) []) ≤ lineRoom
 lined-length true r = line-length r
 lined-length false r = omega arith
+
+-- rows count circuits by four binary digits
+circuits-few : (rows : Rows) (a b : ℕ) → circuits rows a b < 2 * mostCircuits
+unfolding circuits
+circuits-few rows a b = omega arith
+
+-- a line from bus to bus, by any circuits that rows can count, may be put
+pub line-formed : (rows : Rows) {a b : ℕ} → a ≤ mostBuses → b ≤ mostBuses → Formed (lineFrom (circuits rows) a b)
+line-formed rows {a} {b} h i = either (ltb (circuits rows a b) leastSeveral) (circuits-few rows a b)
+  where
+    either : (t : Bool) {k : ℕ} → k < 2 * mostCircuits → Formed (cond t (Line a b) (Circuits a b k))
+    either true j = omega arith
+    either false j = omega arith
 
 -- ---- a turn for each bus from first to n: recs b m are the records of the m buses from b on, and a bus takes at most so many bytes
 
@@ -107,12 +122,14 @@ module _ {first count n : ℕ} {l m o : List ℕ} {at end k b q : ℕ} where
       taken true rs = lines-cons _ _
       taken false rs = refl
 
-  pub turn-row : (nbr : ℕ → ℕ) {s : ℕ} → Turn (lineRecords nbr) rowRoom first count n l at end m k b → b < end → n ≤ mostBuses → s ≡ nbr b →
-      Put m k (linesText (members (Line b) s (b + 1) (n - b))) o q → Turn (lineRecords nbr) rowRoom first count n l at end o q (b + 1)
+  pub turn-row : (nbr : ℕ → ℕ) (counts : ℕ → ℕ → ℕ) → Turn (lineRecords nbr counts) rowRoom first count n l at end m k b → b < end
+      → n ≤ mostBuses → Put m k (linesText (members (lineFrom counts b) (nbr b) (b + 1) (n - b))) o q
+      → Turn (lineRecords nbr counts) rowRoom first count n l at end o q (b + 1)
   unfolding lineRecords
-  turn-row nbr w h c e p =
-      let rs = members (Line b) (nbr b) (b + 1) (n - b) in
-      turn-next w h (lines-append rs _) (omega (arith, lines-length rs, members-length (Line b) (nbr b) (b + 1) (n - b))) (rw e at p)
+  turn-row nbr counts w h c p =
+      let f = lineFrom counts b in
+      let rs = members f (nbr b) (b + 1) (n - b) in
+      turn-next w h (lines-append rs _) (omega (arith, lines-length rs, members-length f (nbr b) (b + 1) (n - b))) p
 
 -- ---- the whole
 

@@ -5,15 +5,17 @@ ghost use mathlib.Core.List.{[]};
 ghost use Prim.Native.Nat.{_+_, _-_, _<_, _≤_};
 ghost use Rattle.busset.specs.Sets.{Bus, width, setOf};
 ghost use Rattle.case_line.specs.Record.{Formed};
-ghost use Rattle.case_line.specs.declared.Record.the-variants.{Line, Pmu};
-ghost use Rattle.grid.specs.Rows.{neighbours};
+ghost use Rattle.case_line.specs.declared.Record.the-variants.{Pmu};
+ghost use Rattle.grid.specs.Rows.{neighbours, circuits};
 ghost use lib.ListN.{length};
-ghost use Rattle.case_line.specs.CaseText.{busRecord, busRecords, members, lineRecords, linesText, recordsWith};
+ghost use Rattle.case_line.specs.CaseText.{busRecord, busRecords, members};
+ghost use Rattle.case_line.specs.CaseText.{lineFrom, lineRecords, linesText, recordsWith};
 ghost use Rattle.text_put.specs.Put.{Put, farLine};
 ghost use Rattle.case_write.specs.Lines.{lineText, farLines, farRows};
 use busset::BusSet;
 use case_line::Record;
 use grid::Rows;
+use grid::limits::LEAST_SEVERAL;
 
 // A record and its line feed where t, and nothing otherwise.
 fn put_if(out: &mut [u8], at: usize, t: bool, r: Record) -> usize
@@ -55,16 +57,32 @@ fn put_buses(out: &mut [u8], at: usize, n: usize, zero: BusSet, site: BusSet) ->
     k
 }
 
+// The line from a to b, which says its circuits where they are several.
+fn line_record(nbr: &Rows, a: usize, b: usize) -> Record
+    requires { ⌜ Bus width a × Bus width b ⌝ }
+    ensures { λ r. ⌜ r ≡ lineFrom (circuits (now (nbr .entry))) a b ⌝ }
+{
+    let k = grid::circuits(nbr, a, b);
+    if k < LEAST_SEVERAL {
+        return Record::Line(a, b);
+    }
+    Record::Circuits(a, b, k)
+}
+
 // The lines of bus a to the buses above it.
-fn put_row(out: &mut [u8], at: usize, n: usize, row: BusSet, a: usize) -> usize
+fn put_row(out: &mut [u8], at: usize, n: usize, nbr: &Rows, a: usize) -> usize
     requires { ⌜ (at < farLines) × (n ≤ width) × Bus n a ⌝ }
     ensures { λ k. ⌜ Put (now (out .entry)) at
-        (linesText (members (Line a) (setOf row) (a + 1) (n - a)))
+        (linesText (members (lineFrom (circuits (now (nbr .entry))) a)
+        (neighbours (now (nbr .entry)) a) (a + 1) (n - a)))
         (now (out .exit)) k ⌝ }
 {
+    let row = grid::row(nbr, a);
     let mut k = at;
     for b in a + 1..n + 1 {
-        k = put_if(out, k, busset::has(row, b), Record::Line(a, b));
+        if busset::has(row, b) {
+            k = crate::put_line(out, k, line_record(nbr, a, b));
+        }
     }
     k
 }
@@ -73,12 +91,12 @@ fn put_row(out: &mut [u8], at: usize, n: usize, row: BusSet, a: usize) -> usize
 fn put_lines(out: &mut [u8], at: usize, n: usize, nbr: &Rows) -> usize
     requires { ⌜ (at < farRows) × (n ≤ width) ⌝ }
     ensures { λ k. ⌜ Put (now (out .entry)) at
-        (linesText (lineRecords (neighbours (now (nbr .entry))) 1 n))
+        (linesText (lineRecords (neighbours (now (nbr .entry))) (circuits (now (nbr .entry))) 1 n))
         (now (out .exit)) k ⌝ }
 {
     let mut k = at;
     for a in 1..n + 1 {
-        k = put_row(out, k, n, grid::row(nbr, a), a);
+        k = put_row(out, k, n, nbr, a);
     }
     k
 }

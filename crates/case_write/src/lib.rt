@@ -43,6 +43,12 @@ pub fn put_line(out: &mut [u8], at: usize, r: Record) -> usize
             put_byte(out, d, 10)
         }
         Record::Line(x, y) => put_pair(out, at, b"line\t", x, b"\t", y),
+        Record::Circuits(x, y, k) => {
+            let a = put_tagged(out, at, b"line\t", x);
+            let b = put_tagged(out, a, b"\t", y);
+            let d = put_tagged(out, b, b"\t", k);
+            put_byte(out, d, 10)
+        }
         Record::Pmu(p) => {
             let a = put_tagged(out, at, b"pmu\t", p);
             put_byte(out, a, 10)

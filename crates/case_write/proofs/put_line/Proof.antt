@@ -103,10 +103,63 @@ put-tagged-requires-3 c κs =
     let at-pre = at-r4 .before .before .before in
     let f = subst Formed (at-r4 .r4 .given .1) (at-pre .pre .1) in omega arith
 
+slice-aggregate-put-tagged-4 : tie.Need-slice-aggregate-put-tagged-4
+slice-aggregate-put-tagged-4 c = search needs
+
+put-tagged-requires-4 : tie.Need-put-tagged-requires-4
+put-tagged-requires-4 c κs =
+    let at-put-tagged3 = c .before .before .before .before in
+    let at-r4 = at-put-tagged3 .before .before .before .before in
+    let at-pre = at-r4 .before .before .before in
+    let f = subst Formed (at-r4 .r4 .given .1) (at-pre .pre .1) in
+    omega (arith, at-put-tagged3 .put-tagged3 .ensures .next, text-length (at-r4 .r4 .given .0 .0))
+
+after-ends : (c : tie.After-put-tagged4) → c .put-tagged4 .result < farTagged
+after-ends c =
+    let at-put-tagged3 = c .before .before .before .before .before in
+    let at-r4 = at-put-tagged3 .before .before .before .before in
+    omega (
+      arith,
+      c .put-tagged4 .ensures .next,
+      text-length (at-r4 .r4 .given .0 .1 .0),
+      at-put-tagged3 .put-tagged3 .ensures .next,
+      text-length (at-r4 .r4 .given .0 .0),
+    )
+
+slice-aggregate-put-tagged-5 : tie.Need-slice-aggregate-put-tagged-5
+slice-aggregate-put-tagged-5 c = search needs
+
+put-tagged-requires-5 : tie.Need-put-tagged-requires-5
+put-tagged-requires-5 c κs =
+    let at-put-tagged4 = c .before .before .before .before in
+    let at-put-tagged3 = at-put-tagged4 .before .before .before .before .before in
+    let at-r4 = at-put-tagged3 .before .before .before .before in
+    let at-pre = at-r4 .before .before .before in
+    let f = subst Formed (at-r4 .r4 .given .1) (at-pre .pre .1) in omega (arith, after-ends at-put-tagged4)
+
 put-byte-requires-3 : tie.Need-put-byte-requires-3
 put-byte-requires-3 c κs =
+    let at-put-tagged5 = c .before .before .before in
+    let at-put-tagged4 = at-put-tagged5 .before .before .before .before .before in
+    let at-r4 = at-put-tagged4 .before .before .before .before .before .before .before .before .before in
+    omega (arith, after-ends at-put-tagged4, at-put-tagged5 .put-tagged5 .ensures .next, text-length (at-r4 .r4 .given .0 .1 .1 .0))
+
+enum-known-r-5 : tie.Need-enum-known-r-5
+enum-known-r-5 c = search needs
+
+slice-aggregate-put-tagged-6 : tie.Need-slice-aggregate-put-tagged-6
+slice-aggregate-put-tagged-6 c = search needs
+
+put-tagged-requires-6 : tie.Need-put-tagged-requires-6
+put-tagged-requires-6 c κs =
+    let at-r5 = c .before .before .before in
+    let at-pre = at-r5 .before .before .before in
+    let f = subst Formed (at-r5 .r5 .given .1) (at-pre .pre .1) in omega arith
+
+put-byte-requires-4 : tie.Need-put-byte-requires-4
+put-byte-requires-4 c κs =
     let at-put-tagged = c .before .before .before in
-    omega (arith, at-put-tagged .put-tagged3 .ensures .next, text-length (at-put-tagged .before .before .before .before .r4 .given .0 .0))
+    omega (arith, at-put-tagged .put-tagged6 .ensures .next, text-length (at-put-tagged .before .before .before .before .r5 .given .0 .0))
 
 enum-told : tie.Need-enum-told
 enum-told c = search needs
@@ -120,8 +173,8 @@ put-all-requires c κs = search needs
 enum-told-2 : tie.Need-enum-told-2
 enum-told-2 c = search needs
 
-put-byte-requires-4 : tie.Need-put-byte-requires-4
-put-byte-requires-4 c κs = search needs
+put-byte-requires-5 : tie.Need-put-byte-requires-5
+put-byte-requires-5 c κs = search needs
 
 same-length : tie.Need-same-length
 same-length c = search needs
@@ -156,20 +209,34 @@ same-length-4 c = search needs
 
 returns-4 : tie.Need-returns-4
 unfolding lineText recordText join
-returns-4 c = search (put-arm lineText, put-then)
+returns-4 c =
+    let at-put-byte3 = c .before .before in
+    let at-put-tagged5 = at-put-byte3 .before .before .before .before in
+    let at-put-tagged4 = at-put-tagged5 .before .before .before .before .before in
+    let at-put-tagged3 = at-put-tagged4 .before .before .before .before .before in
+    let at-r4 = at-put-tagged3 .before .before .before .before in
+    rw (at-r4 .r4 .given .1) (put-then (put-then (at-put-tagged3 .put-tagged3 .ensures) (put-then (at-put-tagged4 .put-tagged4 .ensures)
+    (at-put-tagged5 .put-tagged5 .ensures))) (at-put-byte3 .put-byte3 .ensures))
 
 same-length-5 : tie.Need-same-length-5
 same-length-5 c = search needs
 
 returns-5 : tie.Need-returns-5
 unfolding lineText recordText join
-returns-5 c = search (put-arm lineText)
+returns-5 c = search (put-arm lineText, put-then)
 
 same-length-6 : tie.Need-same-length-6
 same-length-6 c = search needs
 
 returns-6 : tie.Need-returns-6
-returns-6 c =
+unfolding lineText recordText join
+returns-6 c = search (put-arm lineText)
+
+same-length-7 : tie.Need-same-length-7
+same-length-7 c = search needs
+
+returns-7 : tie.Need-returns-7
+returns-7 c =
     let at-enum-told2 = c .before .before .before .before in
     let at-pre = at-enum-told2 .before .before .before in
     absurd (subst Formed (at-enum-told2 .enum-told2 .given .1) (at-pre .pre .1))
@@ -195,12 +262,20 @@ put-line-spec =
     enum-known-r-4
     slice-aggregate-put-tagged-3
     put-tagged-requires-3
+    slice-aggregate-put-tagged-4
+    put-tagged-requires-4
+    slice-aggregate-put-tagged-5
+    put-tagged-requires-5
     put-byte-requires-3
+    enum-known-r-5
+    slice-aggregate-put-tagged-6
+    put-tagged-requires-6
+    put-byte-requires-4
     enum-told
     slice-aggregate-put-all
     put-all-requires
     enum-told-2
-    put-byte-requires-4
+    put-byte-requires-5
     same-length
     returns
     same-length-2
@@ -212,4 +287,6 @@ put-line-spec =
     same-length-5
     returns-5
     same-length-6
-    returns-6)
+    returns-6
+    same-length-7
+    returns-7)

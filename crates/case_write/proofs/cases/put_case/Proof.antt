@@ -19,7 +19,7 @@ after-buses c =
 
 after-lines : (c : tie.After-put-lines) → c .put-lines .result ≤ lineRoom + rowRoom + rowRoom * mostBuses
 after-lines c =
-    omega (arith, after-buses (c .before .before .before .before), put-near (c .put-lines .ensures) (rows-most _ (search needs) _))
+    omega (arith, after-buses (c .before .before .before .before), put-near (c .put-lines .ensures) (rows-most _ (search needs) _ _))
 
 after-units : (c : tie.After-put-units) → c .put-units .result ≤ lineRoom + rowRoom + rowRoom * mostBuses + rowRoom
 after-units c =

@@ -3,7 +3,7 @@ use mathlib.Core.Path.{refl}
 use Prim.Native.Nat.{_-_}
 use native.Mathlib.Omega.{arith}
 use Rattle.case_read.proofs.Lengths.{rowRoom}
-use Rattle.grid.specs.Rows.{neighbours}
+use Rattle.grid.specs.Rows.{neighbours, circuits}
 use Rattle.case_line.specs.CaseText.{lineRecords}
 use Rattle.case_write.proofs.Turns.{Turn, turn-first, turn-row, turn-all}
 use borrow.Author.Needs.{needs}
@@ -11,7 +11,7 @@ use Rattle.case_write.proofs.cases.put_lines.Statement.{statement}
 use Rattle.case_write.proofs.cases.put_lines.Tie as tie
 
 abbrev Inv-loop : tie.InvT-loop
-Inv-loop out₀ at n nbr k₀ a₀ a-end out k a = Turn (lineRecords (neighbours nbr)) rowRoom 1 n n out₀ at a-end out k a
+Inv-loop out₀ at n nbr k₀ a₀ a-end out k a = Turn (lineRecords (neighbours nbr) (circuits nbr)) rowRoom 1 n n out₀ at a-end out k a
 
 abbrev μ-loop : tie.MeasureT-loop
 μ-loop out₀ at n nbr k₀ a₀ a-end out k a = a-end - a
@@ -21,9 +21,6 @@ add-a-end c = search needs
 
 loop-holds : tie.Need-loop-holds Inv-loop μ-loop
 loop-holds c = turn-first (omega arith) (omega arith)
-
-row-requires : tie.Need-row-requires Inv-loop μ-loop
-row-requires c κs = search needs
 
 put-row-requires : tie.Need-put-row-requires Inv-loop μ-loop
 put-row-requires c κs = search needs
@@ -52,7 +49,6 @@ put-lines-spec =
     μ-loop
     add-a-end
     loop-holds
-    row-requires
     put-row-requires
     add-a
     loop-less
