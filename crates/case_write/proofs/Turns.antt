@@ -8,6 +8,7 @@ use borrow.Author.Tests.{eq-eqb, ne-eqb}
 use lib.Dec.{ltb}
 use lib.ListN.{length, length-append}
 use Rattle.grid.specs.Limits.{mostBuses, mostCircuits, leastSeveral}
+use Rattle.grid.proofs.Joined.{circuits-few}
 use Rattle.grid.specs.Rows.{Rows, circuits}
 use Rattle.basics.specs.Deciding.{Decides}
 use Rattle.busset.specs.Sets.{bit, In}
@@ -43,11 +44,6 @@ line-length r = simp length-append (omega (arith, record-length r))
 lined-length : (t : Bool) (r : Record) → length (cond t (lineText r) []) ≤ lineRoom
 lined-length true r = line-length r
 lined-length false r = omega arith
-
--- rows count circuits by four binary digits
-circuits-few : (rows : Rows) (a b : ℕ) → circuits rows a b < 2 * mostCircuits
-unfolding circuits
-circuits-few rows a b = omega arith
 
 -- a line from bus to bus, by any circuits that rows can count, may be put
 pub line-formed : (rows : Rows) {a b : ℕ} → a ≤ mostBuses → b ≤ mostBuses → Formed (lineFrom (circuits rows) a b)

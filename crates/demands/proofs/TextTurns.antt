@@ -13,7 +13,7 @@ use Rattle.text_field.specs.Split.{split, lineFeed}
 use Rattle.case_line.specs.Record.{recordOf}
 use Rattle.step_line.specs.StepLine.{stepLineOf}
 use Rattle.case_line.specs.declared.Record.{Record}
-use Rattle.case_line.specs.declared.Record.the-variants.{Grid, Bus, Line, Pmu, End, Wrong}
+use Rattle.case_line.specs.declared.Record.the-variants.{Grid, Bus, Line, Circuits, Pmu, End, Wrong}
 use Rattle.step_line.specs.declared.StepLine.{StepLine}
 use Rattle.step_line.specs.declared.StepLine.the-variants as line
 use Rattle.case_judge.specs.Judging.{inOrder}
@@ -37,6 +37,7 @@ after-record : (P : List Check → Type 0) (x : Record) (end on : List Check) �
 after-record P (Grid n) end on p q = q
 after-record P (Bus b z site) end on p q = q
 after-record P (Line a b) end on p q = q
+after-record P (Circuits a b k) end on p q = q
 after-record P (Pmu b) end on p q = q
 after-record P End end on p q = p
 after-record P Wrong end on p q = q
