@@ -7,7 +7,7 @@ use native.Mathlib.Omega.{arith}
 use lib.Count.{ones, onesIn}
 use lib.ListN.{length, getD}
 use Rattle.busset.proofs.Holding.{word-own}
-use Rattle.busset.specs.Sets.{add, setOf}
+use Rattle.busset.specs.Sets.{add, lack, less, setOf}
 use Rattle.busset.specs.Bytes.{byteOf, bytesFrom}
 use Rattle.busset.specs.Held.{SetWord}
 use Rattle.busset.specs.Held as held
@@ -23,8 +23,8 @@ use Rattle.refusals.specs.declared.Refusal.{Refusal}
 use Rattle.refusals.specs.declared.Refusal.the-variants.{WrongForm, OutOfRange, ReasonFails, OverBudget, NoCover}
 use Rattle.refusals.proofs.Orders.{itself}
 use Rattle.case_line.specs.CaseText.{members, linesText}
-use Rattle.grid.specs.Rows.{setAt, neighbours}
-use Rattle.case_judge.specs.Judging.{isBus, isAfter, pastBuses, judged}
+use Rattle.grid.specs.Rows.{setAt, neighbours, circuits, withBit, withCircuits, withEnd, withLine}
+use Rattle.case_judge.specs.Judging.{isBus, isSeveral, isAfter, pastBuses, judged}
 use Rattle.case_read.specs.Reading.{readLines, readText, readCase}
 use Rattle.report_lines.specs.Printing.{refusedText}
 use Rattle.report_day.specs.Day.{DayPrinted, stepsText}

@@ -4,7 +4,7 @@ use mathlib.Core.List.{List}
 use native.Mathlib.Omega.{arith}
 use lib.Count.{ones, onesIn}
 use lib.ListN.{length, getD}
-use Rattle.busset.specs.Sets.{add, setOf}
+use Rattle.busset.specs.Sets.{add, lack, less, setOf}
 use Rattle.busset.specs.Held as held
 use Rattle.step.specs.Records.{noStep}
 use Rattle.step.specs.declared.Step.{Step}
@@ -14,9 +14,9 @@ use Rattle.case_line.specs.Fields.{markOf, ifOneField, ifNoField}
 use Rattle.case_line.specs.Record.{recordWordOf, lineFields, busFields, recordOf, recordText}
 use Rattle.step_line.specs.StepLine.{letteredFields, stepWordOf, reasonFields, stepFields, stepLineOf, stepText}
 use Rattle.grid.specs.Limits.{mostBuses}
-use Rattle.grid.specs.Rows.{setAt, neighbours}
+use Rattle.grid.specs.Rows.{setAt, neighbours, circuits, withBit, withCircuits, withEnd, withLine}
 use Rattle.case_inverse.proofs.Grammars.{reads-read, not-got, read-reads}
-use Rattle.case_judge.specs.Judging.{isBus, isAfter, pastBuses, judged}
+use Rattle.case_judge.specs.Judging.{isBus, isSeveral, isAfter, pastBuses, judged}
 use Rattle.case_read.specs.Reading.{start, readLines, readText, readCase}
 use Rattle.case_line.specs.CaseText.{busRecords, members, lineRecords, linesText}
 use Rattle.step_text.specs.Steps.{stepInRange, stepLines, readSteps, stepsIn, stepsFrom}
@@ -42,6 +42,7 @@ cases-right = refl
 
 pub texts-right : case.CaseTextsRight
 unfolding busRecords members lineRecords linesText recordText join digits neighbours held.hold held.wordOf add setOf setAt circuits
+    withLine withEnd withCircuits withBit less lack
 texts-right = refl
 
 pub allowed-right : AllRight case.grammarTable
@@ -54,7 +55,7 @@ allowed-right =
     & tt
 
 pub wired-right : case.WiredRight
-unfolding held.hold held.wordOf neighbours setAt
+unfolding withLine withEnd withCircuits withBit setAt neighbours less lack add setOf held.hold held.wordOf
 wired-right = refl
 
 pub whole-right : case.WholeTextsRight

@@ -27,7 +27,7 @@ use Rattle.rules.proofs.Ordering.{fewest-some}
 use Rattle.tables.proofs.Tests.{above, withinTest, bus-passes}
 use Rattle.refusals.specs.declared.Refusal.the-variants.{InvalidCase, NoSuchBus, ReasonFails, OverBudget, NoCover}
 use Rattle.grid.specs.Limits.{mostBudget}
-use Rattle.grid.specs.Rows.{setAt, neighbours}
+use Rattle.grid.specs.Rows.{setAt, neighbours, circuits, withBit, withCircuits, withEnd, withLine}
 use Rattle.grid.specs.Cases.{Valid}
 use Rattle.refusals.specs.Refusals.{Failed, numberOf}
 use Rattle.refusals.proofs.Orders.{itself, failed-or-passed, failed-unique}

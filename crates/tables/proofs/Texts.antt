@@ -65,8 +65,18 @@ record-lines-right = refl
 
 pub formed-right : AllRight records.formedTable
 formed-right =
-    omega arith & (λ h. omega arith) & omega arith & (λ h. omega arith) & (omega arith, omega arith) & (λ h. omega arith) & omega
-    arith & tt & (λ h. h) & tt
+    omega arith
+    & (λ h. omega arith)
+    & omega arith
+    & (λ h. omega arith)
+    & (omega arith, omega arith)
+    & (λ h. omega arith)
+    & (omega arith, omega arith, omega arith)
+    & (λ h. omega arith)
+    & omega arith
+    & tt
+    & (λ h. h)
+    & tt
 
 pub step-lines-right : records.StepLinesRight
 unfolding stepLineOf stepWordOf letteredFields reasonFields stepFields ifOneField ifNoField split same isDigit takesDigit numberFrom

@@ -50,7 +50,7 @@ returns-4 : tie.Need-returns-4
 returns-4 c = search needs
 
 returns-5 : tie.Need-returns-5
-returns-5 c = 
+returns-5 c =
     let at-r2 = c .before .before in
     let e = at-r2 .r2 .given .1 in
     rw e (cc (hold-is _ _ (pmu-fit _ e (at-r2 .before .before .pre) .some) (c .with .ensures)))
