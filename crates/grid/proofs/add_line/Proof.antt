@@ -1,9 +1,16 @@
 -- One end, then the other.
-use Rattle.grid.specs.Rows.{withLine}
+use mathlib.Core.Path.{_≡_}
+use Prim.Native.Nat.{ℕ}
+use Rattle.grid.specs.Rows.{Rows, withEnd, withLine}
 use borrow.Author.Needs.{needs}
 use Rattle.grid.proofs.add_line.Statement.{statement}
 use Rattle.grid.proofs.add_line.Tie as tie
 use Rattle.grid.proofs.add_end.Reads as add-end-reads
+
+-- the rows after both
+ends-put : (rows : Rows) (a b k : ℕ) {half new : Rows} → half ≡ withEnd rows a b k → new ≡ withEnd half b a k → new ≡ withLine rows a b k
+unfolding withLine
+ends-put rows a b k e f = cc (e, f)
 
 add-end-requires : tie.Need-add-end-requires
 add-end-requires c κs = search needs
@@ -12,8 +19,7 @@ add-end-requires-2 : tie.Need-add-end-requires-2
 add-end-requires-2 c κs = search needs
 
 returns : tie.Need-returns
-unfolding withLine
-returns c = cc (c .add-end2 .ensures, c .before .before .add-end .ensures)
+returns c = ends-put _ _ _ _ (c .before .before .add-end .ensures) (c .add-end2 .ensures)
 
 pub add-line-spec : {M : Type 1} → statement M
 add-line-spec = tie.close (tie.spec add-end-requires add-end-requires-2 returns)
