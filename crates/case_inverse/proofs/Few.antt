@@ -48,7 +48,8 @@ Rising c p (Pmu k ∷ L) = ⊥
 Rising c p (End ∷ L) = ⊥
 Rising c p (Wrong ∷ L) = ⊥
 
-rising-line : (c : Case) (p a b k : ℕ) (L : List Record) → LineBeyond c p a b → Rising c (linePlace a b) L → Rising c p (lineRecord a b k ∷ L)
+rising-line : (c : Case) (p a b k : ℕ) (L : List Record) → LineBeyond c p a b → Rising c (linePlace a b) L
+    → Rising c p (lineRecord a b k ∷ L)
 rising-line c p a b k L y f = go (ltb k leastSeveral)
   where
     go : (t : Bool) → Rising c p (cond t (Line a b) (Circuits a b k) ∷ L)

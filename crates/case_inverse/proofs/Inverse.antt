@@ -25,7 +25,7 @@ use Rattle.case_inverse.proofs.Places.Ask.{zeroAt, siteAt, unitAt, line
 use Rattle.case_inverse.proofs.Texts.{begun, first-stand, reads-of, of-reads, same-text}
 use Rattle.case_inverse.proofs.Written.{Above, Writable, linesOf, readable}
 use Rattle.case_inverse.proofs.Few.{read-few}
-use Rattle.case_inverse.proofs.Soundness.{read-sound, known}
+use Rattle.case_inverse.proofs.Soundness.{Sound, read-sound, known}
 use Rattle.case_inverse.proofs.Lengths.{lines-append, lines-short}
 
 -- ---- a valid case is written
@@ -75,12 +75,15 @@ text-within c v =
       lines-length (End ∷ []),
     ))
 
+valid-sound : (c : Case) → Sized c → Valid c → Sound c
+valid-sound c l v = record { sized = l; proper = v .proper; counts = record { joins = v .joined; others = v .others; alike = v .alike } }
+
 -- reading what is written for a valid case gives that case
 pub read-written : (c : Case) → Sized c → Valid c → readCase (caseText c) ≡ got c
 read-written c l v =
     let r = readable c (writable c v) in
     let e : c ≡ r .case′ =
-    known c (r .case′) (v .buses .most) (r .size) (record { sized = l; proper = v .proper; counts = record { joins = v .joined; others = v .others; alike = v .alike } })
+    known c (r .case′) (v .buses .most) (r .size) (valid-sound c l v)
     (read-sound _ (r .case′) (r .reads)) (r .agree) in
     of-reads (caseText c) c (text-within c v) (subst⁻¹ (λ (d : Case). ReadsAs start (caseText c) d) e (r .reads))
 

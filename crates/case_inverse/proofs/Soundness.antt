@@ -64,7 +64,7 @@ pairs P a b this that other i j =
         (λ (d : x ≡ y → ⊥). inr (λ p. d (p .0))) (same-or x y)
 
 -- what each bus counts, as refusal 5 asks
-pub record Counted (rows : Rows) : Type 0 where
+pub record CountedRows (rows : Rows) : Type 0 where
   pub joins : (a : ℕ) → JoinedCounted rows a
   pub others : (a : ℕ) → OthersUncounted rows a
   pub alike : (a : ℕ) → CountedAlike rows a
@@ -86,14 +86,14 @@ module _ (rows : Rows) (a b k : ℕ) (l : length rows ≡ rowsLength) (p : Pair 
         back = same-joined (line-other rows a b k l p j i (λ x y. v y x) (λ x y. u y x)) ∙ g .back;
       })
 
-  module _ (n : IsBus mostCircuits k) (old : Counted rows) where
+  module _ (n : IsBus mostCircuits k) (old : CountedRows rows) where
     here : circuits new a b ≡ k
     here = count-here rows a b k l p (omega (arith, n .most))
 
     there : circuits new b a ≡ k
     there = count-back rows a b k l p (omega (arith, n .most))
 
-    with-counts : Counted new
+    with-counts : CountedRows new
     with-counts = record {
       joins = pairs (λ i j. In (neighbours new i) j → IsBus mostCircuits (circuits new i j)) a b
           (λ h. subst⁻¹ (IsBus mostCircuits) here n) (λ h. subst⁻¹ (IsBus mostCircuits) there n)
@@ -110,7 +110,7 @@ module _ (rows : Rows) (a b k : ℕ) (l : length rows ≡ rowsLength) (p : Pair 
 -- the grid that has been read is proper, and its circuits are counted
 pub record ProperAt (s : Reader) : Type 0 where
   pub proper : ProperGrid (gridOf (caseSoFar s))
-  pub counts : Counted (s .rows)
+  pub counts : CountedRows (s .rows)
 
 line-proper : (s : Reader) (a b k : ℕ) → Sized (caseSoFar s) → Pair a b → inRange (s .place) (Line a b) ≡ true → IsBus mostCircuits k
     → ProperAt s → ProperAt (lineRead s a b k)
@@ -133,7 +133,12 @@ proper-next s (Bus k z o) l g f e c =
     let b = inside (s .place .n) k e in
     let d = c .proper in
     record {
-      proper = record { lines = d .lines; zeros = if-within z _ _ k b (d .zeros); sites = if-within o _ _ k b (d .sites); units = d .units };
+      proper = record {
+        lines = d .lines;
+        zeros = if-within z _ _ k b (d .zeros);
+        sites = if-within o _ _ k b (d .sites);
+        units = d .units;
+      };
       counts = c .counts;
     }
 proper-next s (Line a b) l g f e c = line-proper s a b 1 l (f .pair) e (line-count (single {a = a} {b = b})) c
@@ -158,7 +163,7 @@ proper-next s Wrong l g f e c = absurd f
 pub record Sound (c : Case) : Type 0 where
   pub sized : Sized c
   pub proper : ProperGrid (gridOf c)
-  pub counts : Counted (c .nbr)
+  pub counts : CountedRows (c .nbr)
 
 sound-reads : {s : Reader} {p : ℕ} {x : List ℕ} {c : Case} → Stand s p → ProperAt s → ReadsAs s x c → Sound c
 sound-reads t o (ends e) = record { sized = t .at .sized; proper = o .proper; counts = o .counts }

@@ -127,7 +127,8 @@ module _ {s : Reader} {p : ℕ} {c : Case} (t : Stand s p) where
       → Settled c (nextReader s r) (recordPlace r) → Settled c (nextReader s q) (recordPlace q)
       → recordPlace r < recordPlace q → ⊥
   line-missed {r} {a} {b} y q u v m n l =
-      missed {c = c} r q (lineAt a b) t u v m n (line-pair (s .place) y (u .fact)) (sym (line-place y)) (omega (arith, line-answered t y u)) l
+      missed {c = c} r q (lineAt a b) t u v m n (line-pair (s .place) y (u .fact)) (sym (line-place y))
+      (omega (arith, line-answered t y u)) l
 
   unit-missed : (k : ℕ) (r : Record) → Stepped s p (Pmu k) → Stepped s p r → Settled c (nextReader s (Pmu k)) (recordPlace (Pmu k))
       → Settled c (nextReader s r) (recordPlace r)
@@ -152,7 +153,8 @@ module _ {s : Reader} {p : ℕ} {c : Case} (t : Stand s p) where
         n (lineAt i j) hv (omega (arith, line-place z)),
         line-answered t z v,
       ) in
-      line-by-same y (subst⁻¹ (λ (x : ℕ). LineBy q x b k) (f .0) (subst⁻¹ (λ (x : ℕ). LineBy q i x k) (f .1) (subst⁻¹ (LineBy q i j) same z)))
+      line-by-same y
+      (subst⁻¹ (λ (x : ℕ). LineBy q x b k) (f .0) (subst⁻¹ (λ (x : ℕ). LineBy q i x k) (f .1) (subst⁻¹ (LineBy q i j) same z)))
 
   units : (k j : ℕ) → Stepped s p (Pmu k) → Stepped s p (Pmu j) → Settled c (nextReader s (Pmu k)) (recordPlace (Pmu k))
       → Settled c (nextReader s (Pmu j)) (recordPlace (Pmu j)) → Pmu k ≡ Pmu j
@@ -172,7 +174,8 @@ module _ {s : Reader} {p : ℕ} {c : Case} (t : Stand s p) where
   same-record (Bus k z o) (Pmu j) d e u v m n = absurd (omega (arith, u .fact .more, v .fact .past))
   same-record (Bus k z o) End d e u v m n = absurd (not-end (s .place) End e refl)
   same-record (Bus k z o) Wrong d e u v m n = absurd (v .fact)
-  same-record (Line a b) q d e u v m n = line-record t single q (λ i j h l. lines single l u v m n) (u .fact) e v (line-missed single q u v m n)
+  same-record (Line a b) q d e u v m n =
+      line-record t single q (λ i j h l. lines single l u v m n) (u .fact) e v (line-missed single q u v m n)
   same-record (Circuits a b k) q d e u v m n =
       let y = multiple (u .fact .1) in line-record t y q (λ i j h l. lines y l u v m n) (u .fact .0) e v (line-missed y q u v m n)
   same-record (Pmu k) (Grid n) d e u v m n′ = absurd (omega (arith, v .fact, t .grid))

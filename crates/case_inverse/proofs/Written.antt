@@ -246,13 +246,15 @@ line-on : {c : Case} {s : Reader} {r : Record} {a b k : ℕ} {rs : List Record} 
 line-on {a = a} {b = b} single e t = read-on (Line a b) e t
 line-on {a = a} {b = b} {k = k} (multiple v) e t = read-on (Circuits a b k) e t
 
-line-upto : {c : Case} {s : Reader} {p : ℕ} {r : Record} {a b k : ℕ} → LineBy r a b k → Upto c s p (linePlace a b) → judged (s .place) r ≡ Next
+line-upto : {c : Case} {s : Reader} {p : ℕ} {r : Record} {a b k : ℕ} → LineBy r a b k → Upto c s p (linePlace a b)
+    → judged (s .place) r ≡ Next
     → ((q : Ask) → AskInRange q → place q ≡ linePlace a b → answer c q ≡ answer (caseSoFar (lineRead s a b k)) q)
     → Upto c (lineRead s a b k) (linePlace a b) (linePlace a (b + 1))
 line-upto {a = a} {b = b} single u e h = take-next (Line a b) (linePlace a (b + 1)) (next-spot _ _ _) u e refl h
 line-upto {a = a} {b = b} {k = k} (multiple v) u e h = take-next (Circuits a b k) (linePlace a (b + 1)) (next-spot _ _ _) u e refl h
 
-line-answer : (c : Case) (s : Reader) (a b : ℕ) → Sized (caseSoFar s) → Pair a b → joined (c .nbr) a b ≡ 1 → IsBus mostCircuits (countOf c a b)
+line-answer : (c : Case) (s : Reader) (a b : ℕ) → Sized (caseSoFar s) → Pair a b → joined (c .nbr) a b ≡ 1
+    → IsBus mostCircuits (countOf c a b)
     → (q : Ask) → AskInRange q → place q ≡ linePlace a b → answer c q ≡ answer (caseSoFar (lineRead s a b (countOf c a b))) q
 line-answer c s a b l y t n =
     at-line (λ (q : Ask). answer c q ≡ answer (caseSoFar (lineRead s a b (countOf c a b))) q) a b y

@@ -1,4 +1,5 @@
--- A case's text: `grid n`; n records `bus number class site`; `line a b` or `line a b circuits`, a below b, rising by a then b; `pmu number`, rising; `end`.
+-- A case's text: `grid n`; n records `bus number class site`; `line a b` or `line a b circuits`, a below b, rising by a then b;
+-- `pmu number`, rising; `end`.
 use mathlib.Core.Bool.{Bool, cond}
 use mathlib.Core.List.{List, [], _∷_, _++_}
 use Prim.Native.Nat.{ℕ, zero, suc, _+_}

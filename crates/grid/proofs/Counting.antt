@@ -14,18 +14,18 @@ use Rattle.grid.proofs.Rows.{row-set}
 
 -- ---- counted: the highest digit stands alone, and the buses with a digit are the neighbours
 
--- the digits of bus b that are asked
-pub record Asked (rows : Rows) (b one two three four : ℕ) : Type 0 where
+-- the digits of bus b
+pub record DigitSets (rows : Rows) (b one two three four : ℕ) : Type 0 where
   pub first : one ≡ setAt rows b 1
   pub second : two ≡ setAt rows b 2
   pub third : three ≡ setAt rows b 3
   pub fourth : four ≡ setAt rows b 4
 
-pub asked : {rows : Rows} {b one two three four : ℕ} → one ≡ setAt rows b 1 → two ≡ setAt rows b 2 → three ≡ setAt rows b 3
-    → four ≡ setAt rows b 4 → Asked rows b one two three four
-asked first second third fourth = record { first = first; second = second; third = third; fourth = fourth }
+pub digit-sets : {rows : Rows} {b one two three four : ℕ} → one ≡ setAt rows b 1 → two ≡ setAt rows b 2 → three ≡ setAt rows b 3
+    → four ≡ setAt rows b 4 → DigitSets rows b one two three four
+digit-sets first second third fourth = record { first = first; second = second; third = third; fourth = fourth }
 
-module _ {rows : Rows} {b one two three four : ℕ} (q : Asked rows b one two three four) where
+module _ {rows : Rows} {b one two three four : ℕ} (q : DigitSets rows b one two three four) where
   count-is : (a : ℕ) → circuits rows b a ≡ bit one a + 2 * (bit two a + 2 * (bit three a + 2 * bit four a))
   unfolding circuits
   count-is a =

@@ -54,10 +54,6 @@ row-zero rows = row-set rows 0 ∙ set-none rows 0 (omega arith)
 pub row-past : (rows : Rows) (b : ℕ) → length rows + busSets ≤ busSets * b → neighbours rows b ≡ empty
 row-past rows b l = row-set rows b ∙ set-past rows b 0 l
 
-pub row-bus : (rows : Rows) (b : ℕ) → Out (neighbours rows b) 0
-unfolding neighbours
-row-bus rows b = set-bus rows b 0
-
 -- ---- after a set is put
 
 module _ (rows : Rows) (x i : ℕ) (w : SetWord) (h : 1 ≤ x) (k : i < busSets) where

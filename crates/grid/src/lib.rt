@@ -1,4 +1,5 @@
-// The case value, what it says of lines and their circuits, and when it is valid; buses with their neighbours; whether a set has all buses.
+// The case value, what it says of lines and circuits, and when it is valid; buses with their neighbours; whether a set
+// has all buses.
 ghost use mathlib.Core.Path.{_≡_};
 ghost use mathlib.Core.Bool.{cond};
 ghost use Prim.Native.Nat.{_≤_, _<_};

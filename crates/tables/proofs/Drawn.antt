@@ -115,12 +115,14 @@ lines-rows n ws =
 
 -- a case value with proper neighbours is valid: its circuits are one to each
 pub filled-valid : (c : Case) → Bus mostBuses (c .n) → Lines (c .n) (writtenRow (c .nbr)) → Within (c .n) (setOf (c .zero))
-    → Within (c .n) (setOf (c .site)) → Within (c .n) (setOf (c .units)) → lineCount (c .n) (writtenRow (c .nbr)) ≤ mostLines → Valid (filled c)
+    → Within (c .n) (setOf (c .site)) → Within (c .n) (setOf (c .units)) → lineCount (c .n) (writtenRow (c .nbr)) ≤ mostLines
+    → Valid (filled c)
 filled-valid c buses lines zeros sites units few =
     let m = busSets * (mostBuses - length (c .nbr)) in
     let same = written-is (c .nbr) m in
     let one = one-circuit (c .nbr) m in
-    let at : (a b : ℕ) → bit (neighbours (filled c .nbr) a) b ≡ bit (writtenRow (c .nbr) a) b = λ a b. ap (λ (f : ℕ → ℕ). bit (f a) b) same in
+    let at : (a b : ℕ) → bit (neighbours (filled c .nbr) a) b ≡ bit (writtenRow (c .nbr) a) b =
+    λ a b. ap (λ (f : ℕ → ℕ). bit (f a) b) same in
     record {
       buses = buses;
       proper = subst⁻¹ (λ (nbr : ℕ → ℕ). Proper (record {

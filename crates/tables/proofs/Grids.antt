@@ -52,7 +52,8 @@ table-right = refl
 -- ---- which case values are valid
 
 pub valid-right : AllRight grids.validTable
-unfolding validTest linesTest withinTest above rowTest total lack upTo neighbours hold wordOf add setOf ones onesIn setAt writtenRow circuits withCircuits withBit less
+unfolding validTest linesTest withinTest above rowTest total lack less upTo writtenRow neighbours setAt circuits withCircuits withBit hold
+    wordOf add setOf ones onesIn
 valid-right =
     filled-passes (shortCase (seven (3 ∷ []))) refl
     & filled-passes (shortCase path) refl

@@ -245,7 +245,8 @@ fewests-right =
 
 pub texts-right : AllRight tables.textReplyTable
 unfolding readCase readText readLines readSteps stepLines stepLineOf stepWordOf ifNoField split same validTest linesTest withinTest above
-    rowTest total busRecords members lineRecords linesText recordText join digits neighbours setOf ones onesIn lack setAt writtenRow withLine
+    rowTest total busRecords members lineRecords linesText recordText join digits neighbours setOf ones onesIn lack setAt writtenRow
+    withLine
     withEnd withCircuits withBit less circuits
 texts-right =
     refl

@@ -70,12 +70,12 @@ doubleInput =
     "grid 3" ∷ "bus 1 I Y" ∷ "bus 2 Z Y" ∷ "bus 3 I Y" ∷ "line 1 2" ∷ "line 2 3 2" ∷ "pmu 1" ∷ "end" ∷ []
 
 -- the same, with single circuits
-abbrev pub row : Drawing
-row = record { n = 3; lines = (1, 2) ∷ (2, 3) ∷ []; zeros = 2 ∷ []; units = 1 ∷ [] }
+abbrev pub singleRow : Drawing
+singleRow = record { n = 3; lines = (1, 2) ∷ (2, 3) ∷ []; zeros = 2 ∷ []; units = 1 ∷ [] }
 
 -- its case
 abbrev pub doubleCase : Case
-doubleCase = lineAdded (drawnCase row) 2 3 2
+doubleCase = lineAdded (drawnCase singleRow) 2 3 2
 
 -- the case of the one bus
 abbrev pub oneCase : Case

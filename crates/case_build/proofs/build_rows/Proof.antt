@@ -21,7 +21,8 @@ enum-known-r-2 : tie.Need-enum-known-r-2
 enum-known-r-2 c = search needs
 
 add-line-requires-2 : tie.Need-add-line-requires-2
-add-line-requires-2 c κs = let f = circuits-fit _ (c .before .before .r2 .given .1) (c .before .before .before .before .pre) .0 in (f .0, f .1)
+add-line-requires-2 c κs =
+    let f = circuits-fit _ (c .before .before .r2 .given .1) (c .before .before .before .before .pre) .0 in (f .0, f .1)
 
 enum-told-3 : tie.Need-enum-told-3
 enum-told-3 c = search needs

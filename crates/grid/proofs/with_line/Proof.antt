@@ -2,7 +2,7 @@
 use mathlib.Core.Path.{_≡_, ap}
 use Prim.Native.Nat.{ℕ}
 use Rattle.grid.specs.Rows.{Rows, withLine}
-use Rattle.grid.specs.Cases.{caseOf, lined}
+use Rattle.grid.specs.Cases.{caseOf, lineAdded}
 use Rattle.grid.specs.declared.Case.{Case}
 use borrow.Author.Needs.{needs}
 use Rattle.grid.proofs.with_line.Statement.{statement}
@@ -11,7 +11,7 @@ use Rattle.grid.proofs.add_line.Reads as add-line-reads
 
 -- the case of the changed rows
 rows-put : (c : Case) (a b k : ℕ) {rows : Rows} → rows ≡ withLine (c .nbr) a b k
-    → caseOf (c .n) rows (c .zero) (c .site) (c .units) ≡ lined c a b k
+    → caseOf (c .n) rows (c .zero) (c .site) (c .units) ≡ lineAdded c a b k
 rows-put c a b k e = ap (λ (rows : Rows). caseOf (c .n) rows (c .zero) (c .site) (c .units)) e
 
 add-line-requires : tie.Need-add-line-requires

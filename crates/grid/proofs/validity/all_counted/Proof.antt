@@ -27,7 +27,9 @@ is-counted-requires : tie.Need-is-counted-requires Inv-loop μ-loop
 is-counted-requires c κs = search needs
 
 returns : tie.Need-returns Inv-loop μ-loop
-returns c = decides-no (λ all. let here = all _ in refutes (c .before .is-counted .ensures) (not-true _ (c .if1 .taken)) (here .joined, here .others))
+returns c =
+    decides-no (λ all. let here = all _ in
+    refutes (c .before .is-counted .ensures) (not-true _ (c .if1 .taken)) (here .joined, here .others))
 
 is-alike-requires : tie.Need-is-alike-requires Inv-loop μ-loop
 is-alike-requires c κs = search needs

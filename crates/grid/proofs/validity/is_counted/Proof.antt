@@ -1,7 +1,7 @@
 -- The highest digit alone is the most circuits. So the counts are right where it shares no bus, and the digits are the neighbours.
 use borrow.Author.Tests.{not-true, not-false}
 use Rattle.basics.proofs.Tests.{refutes, decides-no, decides-by}
-use Rattle.grid.proofs.Counting.{asked, counted-apart, counted-same, same-counted}
+use Rattle.grid.proofs.Counting.{digit-sets, counted-apart, counted-same, same-counted}
 use borrow.Author.Needs.{needs}
 use Rattle.grid.proofs.validity.is_counted.Statement.{statement}
 use Rattle.grid.proofs.validity.is_counted.Tie as tie
@@ -45,7 +45,7 @@ returns c =
     let pairs = third .before in
     let second = pairs .before in
     decides-no (λ p. refutes (c .before .is-none .ensures) (not-true _ (c .if1 .taken)) (counted-apart
-    (asked (second .before .set-at .ensures) (second .set-at2 .ensures) (third .set-at3 .ensures) (fourth .set-at4 .ensures))
+    (digit-sets (second .before .set-at .ensures) (second .set-at2 .ensures) (third .set-at3 .ensures) (fourth .set-at4 .ensures))
     (pairs .union .ensures) (low .union2 .ensures) (shared .both .ensures) (p .0) (p .1)))
 
 row-requires : tie.Need-row-requires
@@ -66,12 +66,13 @@ returns-2 c =
     let third = low .before in
     let pairs = third .before in
     let second = pairs .before in
-    let q = asked (second .before .set-at .ensures) (second .set-at2 .ensures) (third .set-at3 .ensures) (fourth .set-at4 .ensures) in
+    let q = digit-sets (second .before .set-at .ensures) (second .set-at2 .ensures) (third .set-at3 .ensures) (fourth .set-at4 .ensures) in
     let row = c .before .before .row .ensures in
     decides-by
     (same-counted q (pairs .union .ensures) (low .union2 .ensures) (shared .both .ensures) row (c .before .union3 .ensures)
     (apart .before .is-none .ensures .yes (not-false _ (apart .if1 .left))))
-    (λ p. counted-same q (pairs .union .ensures) (low .union2 .ensures) (shared .both .ensures) row (c .before .union3 .ensures) (p .0) (p .1))
+    (λ p. counted-same q (pairs .union .ensures) (low .union2 .ensures) (shared .both .ensures) row (c .before .union3 .ensures) (p .0)
+    (p .1))
     (c .same .ensures)
 
 pub is-counted-spec : {M : Type 1} → statement M
