@@ -1,11 +1,12 @@
-"""Document 01's rules of observation and of steps, written from the document alone, on sets of bus numbers.
+"""Document 01's rules of observation and of steps, and document 02's circuits, on sets of bus numbers.
 
+It is written from the documents alone. The rules see one neighbour, however many circuits the line to it has.
 A step is a pair: its bus, and its reason, which is ("O",), ("N", p) or ("Z", w).
 """
 import copy
 import functools
 
-MOST_BUSES, MOST_LINES, MOST_STEPS = 64, 256, 1024
+MOST_BUSES, MOST_LINES, MOST_CIRCUITS, MOST_STEPS = 64, 256, 8, 1024
 
 
 class Refused(Exception):
@@ -13,28 +14,58 @@ class Refused(Exception):
 
 
 class Case:
-    """A case value: n; the buses that each bus sees a line to; the Z buses, the Y sites and the units.
+    """A case value: n; the buses that each bus sees a line to; the circuits; the Z buses, the Y sites and the units.
 
-    Any number may be n, and any bus from 1 to 64 may be in the rest. A case is not changed after the first call.
+    `circuits` has how many circuits bus a counts to bus b, at (a, b); a pair that it does not have is counted 0.
+    Any number may be n, any bus from 1 to 64 may be in the rest, and any number from 0 to 15 may be a count.
+    A case is not changed after the first call.
     """
 
     def __init__(self, n):
         self.n = n
         self.rows = {b: set() for b in range(1, 65)}
+        self.circuits = {}
         self.zero, self.site, self.units = set(), set(range(1, n + 1) if n <= 64 else ()), set()
 
-    def drawn(self, lines=(), half=(), zero=(), site=(), barred=(), units=()):
-        """The same with more lines, halves of lines, Z buses, Y sites, N sites and units."""
+    def count(self, a, b):
+        """The circuits from a to b, as seen from a."""
+        return self.circuits.get((a, b), 0)
+
+    def see(self, a, b, circuits=1):
+        """Bus a sees a line of so many circuits to bus b."""
+        self.rows[a].add(b)
+        self.circuits[a, b] = circuits
+
+    def join(self, a, b, circuits=1):
+        """A line of so many circuits, seen from both ends."""
+        self.see(a, b, circuits)
+        self.see(b, a, circuits)
+
+    def drawn(self, lines=(), half=(), counted=(), zero=(), site=(), barred=(), units=()):
+        """The same with more lines, halves of lines, counts, Z buses, Y sites, N sites and units.
+
+        A line is a pair, or a pair and its circuits. A count is a pair and its circuits, as seen from the first bus.
+        """
         case = copy.deepcopy(self)
-        for a, b in lines:
-            case.rows[a].add(b)
-            case.rows[b].add(a)
-        for a, b in half:
-            case.rows[a].add(b)
+        for line in lines:
+            case.join(*line)
+        for line in half:
+            case.see(*line)
+        case.circuits.update({(a, b): circuits for a, b, circuits in counted})
         case.zero |= set(zero)
         case.site = (case.site | set(site)) - set(barred)
         case.units |= set(units)
         return case
+
+
+def is_counted(case):
+    """A joined pair has 1 to 8 circuits, any other pair has none, and the two ends are alike."""
+    joined = {(a, b) for a, row in case.rows.items() for b in row}
+    if any(not 1 <= case.count(a, b) <= MOST_CIRCUITS for a, b in joined):
+        return False
+    if any(count != 0 for pair, count in case.circuits.items() if pair not in joined):
+        return False
+    return all(case.count(a, b) == case.count(b, a) for a, b in case.circuits)
 
 
 @functools.lru_cache(maxsize=1)
@@ -43,6 +74,8 @@ def is_grid(case):
     if not 1 <= n <= MOST_BUSES or any(b > n for b in case.zero | case.site | case.units):
         return False
     if any(a not in rows[b] or a == b or a > n or b > n for a in rows for b in rows[a]):
+        return False
+    if not is_counted(case):
         return False
     return sum(len(row) for row in rows.values()) // 2 <= MOST_LINES
 

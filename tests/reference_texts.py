@@ -1,9 +1,11 @@
-"""Document 01's case texts and step texts, written from the document alone."""
+"""Document 01's case texts and step texts, with document 02's circuits, written from the documents alone."""
 import functools
 
-from reference import MOST_BUSES, MOST_LINES, MOST_STEPS, Case, Refused, check
+from reference import MOST_BUSES, MOST_CIRCUITS, MOST_LINES, MOST_STEPS, Case, Refused, check
 
 CASE_LIMIT, STEP_LIMIT = 8192, 16384
+# a text says the circuits of a line from here on
+LEAST_SAID = 2
 
 
 @functools.lru_cache(maxsize=None)
@@ -28,8 +30,8 @@ def case_record(line):
     word, *rest = line.split(b"\t")
     if word in (b"grid", b"pmu") and len(rest) == 1:
         record = (word, number(rest[0]))
-    elif word == b"line" and len(rest) == 2:
-        record = (word, number(rest[0]), number(rest[1]))
+    elif word == b"line" and len(rest) in (2, 3):
+        record = (word, *map(number, rest))
     elif word == b"bus" and len(rest) == 3 and rest[1] in (b"Z", b"I") and rest[2] in (b"Y", b"N"):
         record = (word, number(rest[0]), rest[1], rest[2])
     elif word == b"end" and not rest:
@@ -57,13 +59,17 @@ def read_case(text, first=1):
             allowed = {b"line", b"pmu", b"end"}
         if record is None or record[0] not in allowed:
             raise Refused(2, k)
-        word, *numbers = record[: 2 if record[0] == b"bus" else None]
+        # the circuits of a line, and a bus's class and site, are no bus numbers
+        word, *numbers = record[: {b"bus": 2, b"line": 3}.get(record[0])]
+        circuits = record[3:] if word == b"line" else ()
         if word == b"end":
             if k - first + 1 < len(lines) or tail:
                 raise Refused(2, k + 1)
             return case
         highest = MOST_BUSES if word == b"grid" else case.n
         if not all(1 <= b <= highest for b in numbers) or word == b"line" and len(wires) == MOST_LINES:
+            raise Refused(3, k)
+        if not all(LEAST_SAID <= count <= MOST_CIRCUITS for count in circuits):
             raise Refused(3, k)
         if word == b"grid":
             case = Case(numbers[0])
@@ -79,8 +85,7 @@ def read_case(text, first=1):
             if a >= b or wires and wires[-1] >= (a, b):
                 raise Refused(4, k)
             wires.append((a, b))
-            case.rows[a].add(b)
-            case.rows[b].add(a)
+            case.join(a, b, *circuits)
         else:
             if units and units[-1] >= numbers[0]:
                 raise Refused(4, k)
@@ -94,13 +99,19 @@ def lines(rows):
     return "".join("\t".join(map(str, row)) + "\n" for row in rows).encode()
 
 
+def line_row(case, a, b):
+    """The fields of a line: one circuit is left off."""
+    count = case.count(a, b)
+    return ("line", a, b, count) if count >= LEAST_SAID else ("line", a, b)
+
+
 def write_case(case, room):
     """The text of a case, into room for so many bytes."""
     check(case)
     buses = range(1, case.n + 1)
     rows = [("grid", case.n)]
     rows += [("bus", b, "Z" if b in case.zero else "I", "Y" if b in case.site else "N") for b in buses]
-    rows += [("line", a, b) for a in buses for b in sorted(case.rows[a]) if a < b]
+    rows += [line_row(case, a, b) for a in buses for b in sorted(case.rows[a]) if a < b]
     rows += [("pmu", b) for b in sorted(case.units)] + [("end",)]
     return fitting(lines(rows), room)
 

@@ -21,9 +21,16 @@ def listed(steps):
     return "".join(" %d%s" % (bus, "".join(map(str, reason))) for bus, reason in steps)
 
 
+def circuits(case):
+    """Each count that the rows do not say: one that is not 1 to a neighbour, or not 0 to another bus."""
+    pairs = sorted(set(case.circuits) | {(a, b) for a, row in case.rows.items() for b in row})
+    said = [(a, b, case.count(a, b)) for a, b in pairs if case.count(a, b) != (b in case.rows[a])]
+    return "".join(", circuits %d %d %d" % count for count in said)
+
+
 def fields(case):
-    """Every field of a case; a row with no bus is left out."""
-    rows = "".join(", %d to%s" % (b, buses(row)) for b, row in case.rows.items() if row)
+    """Every field of a case; a row with no bus is left out, and so is a count that the rows say."""
+    rows = "".join(", %d to%s" % (b, buses(row)) for b, row in case.rows.items() if row) + circuits(case)
     return ", n %d%s, zero%s, site%s, units%s" % (case.n, rows, buses(case.zero), buses(case.site), buses(case.units))
 
 
