@@ -55,11 +55,19 @@ def case_lines(case, stated=()):
     said += [line(letter, b) for letter, buses in marks.items() for b in sorted(buses)]
     for a, row in case.rows.items():
         for b in sorted(row):
-            if a not in case.rows[b]:
-                said.append(line("h", a, b))
+            if not is_line(case, a, b):
+                said.append(line("h" if case.count(a, b) else "j", a, b))
             elif a <= b:
                 said.append(line("l", a, b))
+    # l and h count one circuit, and each c one more
+    for (a, b), count in sorted(case.circuits.items()):
+        said += [line("c", a, b)] * (count - 1 if b in case.rows[a] else count)
     return b"".join(said)
+
+
+def is_line(case, a, b):
+    """Whether a and b see each other, and each counts a circuit to the other."""
+    return b in case.rows[a] and a in case.rows[b] and case.count(a, b) > 0 and case.count(b, a) > 0
 
 
 def step_lines(steps):

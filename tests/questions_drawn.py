@@ -15,9 +15,10 @@ CALLS = 16
 def ask_damaged(asker, seed):
     """Each kind of damage: at every place of the small texts, and at drawn places of the large ones."""
     rng, text = random.Random("damaged %s" % seed), texts()
-    for k, case in enumerate(damaged(text["seven"], CASE_LIMIT)):
-        asker.of_text("seven %d" % k, "read_case", case)
-    for name, count in (("full", 100), ("more", 20)):
+    for name in ("seven", "parallel"):
+        for k, case in enumerate(damaged(text[name], CASE_LIMIT)):
+            asker.of_text("%s %d" % (name, k), "read_case", case)
+    for name, count in (("full", 20), ("more", 5), ("circuits", 30), ("circuits_more", 5)):
         for k, case in enumerate(damaged(text[name], CASE_LIMIT, rng, count)):
             asker.of_text("%s %d" % (name, k), "read_case", case)
     for k, steps in enumerate(damaged(text["steps"], STEP_LIMIT)):
@@ -69,20 +70,43 @@ class Dice(random.Random):
         case = Case(n).drawn(lines=lines[:256], zero=self.some(order, self.choice((0, 30, 60, 100))))
         case.site = self.some(order, self.choice((0, 50, 90, 100, 100)))
         case.units = self.some(order, self.choice((5, 15, 40)))
+        # a block has no room for circuits at every line
+        pairs = sorted(case.circuits)
+        for a, b in self.sample(pairs, min(len(pairs), self.choice((0, 1, 5, 40)))):
+            case.join(a, b, self.randint(1, 8))
         return case
 
     def noise(self, n):
         """A case value with any bits in it."""
         case, buses = Case(n), range(1, 65)
-        for row in case.rows.values():
-            row.update(self.sample(buses, self.randint(0, 8)))
+        for a in buses:
+            for b in self.sample(buses, self.randint(0, 8)):
+                case.see(a, b)
+        for a, b in self.sample(sorted(case.circuits), min(len(case.circuits), 20)):
+            case.circuits[a, b] = self.randint(0, 15)
+        for _ in range(20):
+            case.circuits[self.choice(buses), self.choice(buses)] = self.randint(0, 15)
         case.zero, case.site, case.units = (self.some(buses, 50) for _ in range(3))
         return case
+
+    def miscounted(self, case):
+        """A case value with other circuits at one pair, from one end or from both. Mostly it is not valid any more."""
+        n, high, count = case.n, self.randint(min(case.n + 1, 64), 64), self.randint(1, 15)
+        a, b, joined = self.randint(1, n), self.randint(1, n), sorted(case.circuits)
+        if joined and self.chance(60):
+            a, b = self.choice(joined)
+            count = self.choice((0, self.randint(1, 8), self.randint(9, 15)))
+        else:
+            a, b = self.choice(((a, b), (a, b), (a, a), (a, high), (high, a), (high, high), (high, 64)))
+        ends = [(a, b, count), (b, a, count)]
+        return case.drawn(counted=ends if self.chance(60) else ends[:1])
 
     def wrong(self, case):
         """A case value of which one thing or two is damaged; seldom all."""
         if self.chance(5):
             return self.noise(case.n)
+        if self.chance(40):
+            return self.miscounted(case)
         n, high = case.n, self.randint(min(case.n + 1, 64), 64)
         a, b = self.randint(1, n), self.randint(1, 64)
         crowd = [tuple(self.sample(range(1, n + 1), 2)) for _ in range(400)] if n > 30 else [(a, a)]

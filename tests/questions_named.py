@@ -1,11 +1,11 @@
-"""The questions that are stored: document 01's grids and examples, grids and lists at a limit, and mistakes."""
+"""The questions that are stored: document 01's grids and examples, grids and lists at a limit, circuits, mistakes."""
 import os
 
 import replies
 from reference import Case, Refused, derivation, test_step
 from reference_texts import read_case, write_steps
 from reports import day, plan
-from texts import SEVEN, UNIT_AT_3, texts
+from texts import PARALLEL, SEVEN, UNIT_AT_3, full_case, texts, with_circuits
 
 CASES = os.path.join(os.path.dirname(os.path.abspath(__file__)), "..", "cases")
 PATH = Case(5).drawn(lines=[(1, 2), (2, 3), (3, 4), (4, 5)], zero=[3], units=[1, 5])
@@ -300,9 +300,115 @@ def text_questions(asker):
         asker.of_text("replay " + name, "replay_text", steps, case=case)
 
 
+def parallel_circuits(asker):
+    """One neighbour is seen, however many circuits its line has."""
+    three = Case(3).drawn(lines=[(1, 2), (2, 3, 2)], zero=[2], units=[1])
+    fork = Case(4).drawn(lines=[(1, 2), (2, 3, 2), (2, 4)], zero=[2], units=[1])
+    chain = Case(4).drawn(lines=[(1, 2, 2), (2, 3, 2), (3, 4, 2)])
+    most = with_circuits(full_case()[0], 8)
+    for name, call, case in (
+        ("bus 2 Z with two circuits to 3, unit at 1", "observed_set", three),
+        ("the same derived", "derivation", three),
+        ("seven, circuits, unit at 3", "observed_set", PARALLEL),
+        ("seven, circuits, derived", "derivation", PARALLEL),
+        ("bus 2 Z with eight circuits to 1, unit at 1", "observed_set", three.drawn(lines=[(1, 2, 8), (2, 3)])),
+        ("bus 2 Z with two circuits to 3, and with 4", "observed_set", fork),
+        ("verdict, one unit with two circuits to its neighbour", "cross_validate", three),
+        ("verdict, 1 and 4 of a chain of two circuits", "cross_validate", chain.drawn(units=[1, 4])),
+        ("verdict, 1 and 3 of a chain of two circuits", "cross_validate", chain.drawn(units=[1, 3])),
+        ("verdict, 3 and 4 of a chain of two circuits", "cross_validate", chain.drawn(units=[3, 4])),
+        ("256 lines of eight circuits", "observed_set", most),
+    ):
+        asker.of_case(name, call, case)
+    asker.of_case("256 lines of eight circuits, written", "write_case", most, 16400)
+    asker.of_case("figure 2 to 3 by two circuits, 1 and 2 stated", "firing_figure", three, 2, 3, stated={1, 2})
+    asker.of_case("figure 2 to 1, two circuits to 3", "firing_figure", three, 2, 1, stated={2})
+    asker.of_list("3 Z 2 by two circuits", "test_step", three, [(3, ("Z", 2))], stated={1, 2})
+    both(asker, "by two circuits", three, [(1, ("O",)), (2, ("N", 1)), (3, ("Z", 2))])
+    asker.of_case("greedy, seven with circuits", "place_greedy", PARALLEL, 64, 64)
+    asker.of_case("fewest, seven with circuits", "place_fewest", PARALLEL.drawn(lines=[(4, 5, 7)]), 8)
+    asker.of_case("write seven with circuits", "write_case", PARALLEL, 149)
+    asker.of_case("write seven with circuits into a byte less", "write_case", PARALLEL, 148)
+
+
+def miscounted(asker):
+    """Case values with a joined pair counted 0 or above 8, another pair counted, or the two ends unlike."""
+    six = Case(6).drawn(lines=[(1, 2), (2, 3, 8), (5, 6)], units=[1])
+
+    def ask(name, *counted):
+        asker.of_case("6 buses, " + name, "observed_set", six.drawn(counted=counted))
+        asker.of_case("6 buses, %s, written" % name, "write_case", six.drawn(counted=counted), 16400)
+
+    ask("1 to 2 counted 1", (1, 2, 1), (2, 1, 1))
+    ask("1 to 2 counted 8", (1, 2, 8), (2, 1, 8))
+    for count in (0, 9, 10, 12, 15):
+        ask("1 to 2 counted %d" % count, (1, 2, count), (2, 1, count))
+    ask("1 to 2 counted 2 from 1 alone", (1, 2, 2))
+    ask("1 to 2 counted 2 from 2 alone", (2, 1, 2))
+    ask("1 to 2 counted 0 from 1 alone", (1, 2, 0))
+    ask("1 to 2 counted 9 from 2 alone", (2, 1, 9))
+    ask("2 to 3 counted 8 and 7", (3, 2, 7))
+    for count in (1, 2, 4, 8, 15):
+        ask("1 to 3, which are not joined, counted %d" % count, (1, 3, count), (3, 1, count))
+    ask("1 to 3, which are not joined, counted 1 from 1 alone", (1, 3, 1))
+    ask("1 to 3, which are not joined, counted 1 from 3 alone", (3, 1, 1))
+    ask("1 with itself counted 1", (1, 1, 1))
+    ask("6 with itself counted 8", (6, 6, 8))
+    for bus in (7, 64):
+        ask("1 to %d counted 1" % bus, (1, bus, 1), (bus, 1, 1))
+        ask("%d to 1 counted 2 from %d alone" % (bus, bus), (bus, 1, 2))
+        ask("%d with itself counted 1" % bus, (bus, bus, 1))
+    ask("7 to 64 counted 8", (7, 64, 8), (64, 7, 8))
+    for name, case in (
+        ("0 buses, 1 with itself counted 1", Case(0).drawn(counted=[(1, 1, 1)])),
+        ("64 buses, 63 to 64 of eight circuits", Case(64).drawn(lines=[(63, 64, 8)], units=[64])),
+        ("64 buses, 64 with itself counted 8", Case(64).drawn(counted=[(64, 64, 8)])),
+        ("63 buses, 63 to 64 counted 1", Case(63).drawn(counted=[(63, 64, 1), (64, 63, 1)])),
+        ("6 buses, line 1 to 7 of two circuits", Case(6).drawn(lines=[(1, 7, 2)])),
+        ("6 buses, line 6 to 6 of two circuits", Case(6).drawn(lines=[(6, 6, 2)])),
+        ("6 buses, line 1 to 6 of two circuits seen from 1 alone", Case(6).drawn(half=[(1, 6, 2)])),
+        ("6 buses, line 1 to 6 seen from 1 alone, counted 1 from both",
+         Case(6).drawn(half=[(1, 6)], counted=[(6, 1, 1)])),
+    ):
+        asker.of_case(name, "observed_set", case)
+
+
+def circuit_texts(asker):
+    """Texts that say circuits: each form, range and order of the third number, and the 257th line."""
+    text = texts()
+    head = b"grid\t3\nbus\t1\tI\tY\nbus\t2\tZ\tY\nbus\t3\tI\tY\n"
+    for name in ("parallel", "circuits", "circuits_more"):
+        asker.of_text("read " + name, "read_case", text[name])
+    for name, said in (
+        ("two circuits", "line 1 2;line 2 3 2;pmu 1"), ("eight circuits", "line 1 2 8"),
+        ("no circuit", "line 1 2 0"), ("one circuit said", "line 1 2 1"), ("nine circuits", "line 1 2 9"),
+        ("ten circuits", "line 1 2 10"), ("9999 circuits", "line 1 2 9999"), ("10000 circuits", "line 1 2 10000"),
+        ("circuits with a leading zero", "line 1 2 02"), ("circuits 00", "line 1 2 00"),
+        ("circuits with a sign", "line 1 2 +2"), ("a fourth number", "line 1 2 2 2"),
+        ("a fourth number after a bad third", "line 1 2 9 2"), ("a trailing tab", "line 1 2 "),
+        ("a trailing tab after circuits", "line 1 2 2 "), ("a doubled tab before circuits", "line 1 2  2"),
+        ("a falling line of nine circuits", "line 2 1 9"), ("a falling line of one circuit", "line 2 1 1"),
+        ("a falling line of two circuits", "line 2 1 2"), ("a falling line of circuits 02", "line 2 1 02"),
+        ("two circuits of 1 with itself", "line 1 1 2"), ("two circuits to bus 4", "line 1 4 2"),
+        ("a line and again with circuits", "line 1 2;line 1 2 2"), ("circuits and again", "line 1 2 2;line 1 2 2"),
+        ("circuits and again without", "line 1 2 2;line 1 2"), ("circuits and others", "line 1 2 2;line 1 2 3"),
+        ("circuits and again one", "line 1 2 2;line 1 2 1"), ("circuits that do not rise", "line 1 3 2;line 1 2 8"),
+        ("circuits after a unit", "pmu 1;line 1 2 2"), ("a unit with circuits", "pmu 1 2"),
+    ):
+        lines = "".join(record + "\n" for record in said.split(";") + ["end"]).replace(" ", "\t").encode()
+        asker.of_text("read " + name, "read_case", head + lines)
+        if name in ("two circuits", "nine circuits"):
+            asker.of_text("day with " + name, "day_report", head + lines, 16400)
+    for name in (b"\t2", b"\t9", b"\t02", b"\t2\t"):
+        line = text["circuits_more"].replace(b"\t8\npmu\t1\n", name + b"\npmu\t1\n")
+        asker.of_text("read the 257th line, ended %s" % name.decode().replace("\t", "."), "read_case", line)
+    asker.of_text("plan with circuits", "plan_report", b"plan\t2\n" + text["parallel"], 16400)
+
+
 def ask_all(asker):
     for questions in (
         observed_sets, figures, tests, case_values, derivations, lists, long_lists, record_rooms, shuffles,
-        verdicts, greedy, fewest, out_of_reach, byte_rooms, text_questions,
+        verdicts, greedy, fewest, out_of_reach, byte_rooms, text_questions, parallel_circuits, miscounted,
+        circuit_texts,
     ):
         questions(asker)
