@@ -81,7 +81,7 @@ static const struct refused_text refused_texts[] = {
     {"a bus of three fields", "grid\t1\nbus\t1\tI\nend\n", 202},
     {"a bus of five fields", "grid\t1\nbus\t1\tI\tY\tY\nend\n", 202},
     {"a line of two fields", TWO "line\t1\nend\n", 402},
-    {"a line of four fields", TWO "line\t1\t2\t2\nend\n", 402},
+    {"a line of five fields", TWO "line\t1\t2\t2\t2\nend\n", 402},
     {"a pmu of three fields", TWO "pmu\t1\t2\nend\n", 402},
     {"a grid of three fields", "grid\t2\t2\n", 102},
     {"a grid alone", "grid\n", 102},
@@ -92,6 +92,30 @@ static const struct refused_text refused_texts[] = {
     {"units falling", TWO "pmu\t2\npmu\t1\nend\n", 504},
     {"lines falling by the first bus", SEVEN_BUSES "line\t2\t3\nline\t1\t7\nend\n", 1004},
     {"lines falling by the second bus", SEVEN_BUSES "line\t1\t3\nline\t1\t2\nend\n", 1004},
+
+    {"no circuit", TWO "line\t1\t2\t0\nend\n", 403},
+    {"one circuit said", TWO "line\t1\t2\t1\nend\n", 403},
+    {"nine circuits", TWO "line\t1\t2\t9\nend\n", 403},
+    {"ten circuits", TWO "line\t1\t2\t10\nend\n", 403},
+    {"9999 circuits", TWO "line\t1\t2\t9999\nend\n", 403},
+    {"10000 circuits", TWO "line\t1\t2\t10000\nend\n", 402},
+    {"circuits 02", TWO "line\t1\t2\t02\nend\n", 402},
+    {"circuits +2", TWO "line\t1\t2\t+2\nend\n", 402},
+    {"a tab and no circuits", TWO "line\t1\t2\t\nend\n", 402},
+    {"a tab after circuits", TWO "line\t1\t2\t2\t\nend\n", 402},
+    {"two tabs before circuits", TWO "line\t1\t2\t\t2\nend\n", 402},
+    {"nine circuits and a field too many", TWO "line\t1\t2\t9\t2\nend\n", 402},
+    {"circuits not ended", TWO "line\t1\t2\t2", 402},
+    {"a above b with nine circuits", TWO "line\t2\t1\t9\nend\n", 403},
+    {"a above b with one circuit said", TWO "line\t2\t1\t1\nend\n", 403},
+    {"a above b with two circuits", TWO "line\t2\t1\t2\nend\n", 404},
+    {"a above b with circuits 02", TWO "line\t2\t1\t02\nend\n", 402},
+    {"line a a with two circuits", TWO "line\t1\t1\t2\nend\n", 404},
+    {"line 1 n + 1 with two circuits", TWO "line\t1\t3\t2\nend\n", 403},
+    {"a line, and the same with circuits", TWO "line\t1\t2\nline\t1\t2\t2\nend\n", 504},
+    {"a line with circuits, and the same without", TWO "line\t1\t2\t2\nline\t1\t2\nend\n", 504},
+    {"a line with circuits twice", TWO "line\t1\t2\t2\nline\t1\t2\t3\nend\n", 504},
+    {"a line with circuits after a unit", TWO "pmu\t1\nline\t1\t2\t2\nend\n", 502},
 
     {"bus 0", "grid\t2\nbus\t0\tI\tY\n", 203},
     {"bus n + 1", "grid\t2\nbus\t3\tI\tY\n", 203},
@@ -137,24 +161,24 @@ static void check_byte_limit(void)
     expect_case_refusal("a line of 8,192 bytes", text, 8192, 102);
 }
 
-/* A grid of 64 buses with 256 lines: `grid` on line 1, the buses on 2 to 65, the lines on 66 to 321. */
-static size_t write_256_lines(char *text)
+/* A grid of 64 buses with 256 lines that end so: `grid` on line 1, the buses on 2 to 65, the lines on 66 to 321. */
+static size_t write_256_lines(char *text, const char *ending)
 {
     size_t length = (size_t)sprintf(text, "grid\t64\n");
     for (int bus = 1; bus <= 64; bus++)
         length += (size_t)sprintf(text + length, "bus\t%d\tI\tY\n", bus);
     for (int a = 1; a <= 4; a++)
         for (int b = a + 1; b <= 64; b++)
-            length += (size_t)sprintf(text + length, "line\t%d\t%d\n", a, b);
+            length += (size_t)sprintf(text + length, "line\t%d\t%d%s\n", a, b, ending);
     for (int b = 6; b <= 15; b++)
-        length += (size_t)sprintf(text + length, "line\t5\t%d\n", b);
+        length += (size_t)sprintf(text + length, "line\t5\t%d%s\n", b, ending);
     return length;
 }
 
 static void check_line_limit(void)
 {
     static char text[10000];
-    size_t length = write_256_lines(text);
+    size_t length = write_256_lines(text, "");
     strcpy(text + length, "pmu\t5\nend\n");
     expect_set("256 lines", ask_observed(text), "1 2 3 4 5 6 7 8 9 10 11 12 13 14 15");
     strcpy(text + length, "line\t5\t16\nend\n");
@@ -167,6 +191,23 @@ static void check_line_limit(void)
     expect_case_text_refusal("the 257th line not ended", text, 32202);
 }
 
+/* The limit counts lines, whatever their circuits. */
+static void check_line_limit_with_circuits(void)
+{
+    static char text[10000];
+    size_t length = write_256_lines(text, "\t8");
+    strcpy(text + length, "pmu\t5\nend\n");
+    expect_set("256 lines of eight circuits", ask_observed(text), "1 2 3 4 5 6 7 8 9 10 11 12 13 14 15");
+    strcpy(text + length, "line\t5\t16\nend\n");
+    expect_case_text_refusal("the 257th line after lines of eight circuits", text, 32203);
+    strcpy(text + length, "line\t5\t16\t2\nend\n");
+    expect_case_text_refusal("the 257th line, of two circuits", text, 32203);
+    strcpy(text + length, "line\t5\t16\t9\nend\n");
+    expect_case_text_refusal("the 257th line, of nine circuits", text, 32203);
+    strcpy(text + length, "line\t5\t16\t02\nend\n");
+    expect_case_text_refusal("the 257th line, of circuits 02", text, 32202);
+}
+
 void check_case_readings(void)
 {
     for (size_t i = 0; i < sizeof refused_texts / sizeof *refused_texts; i++)
@@ -175,4 +216,5 @@ void check_case_readings(void)
     check_odd_bytes();
     check_byte_limit();
     check_line_limit();
+    check_line_limit_with_circuits();
 }

@@ -13,6 +13,13 @@
     "grid\t4\n"                                                \
     "bus\t1\tI\tY\nbus\t2\tZ\tY\nbus\t3\tZ\tY\nbus\t4\tI\tY\n" \
     "line\t1\t2\nline\t2\t3\nline\t3\t4\npmu\t4\n"
+/* Bus 2 is Z and has two circuits to bus 3. */
+#define THREE "grid\t3\nbus\t1\tI\tY\nbus\t2\tZ\tY\nbus\t3\tI\tY\nline\t1\t2\nline\t2\t3\t2\n"
+/* A chain whose lines have 2, 8 and 3 circuits. */
+#define CHAIN                                                  \
+    "grid\t4\n"                                                \
+    "bus\t1\tI\tY\nbus\t2\tI\tY\nbus\t3\tI\tY\nbus\t4\tI\tY\n" \
+    "line\t1\t2\t2\nline\t2\t3\t8\nline\t3\t4\t3\n"
 #define SEVEN_LINES "line\t1\t2\nline\t2\t3\nline\t3\t4\nline\t3\t7\nline\t4\t5\nline\t5\t6\n"
 #define SEVEN_BUSES_FROM_2 "bus\t2\tZ\tY\nbus\t3\tZ\tY\nbus\t4\tI\tY\nbus\t5\tZ\tY\nbus\t6\tI\tY\nbus\t7\tI\tY\n"
 #define SEVEN_1_BARRED "grid\t7\nbus\t1\tI\tN\n" SEVEN_BUSES_FROM_2 SEVEN_LINES
@@ -81,12 +88,29 @@ static void check_replay(void)
                ask_replay(SEVEN_UNIT_3, "step\t7\tN\t3\nstep\t4\tN\t3\nstep\t2\tN\t3\nstep\t3\tO\nend\n"), "2 3 4 7");
 }
 
+/* One neighbour is seen, however many circuits its line has. */
+static void check_circuits(void)
+{
+    expect_set("two circuits to the one dark neighbour", ask_observed(THREE "pmu\t1\nend\n"), "1 2 3");
+    expect_set("a chain of several circuits, unit at 2", ask_observed(CHAIN "pmu\t2\nend\n"), "1 2 3");
+    expect_set("several circuits to the unit's neighbours", ask_unconfirmed(CHAIN "pmu\t2\nend\n"), "2");
+    expect_set("units at both ends of the chain", ask_unconfirmed(CHAIN "pmu\t1\npmu\t4\nend\n"), "1 4");
+    expect_set("units at 1 and 3, which share 2", ask_unconfirmed(CHAIN "pmu\t1\npmu\t3\nend\n"), "");
+    expect_set("units at both ends of three circuits", ask_unconfirmed(CHAIN "pmu\t3\npmu\t4\nend\n"), "");
+    expect_set("the fewest of the chain", ask_fewest(CHAIN "end\n", 2), "1 3");
+    expect_set("the fewest with two circuits", ask_fewest(THREE "end\n", 1), "1");
+    expect_set("Z by two circuits",
+               ask_replay(THREE "pmu\t1\nend\n", "step\t1\tO\nstep\t2\tN\t1\nstep\t3\tZ\t2\nend\n"), "1 2 3");
+    expect_refusal("Z by two circuits at a dark bus", ask_replay(THREE "pmu\t1\nend\n", "step\t3\tZ\t2\nend\n"), 109);
+}
+
 void check_grids(void)
 {
     check_observed();
     check_unconfirmed();
     check_fewest();
     check_replay();
+    check_circuits();
 }
 
 static void expect_of_file(const char *folder, const char *file, size_t budget, uint32_t result, const char *buses)

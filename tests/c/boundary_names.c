@@ -101,6 +101,14 @@ static uint32_t result_for_size(int buses, int lines)
     return result_of(ask_observed(text), WZ_SET_BYTES);
 }
 
+/* The result for two buses with `circuits` circuits between them. */
+static uint32_t result_for_circuits(int circuits)
+{
+    char text[100];
+    sprintf(text, TWO "line\t1\t2\t%d\nend\n", circuits);
+    return result_of(ask_observed(text), WZ_SET_BYTES);
+}
+
 static void check_sets(void)
 {
     uint8_t set[WZ_SET_BYTES];
@@ -123,6 +131,8 @@ void check_limits(void)
     check(wz_number(result_for_size(WZ_MOST_BUSES + 1, 0)) == WZ_CASE_RANGE, "a bus more than WZ_MOST_BUSES");
     check(result_for_size(WZ_MOST_BUSES, WZ_MOST_LINES) == 0, "WZ_MOST_LINES are read");
     check(wz_number(result_for_size(WZ_MOST_BUSES, WZ_MOST_LINES + 1)) == WZ_CASE_RANGE, "a line more");
+    check(result_for_circuits(WZ_MOST_CIRCUITS) == 0, "WZ_MOST_CIRCUITS are read");
+    check(wz_number(result_for_circuits(WZ_MOST_CIRCUITS + 1)) == WZ_CASE_RANGE, "a circuit more");
     check(result_of(ask_fewest(SEVEN "end\n", WZ_MOST_BUDGET), 8) == 0, "WZ_MOST_BUDGET is asked");
     check(result_of(ask_fewest(SEVEN "end\n", WZ_MOST_BUDGET + 1), 8) == WZ_BUDGET_TOO_LARGE, "a unit more");
     check(wz_number(result_of(ask_replay(SEVEN_UNIT_3, steps_of(WZ_MOST_STEPS)), 8)) == WZ_STEP_OBSERVED,

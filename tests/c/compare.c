@@ -1,7 +1,9 @@
-/* Asks the library and document 01 in C the same questions about texts drawn from a fixed seed. Compares the results
-   and every byte in and around the memory lent.
-   usage: compare          all of them
-          compare INDEX    one of them, with its texts printed */
+/* Asks the library and document 01 in C the same questions about texts drawn from a seed. Compares the results and
+   every byte in and around the memory lent.
+   usage: compare SEED COUNT       as many texts as it takes until COUNT of them have a line of several circuits
+          compare SEED at INDEX    one of them, with its texts printed
+   tests/c/run says SEED and COUNT. This compares 100,000 texts with circuits:
+       rt staticlib estimator && rt check day plan && COMPARE_COUNT=100000 tests/c/run */
 #include "asking.h"
 #include "checking.h"
 #include "guarded.h"
@@ -11,15 +13,19 @@
 #include <stdlib.h>
 #include <string.h>
 
-enum { SEED = 7001, QUESTIONS = 100000, GUARD = 24, MOST_LENT = 16, NUMBERS = 100, LEAST_OF_EACH = 20, MOST_SHOWN = 3 };
+enum { GUARD = 24, MOST_LENT = 16, NUMBERS = 100, MOST_SHOWN = 3 };
+
+/* Each number that a call can reply must come once among ONE_OF texts with circuits. */
+enum { ONE_OF = 2500 };
 
 struct lent {
     uint8_t bytes[GUARD + MOST_LENT + GUARD];
 };
 
-/* The texts of one index, given to all four calls. */
+/* The texts of one index, given to all four calls. `circuits`: a line of the case has several, damage left aside. */
 struct drawn {
     struct text case_text, step_text;
+    bool circuits;
     size_t budget;
     size_t set_len;
     struct lent lent;
@@ -41,11 +47,12 @@ static size_t draw_budget(struct dice *dice)
     return percent(dice, 90) ? below(dice, MOST_BUDGET + 1) : above[below(dice, sizeof above / sizeof *above)];
 }
 
-static void draw_index(size_t index, struct drawn *drawn)
+static void draw_index(uint64_t seed, size_t index, struct drawn *drawn)
 {
-    struct dice dice = dice_for(SEED, index);
+    struct dice dice = dice_for(seed, index);
     struct grid_case grid;
     draw_case(&dice, &grid);
+    drawn->circuits = has_circuits(&grid);
     drawn->budget = draw_budget(&dice);
     shorten_search(&dice, &grid, drawn->budget);
     write_case_text(&grid, &drawn->case_text);
@@ -104,12 +111,14 @@ static void compare_call(size_t index, const struct drawn *drawn, enum call call
         show(index, drawn, call, library, document01);
 }
 
-static void compare_index(size_t index, bool shown)
+/* Whether the text had circuits. */
+static bool compare_index(uint64_t seed, size_t index, bool shown)
 {
     static struct drawn drawn;
-    draw_index(index, &drawn);
+    draw_index(seed, index, &drawn);
     for (int call = 0; call < CALL_COUNT; call++)
         compare_call(index, &drawn, (enum call)call, shown);
+    return drawn.circuits;
 }
 
 static void print_counts(enum call call)
@@ -122,7 +131,7 @@ static void print_counts(enum call call)
 }
 
 /* Every number that a call can reply, 0 for the accepted, must have turned up often. */
-static void check_counts(enum call call)
+static void check_counts(enum call call, size_t with_circuits)
 {
     static const unsigned numbers[CALL_COUNT][16] = {
         {0, 1, 2, 3, 4, 6, NUMBERS},
@@ -134,17 +143,29 @@ static void check_counts(enum call call)
     for (const unsigned *number = numbers[call]; *number != NUMBERS; number++) {
         snprintf(name, sizeof name, "%s: only %zu replies with the number %u", call_names[call], counts[call][*number],
                  *number);
-        check(counts[call][*number] >= LEAST_OF_EACH, name);
+        check(counts[call][*number] >= with_circuits / ONE_OF, name);
     }
 }
 
-static void check_call(enum call call)
+static void check_call(enum call call, size_t with_circuits)
 {
     char name[100];
     print_counts(call);
     snprintf(name, sizeof name, "%s: %zu replies differ", call_names[call], mismatches[call]);
     check(mismatches[call] == 0, name);
-    check_counts(call);
+    check_counts(call, with_circuits);
+}
+
+static int compare_all(uint64_t seed, size_t with_circuits)
+{
+    size_t index = 0;
+    for (size_t had = 0; had < with_circuits; index++)
+        had += compare_index(seed, index, false);
+    printf("seed %lu, %zu case texts, %zu of them with circuits, each with a step text and given to all four calls\n",
+           (unsigned long)seed, index, with_circuits);
+    for (int call = 0; call < CALL_COUNT; call++)
+        check_call((enum call)call, with_circuits);
+    return end_of_checks();
 }
 
 int main(int argc, char **argv)
@@ -152,14 +173,12 @@ int main(int argc, char **argv)
     make_guarded(&case_memory, TEXT_ROOM);
     make_guarded(&step_memory, TEXT_ROOM);
     say_at_fault(index_at_fault);
-    if (argc > 1) {
-        compare_index(strtoul(argv[1], NULL, 10), true);
-        return 0;
+    if (argc == 3)
+        return compare_all(strtoul(argv[1], NULL, 10), strtoul(argv[2], NULL, 10));
+    if (argc != 4 || strcmp(argv[2], "at") != 0) {
+        printf("usage: compare SEED COUNT\n       compare SEED at INDEX\n");
+        return 2;
     }
-    for (size_t index = 0; index < QUESTIONS; index++)
-        compare_index(index, false);
-    printf("%d case texts, each with a step text and given to all four calls\n", QUESTIONS);
-    for (int call = 0; call < CALL_COUNT; call++)
-        check_call((enum call)call);
-    return end_of_checks();
+    compare_index(strtoul(argv[1], NULL, 10), strtoul(argv[3], NULL, 10), true);
+    return 0;
 }

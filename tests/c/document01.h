@@ -1,5 +1,6 @@
-/* Document 01 in C, written from its words alone and for plainness. The library and the programs are compared with it.
- * Sets are arrays of truth values; buses count from 1 and are their own index. */
+/* Document 01 in C, with document 02's parallel circuits, written from their words alone and for plainness. The library
+ * and the programs are compared with it. Sets are arrays of truth values. Buses count from 1 and are their own
+ * index. */
 #ifndef DOCUMENT01_H
 #define DOCUMENT01_H
 
@@ -10,6 +11,8 @@
 enum {
     MOST_BUSES = 64,
     MOST_LINES = 256,
+    LEAST_SAID_CIRCUITS = 2,
+    MOST_CIRCUITS = 8,
     MOST_STEPS = 1024,
     MOST_BUDGET = 8,
     CASE_TEXT_LIMIT = 8192,
@@ -17,9 +20,11 @@ enum {
     MOST_PRINTED = 2048
 };
 
+/* `circuits` is 0 for two buses that are not joined. No rule of observation or of placing asks for it. */
 struct grid_case {
     size_t buses;
     bool joined[MOST_BUSES + 1][MOST_BUSES + 1];
+    uint8_t circuits[MOST_BUSES + 1][MOST_BUSES + 1];
     size_t neighbour_count[MOST_BUSES + 1];
     unsigned neighbours[MOST_BUSES + 1][MOST_BUSES];
     bool zero_injection[MOST_BUSES + 1];
@@ -48,7 +53,7 @@ struct refusal refuse(unsigned number, size_t place);
 struct refusal accept(void);
 
 /* document01_texts.c */
-void join_buses(struct grid_case *grid, unsigned a, unsigned b);
+void join_buses(struct grid_case *grid, unsigned a, unsigned b, unsigned circuits);
 struct refusal read_case_text(const uint8_t *text, size_t length, struct grid_case *grid);
 struct refusal read_step_text(const uint8_t *text, size_t length, struct step steps[MOST_STEPS], size_t *step_count);
 /* Whether `length` bytes have the form of a number, and which. */

@@ -97,10 +97,12 @@ static bool field_number(const struct record *record, size_t index, unsigned *nu
     return read_number(record->fields[index].bytes, record->fields[index].length, number);
 }
 
-void join_buses(struct grid_case *grid, unsigned a, unsigned b)
+void join_buses(struct grid_case *grid, unsigned a, unsigned b, unsigned circuits)
 {
     grid->joined[a][b] = true;
     grid->joined[b][a] = true;
+    grid->circuits[a][b] = (uint8_t)circuits;
+    grid->circuits[b][a] = (uint8_t)circuits;
     grid->neighbours[a][grid->neighbour_count[a]++] = b;
     grid->neighbours[b][grid->neighbour_count[b]++] = a;
 }
@@ -146,20 +148,26 @@ struct taken {
     bool end;
 };
 
+/* A third number says the circuits, if there are several. */
 static unsigned take_line(const struct record *record, struct grid_case *grid, struct taken *taken)
 {
-    unsigned a, b;
-    if (!record_is(record, "line", 3) || taken->last_unit != 0)
+    bool several = record_is(record, "line", 4);
+    unsigned a, b, circuits = 1;
+    if ((!several && !record_is(record, "line", 3)) || taken->last_unit != 0)
         return 2;
     if (!field_number(record, 1, &a) || !field_number(record, 2, &b))
         return 2;
+    if (several && !field_number(record, 3, &circuits))
+        return 2;
     if (a < 1 || a > grid->buses || b < 1 || b > grid->buses || taken->lines == MOST_LINES)
+        return 3;
+    if (several && (circuits < LEAST_SAID_CIRCUITS || circuits > MOST_CIRCUITS))
         return 3;
     if (a >= b)
         return 4;
     if (a < taken->last_a || (a == taken->last_a && b <= taken->last_b))
         return 4;
-    join_buses(grid, a, b);
+    join_buses(grid, a, b, circuits);
     taken->lines++;
     taken->last_a = a;
     taken->last_b = b;

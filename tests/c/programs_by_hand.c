@@ -9,6 +9,8 @@
 
 #define SEVEN_REPORT \
     "observed\t5\t7\nstep\t2\tN\t3\nstep\t3\tO\nstep\t1\tZ\t2\nstep\t4\tN\t3\nstep\t7\tN\t3\nxv\tno\t1\nend\n"
+/* Bus 2 is Z and has two circuits to bus 3. */
+#define THREE "grid\t3\nbus\t1\tI\tY\nbus\t2\tZ\tY\nbus\t3\tI\tY\nline\t1\t2\nline\t2\t3\t2\n"
 #define SEVEN_COVERED SEVEN "pmu\t1\npmu\t4\nend\n"
 #define SEVEN_EMPTY SEVEN "end\n"
 
@@ -40,6 +42,9 @@ void check_day_by_hand(void)
                   "grid\t4\nbus\t1\tI\tY\nbus\t2\tZ\tY\nbus\t3\tZ\tY\nbus\t4\tI\tY\nline\t1\t2\nline\t2\t3\nline\t3\t4"
                   "\npmu\t4\nend\n",
                   "observed\t4\t4\nstep\t3\tN\t4\nstep\t4\tO\nstep\t2\tZ\t3\nstep\t1\tZ\t2\nxv\tno\t1\nend\n");
+    expect_output("two circuits", DAY, THREE "pmu\t1\nend\n",
+                  "observed\t3\t3\nstep\t1\tO\nstep\t2\tN\t1\nstep\t3\tZ\t2\nxv\tno\t1\nend\n");
+    expect_output("nine circuits", DAY, TWO "line\t1\t2\t9\nend\n", "refused\t3\t4\n");
     expect_output("the empty text", DAY, "", "refused\t2\t1\n");
     expect_output("65 buses", DAY, "grid\t65\n", "refused\t3\t1\n");
     expect_output("a line that does not rise", DAY, TWO "line\t1\t2\nline\t1\t2\nend\n", "refused\t4\t5\n");
@@ -70,6 +75,8 @@ void check_plan_by_hand(void)
     expect_output("budget 2", PLAN, "plan\t2\n" SEVEN_EMPTY, "fewest\t2\npmu\t1\npmu\t4\nend\n");
     expect_output("budget 8", PLAN, "plan\t8\n" SEVEN_EMPTY, "fewest\t2\npmu\t1\npmu\t4\nend\n");
     expect_output("only the added sites", PLAN, "plan\n" SEVEN_UNIT_3, "fewest\t1\npmu\t4\nend\n");
+    expect_output("two circuits", PLAN, "plan\t1\n" THREE "end\n", "fewest\t1\npmu\t1\nend\n");
+    expect_output("one circuit said", PLAN, "plan\t1\n" TWO "line\t1\t2\t1\nend\n", "refused\t3\t5\n");
     expect_output("nothing to add", PLAN, "plan\t0\n" SEVEN_COVERED, "fewest\t0\nend\n");
     expect_output("budget 1 is too small", PLAN, "plan\t1\n" SEVEN_EMPTY, "refused\t11\t0\n");
     expect_output("budget 0 is too small", PLAN, "plan\t0\n" SEVEN_EMPTY, "refused\t11\t0\n");

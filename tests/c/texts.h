@@ -17,6 +17,8 @@ void add_line(struct text *text, const char *format, ...);
 
 /* texts_cases.c: a valid case of any size and shape, and its text. */
 void draw_case(struct dice *dice, struct grid_case *grid);
+/* Whether a line has several circuits. */
+bool has_circuits(const struct grid_case *grid);
 void write_case_text(const struct grid_case *grid, struct text *text);
 /* Bars sites until the search for the fewest has few additions to try. */
 void shorten_search(struct dice *dice, struct grid_case *grid, size_t budget);

@@ -1,4 +1,5 @@
-/* Drawn cases: sizes from 1 to 64, lines in several shapes, any share of Z buses, open sites and units. */
+/* Drawn cases: sizes from 1 to 64, lines in several shapes, any share of lines with several circuits, of Z buses, of
+ * open sites and of units. */
 #include "texts.h"
 
 #include <stdarg.h>
@@ -18,12 +19,14 @@ void add_line(struct text *text, const char *format, ...)
     text->length += length;
 }
 
-/* A grid being drawn: `number[i]` is the bus number of its i-th bus, so that shapes do not follow the numbers. */
+/* A grid being drawn: `number[i]` is the bus number of its i-th bus, so that shapes do not follow the numbers, and
+ * `several` the share of its lines with several circuits, in percent. */
 struct drawing {
     struct dice *dice;
     struct grid_case *grid;
     unsigned number[MOST_BUSES];
     size_t lines;
+    size_t several;
 };
 
 static void join(struct drawing *drawing, size_t i, size_t j)
@@ -31,7 +34,9 @@ static void join(struct drawing *drawing, size_t i, size_t j)
     unsigned a = drawing->number[i], b = drawing->number[j];
     if (a == b || drawing->grid->joined[a][b] || drawing->lines == MOST_LINES)
         return;
-    join_buses(drawing->grid, a, b);
+    bool several = percent(drawing->dice, drawing->several);
+    unsigned circuits = several ? (unsigned)between(drawing->dice, LEAST_SAID_CIRCUITS, MOST_CIRCUITS) : 1;
+    join_buses(drawing->grid, a, b, circuits);
     drawing->lines++;
 }
 
@@ -158,6 +163,7 @@ void draw_case(struct dice *dice, struct grid_case *grid)
     memset(grid, 0, sizeof *grid);
     grid->buses = draw_size(dice);
     draw_numbers(&drawing);
+    drawing.several = draw_share(dice);
     draw_lines(&drawing);
     size_t zero_injection = draw_share(dice), open_sites = draw_share(dice);
     for (unsigned bus = 1; bus <= grid->buses; bus++) {
@@ -165,6 +171,15 @@ void draw_case(struct dice *dice, struct grid_case *grid)
         grid->open_site[bus] = percent(dice, open_sites);
     }
     draw_units(dice, grid);
+}
+
+bool has_circuits(const struct grid_case *grid)
+{
+    for (unsigned a = 1; a <= grid->buses; a++)
+        for (unsigned b = a + 1; b <= grid->buses; b++)
+            if (grid->circuits[a][b] >= LEAST_SAID_CIRCUITS)
+                return true;
+    return false;
 }
 
 void write_case_text(const struct grid_case *grid, struct text *text)
@@ -176,7 +191,9 @@ void write_case_text(const struct grid_case *grid, struct text *text)
                  grid->open_site[bus] ? 'Y' : 'N');
     for (unsigned a = 1; a <= grid->buses; a++)
         for (unsigned b = a + 1; b <= grid->buses; b++)
-            if (grid->joined[a][b])
+            if (grid->circuits[a][b] >= LEAST_SAID_CIRCUITS)
+                add_line(text, "line\t%u\t%u\t%u\n", a, b, (unsigned)grid->circuits[a][b]);
+            else if (grid->joined[a][b])
                 add_line(text, "line\t%u\t%u\n", a, b);
     for (unsigned bus = 1; bus <= grid->buses; bus++)
         if (grid->unit[bus])
