@@ -14,7 +14,8 @@
  *     bus\t2\tZ\tN\n        I: anything else) and the site (Y: a new unit may be put here, N: it may not)
  *     bus\t3\tI\tY\n
  *     line\t1\t2\n          0 to 256 lines between two buses, the lower bus first, rising by the first bus and then
- *     line\t2\t3\n          by the second
+ *     line\t2\t3\t2\n       by the second. A third number says how many parallel circuits the line has, 2 to 8. It is
+ *                           left off for one circuit. No answer depends on it
  *     pmu\t1\n              0 to 64 installed units, rising
  *     end\n                 and nothing after it
  *
@@ -44,8 +45,9 @@
  *       1      the case text has more than 8,192 bytes                                   0             all
  *       2      case text: a word, field count, class, site or number form is wrong, a    line          all
  *              record or a line feed is missing, or something follows `end`
- *       3      case text: the grid's number is not 1 to 64, another number is 0 or       line          all
- *              above n, or this is the 257th line record
+ *       3      case text: the grid's number is not 1 to 64, a bus number is 0 or above   line          all
+ *              n, a line's circuits are written and not 2 to 8, or this is the 257th
+ *              line record
  *       4      case text: the bus is not the next one, a line's first bus is not below   line          all
  *              its second, or line or pmu records do not rise
  *       6      fewer than eight bytes are lent for the set                               0             all
@@ -102,9 +104,10 @@
 
 #define WZ_VERSION "1.0.0"
 
-/* The limits: the most buses, lines, new units, steps, and bytes of the two texts. */
+/* The limits: the most buses, lines, circuits of a line, new units, steps, and bytes of the two texts. */
 #define WZ_MOST_BUSES 64
 #define WZ_MOST_LINES 256
+#define WZ_MOST_CIRCUITS 8
 #define WZ_MOST_BUDGET 8
 #define WZ_MOST_STEPS 1024
 #define WZ_CASE_BYTES 8192
