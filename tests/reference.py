@@ -32,12 +32,12 @@ class Case:
         return self.circuits.get((a, b), 0)
 
     def see(self, a, b, circuits=1):
-        """Bus a sees a line of so many circuits to bus b."""
+        """Bus a sees a line to bus b, and counts its circuits."""
         self.rows[a].add(b)
         self.circuits[a, b] = circuits
 
     def join(self, a, b, circuits=1):
-        """A line of so many circuits, seen from both ends."""
+        """A line, seen from both ends."""
         self.see(a, b, circuits)
         self.see(b, a, circuits)
 

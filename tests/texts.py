@@ -24,7 +24,7 @@ def full_case():
 
 
 def with_circuits(case, count):
-    """The same with so many circuits at every line."""
+    """The same with N circuits at every line, N the count."""
     return case.drawn(counted=[(a, b, count) for a, b in case.circuits])
 
 
