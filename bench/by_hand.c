@@ -202,9 +202,9 @@ static void mesh(int renumbered, int torus)
     for (int r = 0; r < 8; r++)
         for (int c = 0; c < 8; c++) {
             if (c < 7 || torus)
-                line(p[r * 8 + c], p[r * 8 + (c + 1) % 8]);
+                line(p[r * 8 + c], p[r * 8 + (c + 1) % 8], 1);
             if (r < 7 || torus)
-                line(p[r * 8 + c], p[(r + 1) % 8 * 8 + c]);
+                line(p[r * 8 + c], p[(r + 1) % 8 * 8 + c], 1);
         }
 }
 
@@ -216,9 +216,9 @@ static void rooks(int m, int many)
         for (int i = 0; i < m * m; i++)
             for (int j = 0; j < i; j++)
                 if (i / m == j / m || i % m == j % m)
-                    line(p[o * m * m + i], p[o * m * m + j]);
+                    line(p[o * m * m + i], p[o * m * m + j], 1);
     for (int i = many * m * m; i < 64; i++)
-        line(p[i], p[i - 1]);
+        line(p[i], p[i - 1], 1);
 }
 
 static void grid(int kind, int size, int many_zeros, int g)

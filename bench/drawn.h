@@ -39,7 +39,7 @@ static inline void chance(int lines)
     while (lines) {
         int a = dice(n), b = dice(n);
         if (a != b && !(nbr[a] & bus(b))) {
-            line(a, b);
+            line(a, b, 1);
             lines--;
         }
     }

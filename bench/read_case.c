@@ -1,14 +1,25 @@
-/* Reads a case text as document 01 says, by hand, for bench/run to time against the proved reader.
+/* Reads a case text as documents 01 and 02 say, by hand, for bench/run to time against the proved reader.
    usage: read_case FILE TIMES      prints the last answer: 100 times the place plus the refusal number, or 0 */
 #include <stdint.h>
 #include <stdio.h>
 #include <stdlib.h>
 #include <string.h>
 
+/* Those to which bus a counts circuits with the binary digit d are in circuits[d][a]. */
 struct grid {
     size_t n;
-    uint64_t nbr[64], zero, site, units;
+    uint64_t nbr[64], circuits[4][64], zero, site, units;
 };
+
+static void join(struct grid *g, long a, long b, long k)
+{
+    g->nbr[a - 1] |= (uint64_t)1 << (b - 1);
+    g->nbr[b - 1] |= (uint64_t)1 << (a - 1);
+    for (int d = 0; d < 4; d++) {
+        g->circuits[d][a - 1] |= (uint64_t)(k >> d & 1) << (b - 1);
+        g->circuits[d][b - 1] |= (uint64_t)(k >> d & 1) << (a - 1);
+    }
+}
 
 /* the number in s[a..e), or -1 where its form is wrong */
 static long number(const unsigned char *s, size_t a, size_t e)
@@ -73,17 +84,19 @@ static unsigned long read_case(const unsigned char *s, size_t len, struct grid *
             g->zero |= (uint64_t)z << (v - 1);
             g->site |= (uint64_t)y << (v - 1);
             buses++;
-        } else if (is(s, FROM(0), TO(0), "line") && k == 3) {
+        } else if (is(s, FROM(0), TO(0), "line") && (k == 3 || k == 4)) {
             long a = number(s, FROM(1), TO(1)), b = number(s, FROM(2), TO(2));
-            if (a < 0 || b < 0 || !past || unit > 0)
+            long circuits = k == 4 ? number(s, FROM(3), TO(3)) : 1;
+            if (a < 0 || b < 0 || circuits < 0 || !past || unit > 0)
                 return line * 100 + 2;
             if (a < 1 || (size_t)a > g->n || b < 1 || (size_t)b > g->n || lines == 256)
+                return line * 100 + 3;
+            if (k == 4 && (circuits < 2 || circuits > 8))
                 return line * 100 + 3;
             if (a >= b || a < la || (a == la && b <= lb))
                 return line * 100 + 4;
             la = a, lb = b, lines++;
-            g->nbr[a - 1] |= (uint64_t)1 << (b - 1);
-            g->nbr[b - 1] |= (uint64_t)1 << (a - 1);
+            join(g, a, b, circuits);
         } else if (is(s, FROM(0), TO(0), "pmu") && k == 2) {
             long v = number(s, FROM(1), TO(1));
             if (v < 0 || !past)
