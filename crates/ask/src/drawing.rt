@@ -40,8 +40,11 @@ fn unmarked(s: BusSet, b: usize) -> BusSet {
     busset::without(s, b)
 }
 
-// Bus a sees a line to bus b.
-fn one_sided(case: Case, a: usize, b: usize) -> Case {
+// The most circuits that can be counted: four binary digits hold a count.
+const MOST_COUNTED: usize = 15;
+
+// Bus a sees bus b as a neighbour, and counts as many circuits to it as it did.
+fn with_neighbour(case: Case, a: usize, b: usize) -> Case {
     let mut c = case;
     if a < 1 {
         return c;
@@ -54,7 +57,57 @@ fn one_sided(case: Case, a: usize, b: usize) -> Case {
     c
 }
 
-// A line between a and b.
+// The circuits that bus a counts to bus b; 0 if one of them is no bus.
+fn counted(case: Case, a: usize, b: usize) -> usize {
+    if a < 1 {
+        return 0;
+    }
+    if MOST_BUSES < a {
+        return 0;
+    }
+    if b < 1 {
+        return 0;
+    }
+    if MOST_BUSES < b {
+        return 0;
+    }
+    grid::circuits(&case.nbr, a, b)
+}
+
+// Bus a counts k circuits to bus b.
+fn with_count(case: Case, a: usize, b: usize, k: usize) -> Case {
+    let mut c = case;
+    if a < 1 {
+        return c;
+    }
+    if MOST_BUSES < a {
+        return c;
+    }
+    if b < 1 {
+        return c;
+    }
+    if MOST_BUSES < b {
+        return c;
+    }
+    grid::set_circuits(&mut c.nbr, a, b, k);
+    c
+}
+
+// Bus a counts one circuit more to bus b.
+fn with_circuit(case: Case, a: usize, b: usize) -> Case {
+    let k = counted(case, a, b);
+    if MOST_COUNTED <= k {
+        return case;
+    }
+    with_count(case, a, b, k + 1)
+}
+
+// Bus a sees a line of one circuit to bus b.
+fn one_sided(case: Case, a: usize, b: usize) -> Case {
+    with_count(with_neighbour(case, a, b), a, b, 1)
+}
+
+// A line of one circuit between a and b.
 fn joined(case: Case, a: usize, b: usize) -> Case {
     one_sided(one_sided(case, a, b), b, a)
 }
@@ -84,7 +137,8 @@ fn with_unit(case: Case, b: usize) -> Case {
 }
 
 // What a line draws at the case. n: as many buses. z, y, x, u: a Z bus, a Y site, an N site, a unit.
-// l, h: a line, and half of one, seen from a alone.
+// l, h: a line of one circuit, and half of one, seen from a alone.
+// j, c: a neighbour, and one circuit more, seen from a alone.
 pub fn drawn(case: Case, letter: u8, a: usize, b: usize) -> Case {
     match letter {
         b'n' => blank(a),
@@ -94,6 +148,8 @@ pub fn drawn(case: Case, letter: u8, a: usize, b: usize) -> Case {
         b'u' => with_unit(case, a),
         b'l' => joined(case, a, b),
         b'h' => one_sided(case, a, b),
+        b'j' => with_neighbour(case, a, b),
+        b'c' => with_circuit(case, a, b),
         _ => case,
     }
 }

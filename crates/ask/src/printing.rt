@@ -1,4 +1,5 @@
 // Texts, numbers, sets, steps, cases and refusals, printed.
+ghost use Rattle.busset.specs.Sets.{Bus, width};
 use grid::Rows;
 use grid::limits::MOST_BUSES;
 use step::NamedBus;
@@ -101,16 +102,54 @@ fn rows(nbr: &Rows) {
     }
 }
 
+// The circuits that a row says: one to a neighbour, and none to another bus.
+fn said(row: BusSet, b: usize) -> usize
+    requires { ⌜ Bus width b ⌝ }
+{
+    if busset::has(row, b) {
+        return 1;
+    }
+    0
+}
+
+// The circuits that a counts to b, if the row of a does not say them.
+fn count(nbr: &Rows, a: usize, b: usize)
+    requires { ⌜ Bus width a × Bus width b ⌝ }
+{
+    let k = grid::circuits(nbr, a, b);
+    if k != said(grid::row(nbr, a), b) {
+        text(b", circuits");
+        spaced(a);
+        spaced(b);
+        spaced(k);
+    }
+}
+
+fn counts_of(nbr: &Rows, a: usize)
+    requires { ⌜ Bus width a ⌝ }
+{
+    for b in 1..=MOST_BUSES {
+        count(nbr, a, b);
+    }
+}
+
+fn counts(nbr: &Rows) {
+    for a in 1..=MOST_BUSES {
+        counts_of(nbr, a);
+    }
+}
+
 fn named(name: &[u8], s: BusSet) {
     text(name);
     set(s);
 }
 
-// Every field of a case; a row with no bus is left out.
+// Every field of a case; a row with no bus is left out, and so is a count that the rows say.
 pub fn case(c: Case) {
     text(b", n");
     spaced(c.n);
     rows(&c.nbr);
+    counts(&c.nbr);
     named(b", zero", c.zero);
     named(b", site", c.site);
     named(b", units", c.units);
