@@ -117,10 +117,10 @@
 #define WZ_SET_BYTES 8
 
 /* The bytes of stack that each call takes at most (see STACK). */
-#define WZ_OBSERVED_STACK 8192
-#define WZ_UNCONFIRMED_STACK 8192
-#define WZ_FEWEST_STACK 16384
-#define WZ_REPLAY_STACK 8192
+#define WZ_OBSERVED_STACK 16384
+#define WZ_UNCONFIRMED_STACK 16384
+#define WZ_FEWEST_STACK 32768
+#define WZ_REPLAY_STACK 16384
 
 #ifdef __cplusplus
 extern "C" {
