@@ -1,4 +1,5 @@
 // Case values and stated sets, drawn bus by bus and line by line. What names no bus of a word is left out.
+ghost use Rattle.busset.specs.Sets.{Bus, width};
 use grid::limits::MOST_BUSES;
 use wozgrzyt::BusSet;
 use wozgrzyt::Case;
@@ -44,72 +45,59 @@ fn unmarked(s: BusSet, b: usize) -> BusSet {
 const MOST_COUNTED: usize = 15;
 
 // Bus a sees bus b as a neighbour, and counts as many circuits to it as it did.
-fn with_neighbour(case: Case, a: usize, b: usize) -> Case {
+fn with_neighbour(case: Case, a: usize, b: usize) -> Case
+    requires { ⌜ Bus width a × Bus width b ⌝ }
+{
     let mut c = case;
-    if a < 1 {
-        return c;
-    }
-    if MOST_BUSES < a {
-        return c;
-    }
-    let near = marked(grid::row(&c.nbr, a), b);
+    let near = busset::with(grid::row(&c.nbr, a), b);
     grid::set_row(&mut c.nbr, a, near);
     c
 }
 
-// The circuits that bus a counts to bus b; 0 if one of them is no bus.
-fn counted(case: Case, a: usize, b: usize) -> usize {
-    if a < 1 {
-        return 0;
-    }
-    if MOST_BUSES < a {
-        return 0;
-    }
-    if b < 1 {
-        return 0;
-    }
-    if MOST_BUSES < b {
-        return 0;
-    }
-    grid::circuits(&case.nbr, a, b)
-}
-
-// Bus a counts k circuits to bus b.
-fn with_count(case: Case, a: usize, b: usize, k: usize) -> Case {
+// Bus a counts one circuit more to bus b.
+fn with_circuit(case: Case, a: usize, b: usize) -> Case
+    requires { ⌜ Bus width a × Bus width b ⌝ }
+{
     let mut c = case;
-    if a < 1 {
+    let k = grid::circuits(&c.nbr, a, b);
+    if MOST_COUNTED <= k {
         return c;
     }
-    if MOST_BUSES < a {
-        return c;
-    }
-    if b < 1 {
-        return c;
-    }
-    if MOST_BUSES < b {
-        return c;
-    }
-    grid::set_circuits(&mut c.nbr, a, b, k);
+    grid::set_circuits(&mut c.nbr, a, b, k + 1);
     c
 }
 
-// Bus a counts one circuit more to bus b.
-fn with_circuit(case: Case, a: usize, b: usize) -> Case {
-    let k = counted(case, a, b);
-    if MOST_COUNTED <= k {
+// Bus a sees a line of one circuit to bus b.
+fn one_sided(case: Case, a: usize, b: usize) -> Case
+    requires { ⌜ Bus width a × Bus width b ⌝ }
+{
+    let mut c = with_neighbour(case, a, b);
+    grid::set_circuits(&mut c.nbr, a, b, 1);
+    c
+}
+
+// What a line draws between two buses. l, h: a line of one circuit, and half of one, seen from a alone.
+// j, c: a neighbour, and one circuit more, seen from a alone.
+fn drawn_between(case: Case, letter: u8, a: usize, b: usize) -> Case {
+    if a < 1 {
         return case;
     }
-    with_count(case, a, b, k + 1)
-}
-
-// Bus a sees a line of one circuit to bus b.
-fn one_sided(case: Case, a: usize, b: usize) -> Case {
-    with_count(with_neighbour(case, a, b), a, b, 1)
-}
-
-// A line of one circuit between a and b.
-fn joined(case: Case, a: usize, b: usize) -> Case {
-    one_sided(one_sided(case, a, b), b, a)
+    if MOST_BUSES < a {
+        return case;
+    }
+    if b < 1 {
+        return case;
+    }
+    if MOST_BUSES < b {
+        return case;
+    }
+    match letter {
+        b'l' => grid::with_line(case, a, b, 1),
+        b'h' => one_sided(case, a, b),
+        b'j' => with_neighbour(case, a, b),
+        b'c' => with_circuit(case, a, b),
+        _ => case,
+    }
 }
 
 fn with_zero(case: Case, b: usize) -> Case {
@@ -137,8 +125,6 @@ fn with_unit(case: Case, b: usize) -> Case {
 }
 
 // What a line draws at the case. n: as many buses. z, y, x, u: a Z bus, a Y site, an N site, a unit.
-// l, h: a line of one circuit, and half of one, seen from a alone.
-// j, c: a neighbour, and one circuit more, seen from a alone.
 pub fn drawn(case: Case, letter: u8, a: usize, b: usize) -> Case {
     match letter {
         b'n' => blank(a),
@@ -146,11 +132,7 @@ pub fn drawn(case: Case, letter: u8, a: usize, b: usize) -> Case {
         b'y' => with_site(case, a),
         b'x' => without_site(case, a),
         b'u' => with_unit(case, a),
-        b'l' => joined(case, a, b),
-        b'h' => one_sided(case, a, b),
-        b'j' => with_neighbour(case, a, b),
-        b'c' => with_circuit(case, a, b),
-        _ => case,
+        _ => drawn_between(case, letter, a, b),
     }
 }
 
