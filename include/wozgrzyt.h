@@ -117,8 +117,8 @@
 #define WZ_SET_BYTES 8
 
 /* The bytes of stack that each call takes at most (see STACK). */
-#define WZ_OBSERVED_STACK 16384
-#define WZ_UNCONFIRMED_STACK 16384
+#define WZ_OBSERVED_STACK 20480
+#define WZ_UNCONFIRMED_STACK 20480
 #define WZ_FEWEST_STACK 32768
 #define WZ_REPLAY_STACK 16384
 

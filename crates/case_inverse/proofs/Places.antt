@@ -17,9 +17,9 @@ use Rattle.busset.proofs.Holding.{hold-there, if-there}
 use Rattle.text_field.proofs.Tested.{both}
 use Rattle.case_line.specs.declared.Record.{Record}
 use Rattle.case_line.specs.declared.Record.the-variants.{Grid, Bus, Line, Circuits, Pmu, End, Wrong}
-use Rattle.grid.specs.Limits.{mostBuses, mostLines, mostCircuits}
+use Rattle.grid.specs.Limits.{mostBuses, mostLines}
 use Rattle.grid.specs.Rows.{Rows, circuits, withLine}
-use Rattle.grid.specs.Cases.{Sized}
+use Rattle.grid.specs.Cases.{Sized, CircuitCount}
 use Rattle.grid.specs.declared.Case.{Case}
 use Rattle.grid.proofs.Joined.{joined, SameSeen, same-joined, same-circuits, Pair}
 use Rattle.grid.proofs.Joined.{line-here, count-here, line-there, line-rows}
@@ -32,7 +32,7 @@ use Rattle.case_inverse.proofs.Spots.{bus-line, bus-unit, line-unit, un
 
 -- ---- questions and places
 
--- what i sees of j: 0 where there is nothing, and else, of k circuits, 1 where they are joined and twice k
+-- what i sees of j: 1 if they are joined and 0 if not, and twice the circuits
 abbrev pub tie : Rows → ℕ → ℕ → ℕ
 tie rows i j = joined rows i j + 2 * circuits rows i j
 
@@ -92,7 +92,7 @@ line-read s single = refl
 line-read s (multiple v) = refl
 
 -- its circuits are 1 to the most
-pub line-count : {r : Record} {a b k : ℕ} → LineBy r a b k → IsBus mostCircuits k
+pub line-count : {r : Record} {a b k : ℕ} → LineBy r a b k → CircuitCount k
 line-count single = record { some = omega arith; most = omega arith }
 line-count (multiple v) = record { some = omega (arith, v .least); most = v .most }
 
@@ -176,7 +176,7 @@ line-pair s single f = f .pair
 line-pair s (multiple v) f = f .0 .pair
 
 -- what is answered of it then
-pub line-tie : (s : Reader) (a b k : ℕ) → Sized (caseSoFar s) → Pair a b → IsBus mostCircuits k
+pub line-tie : (s : Reader) (a b k : ℕ) → Sized (caseSoFar s) → Pair a b → CircuitCount k
     → answer (caseSoFar (lineRead s a b k)) (lineAt a b) ≡ 1 + 2 * k
 line-tie s a b k l y c =
     omega (arith, line-here (s .rows) a b k (l .rows) y, count-here (s .rows) a b k (l .rows) y (omega (arith, c .most)))

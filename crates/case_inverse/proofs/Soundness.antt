@@ -17,9 +17,9 @@ use Rattle.busset.proofs.Holding.{hold-there}
 use Rattle.case_line.specs.declared.Record.{Record}
 use Rattle.case_line.specs.declared.Record.the-variants.{Grid, Bus, Line, Circuits, Pmu, End, Wrong}
 use Rattle.rules.specs.Grids.{Proper as ProperGrid, Line as HasLine}
-use Rattle.grid.specs.Limits.{mostBuses, mostCircuits}
+use Rattle.grid.specs.Limits.{mostBuses}
 use Rattle.grid.specs.Rows.{busSets, rowsLength, Rows, setAt, neighbours, circuits, withLine}
-use Rattle.grid.specs.Cases.{gridOf, Lines, Sized, JoinedCounted, OthersUncounted, CountedAlike}
+use Rattle.grid.specs.Cases.{gridOf, Lines, Sized, JoinedCounted, OthersUncounted, CountedAlike, CircuitCount}
 use Rattle.grid.specs.declared.Case.{Case}
 use Rattle.case_judge.specs.Judging.{inRange}
 use Rattle.case_read.specs.Reading.{Reader, caseSoFar, nextReader, start}
@@ -86,7 +86,7 @@ module _ (rows : Rows) (a b k : ℕ) (l : length rows ≡ rowsLength) (p : Pair 
         back = same-joined (line-other rows a b k l p j i (λ x y. v y x) (λ x y. u y x)) ∙ g .back;
       })
 
-  module _ (n : IsBus mostCircuits k) (old : CountedRows rows) where
+  module _ (n : CircuitCount k) (old : CountedRows rows) where
     here : circuits new a b ≡ k
     here = count-here rows a b k l p (omega (arith, n .most))
 
@@ -95,10 +95,10 @@ module _ (rows : Rows) (a b k : ℕ) (l : length rows ≡ rowsLength) (p : Pair 
 
     with-counts : CountedRows new
     with-counts = record {
-      joins = pairs (λ i j. In (neighbours new i) j → IsBus mostCircuits (circuits new i j)) a b
-          (λ h. subst⁻¹ (IsBus mostCircuits) here n) (λ h. subst⁻¹ (IsBus mostCircuits) there n)
+      joins = pairs (λ i j. In (neighbours new i) j → CircuitCount (circuits new i j)) a b
+          (λ h. subst⁻¹ CircuitCount here n) (λ h. subst⁻¹ CircuitCount there n)
           (λ i j u v h. let q = line-other rows a b k l p i j u v in
-          subst⁻¹ (IsBus mostCircuits) (same-circuits q) (old .joins i j (sym (same-joined q) ∙ h)));
+          subst⁻¹ CircuitCount (same-circuits q) (old .joins i j (sym (same-joined q) ∙ h)));
       others = pairs (λ i j. Out (neighbours new i) j → circuits new i j ≡ 0) a b
           (λ o. absurd (omega (arith, line-here rows a b k l p))) (λ o. absurd (omega (arith, line-back rows a b k l p)))
           (λ i j u v o. let q = line-other rows a b k l p i j u v in same-circuits q ∙ old .others i j (sym (same-joined q) ∙ o));
@@ -112,7 +112,7 @@ pub record ProperAt (s : Reader) : Type 0 where
   pub proper : ProperGrid (gridOf (caseSoFar s))
   pub counts : CountedRows (s .rows)
 
-line-proper : (s : Reader) (a b k : ℕ) → Sized (caseSoFar s) → Pair a b → inRange (s .place) (Line a b) ≡ true → IsBus mostCircuits k
+line-proper : (s : Reader) (a b k : ℕ) → Sized (caseSoFar s) → Pair a b → inRange (s .place) (Line a b) ≡ true → CircuitCount k
     → ProperAt s → ProperAt (lineRead s a b k)
 line-proper s a b k l y e n c =
     let t = line-ends (s .place) a b e in

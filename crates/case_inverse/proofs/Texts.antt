@@ -2,13 +2,13 @@
 use mathlib.Core.Path.{_≡_, refl, sym, ap, _∙_, subst}
 use mathlib.Core.Bool.{Bool, true, false, cond}
 use mathlib.Core.List.{List, _∷_, _++_}
-use Prim.Native.Nat.{ℕ, suc, zero, _+_, _-_, _≤_}
+use Prim.Native.Nat.{ℕ, _+_, _-_, _≤_}
 use native.Mathlib.Omega.{arith}
 use borrow.Author.Tests.{le-ltb}
 use lib.Dec.{ltb}
-use lib.ListN.{length, getD, replicate}
+use lib.ListN.{length}
 use Rattle.busset.specs.Sets.{bit, setOf}
-use Rattle.busset.specs.Held.{SetWord, emptyWord}
+use Rattle.busset.specs.Held.{emptyWord}
 use Rattle.busset.proofs.Digits.{bit-zero}
 use Rattle.busset.proofs.Words.{set-empty}
 use Rattle.grid.specs.Limits.{mostBuses, mostBytes}

@@ -11,9 +11,9 @@ use Rattle.busset.specs.Sets.{bit, setOf, width, Bus as IsBus}
 use Rattle.busset.specs.Held.{holdIf}
 use Rattle.basics.proofs.Tests.{below-or, same-or}
 use Rattle.busset.proofs.Holding.{hold-here, if-here}
-use Rattle.grid.specs.Limits.{mostBuses, mostLines, mostCircuits, leastSeveral}
+use Rattle.grid.specs.Limits.{mostBuses, mostLines, leastSeveral}
 use Rattle.grid.specs.Rows.{neighbours, circuits}
-use Rattle.grid.specs.Cases.{Sized, JoinedCounted, OthersUncounted}
+use Rattle.grid.specs.Cases.{Sized, JoinedCounted, OthersUncounted, CircuitCount}
 use Rattle.case_judge.specs.declared.Place.{Place}
 use Rattle.case_line.specs.declared.Record.{Record}
 use Rattle.case_line.specs.declared.Record.the-variants.{Grid, Line, Circuits, Pmu, End}
@@ -227,7 +227,7 @@ lineOf c = lineFrom (circuits (c .nbr))
 abbrev countOf : Case → ℕ → ℕ → ℕ
 countOf c = circuits (c .nbr)
 
-line-by : (a b k : ℕ) → IsBus mostCircuits k → LineBy (lineRecord a b k) a b k
+line-by : (a b k : ℕ) → CircuitCount k → LineBy (lineRecord a b k) a b k
 line-by a b k n =
     ⊎-elim
     (λ (l : k < leastSeveral). let e : k ≡ 1 = omega (arith, n .some) in
@@ -254,7 +254,7 @@ line-upto {a = a} {b = b} single u e h = take-next (Line a b) (linePlace a (b + 
 line-upto {a = a} {b = b} {k = k} (multiple v) u e h = take-next (Circuits a b k) (linePlace a (b + 1)) (next-spot _ _ _) u e refl h
 
 line-answer : (c : Case) (s : Reader) (a b : ℕ) → Sized (caseSoFar s) → Pair a b → joined (c .nbr) a b ≡ 1
-    → IsBus mostCircuits (countOf c a b)
+    → CircuitCount (countOf c a b)
     → (q : Ask) → AskInRange q → place q ≡ linePlace a b → answer c q ≡ answer (caseSoFar (lineRead s a b (countOf c a b))) q
 line-answer c s a b l y t n =
     at-line (λ (q : Ask). answer c q ≡ answer (caseSoFar (lineRead s a b (countOf c a b))) q) a b y

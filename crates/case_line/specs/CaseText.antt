@@ -32,11 +32,11 @@ unfoldable pub members : (ℕ → Record) → ℕ → ℕ → ℕ → List Recor
 members f s k zero = []
 members f s k (suc m) = cond (has s k) (f k ∷ members f s (k + 1) m) (members f s (k + 1) m)
 
--- the line from a to b, by k circuits: a text says them where they are several
+-- the line from a to b, by k circuits: a text says them if they are several
 abbrev pub lineRecord : ℕ → ℕ → ℕ → Record
 lineRecord a b k = cond (ltb k leastSeveral) (Line a b) (Circuits a b k)
 
--- the line from a to b, where these are the circuits
+-- the line from a to b, of these circuits
 abbrev pub lineFrom : (ℕ → ℕ → ℕ) → ℕ → ℕ → Record
 lineFrom counts a b = lineRecord a b (counts a b)
 

@@ -57,7 +57,7 @@ fn put_buses(out: &mut [u8], at: usize, n: usize, zero: BusSet, site: BusSet) ->
     k
 }
 
-// The line from a to b, which says its circuits where they are several.
+// The line from a to b, which says its circuits if they are several.
 fn line_record(nbr: &Rows, a: usize, b: usize) -> Record
     requires { ⌜ Bus width a × Bus width b ⌝ }
     ensures { λ r. ⌜ r ≡ lineFrom (circuits (now (nbr .entry))) a b ⌝ }

@@ -1,12 +1,11 @@
 -- The counts of circuits by their digits: what the checks of the sets say of the counts.
-use mathlib.Core.Path.{_≡_, refl, sym, ap, _∙_}
+use mathlib.Core.Path.{_≡_, sym, ap, _∙_}
 use mathlib.Core.Logic.{⊎-elim}
-use Prim.Native.Nat.{ℕ, _+_, _*_, _<_, max, min}
+use Prim.Native.Nat.{ℕ, _+_, _*_, _<_}
 use native.Mathlib.Omega.{arith}
-use Rattle.busset.specs.Sets.{Bus, bit, In, Out, empty, Union, Both}
+use Rattle.busset.specs.Sets.{bit, In, Out, empty, Union, Both}
 use Rattle.busset.proofs.Digits.{bit-zero, ext}
 use Rattle.busset.proofs.Members.{in-or, empty-of}
-use Rattle.grid.specs.Limits.{mostCircuits}
 use Rattle.grid.specs.Rows.{busSets, Rows, setAt, neighbours, circuits}
 use Rattle.grid.specs.Cases.{JoinedCounted, OthersUncounted, CountedAlike}
 use Rattle.grid.specs.Counting.{DigitsMirrored, CountsAt}

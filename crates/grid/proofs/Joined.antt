@@ -1,21 +1,20 @@
 -- Rows with a line more: its two ends are joined and count its circuits, and nothing else changes.
-use mathlib.Core.Path.{_≡_, refl, sym, ap, ap₂, _∙_, subst⁻¹}
+use mathlib.Core.Path.{_≡_, refl, sym, ap, _∙_, subst⁻¹}
 use mathlib.Core.Bool.{Bool, true, false, cond}
 use mathlib.Core.Logic.{⊎-elim}
-use Prim.Native.Nat.{ℕ, _+_, _-_, _*_, _/_, _%_, _≤_, _<_}
+use Prim.Native.Nat.{ℕ, _-_, _*_, _/_, _%_, _≤_, _<_}
 use native.Mathlib.Omega.{arith}
 use borrow.Author.Tests.{eqb-true, eqb-false}
-use lib.Dec.{eqb}
 use lib.ListN.{length}
 use Rattle.basics.proofs.Tests.{same-or}
-use Rattle.busset.specs.Sets.{Bus, bit, Out, add, less}
+use Rattle.busset.specs.Sets.{bit, add, less}
 use Rattle.busset.specs.Held.{wordOf}
 use Rattle.busset.proofs.Members.{add-here, add-there, less-here, less-there}
 use Rattle.busset.proofs.Holding.{word-set}
 use Rattle.grid.specs.Limits.{mostBuses, mostCircuits}
 use Rattle.grid.specs.Rows.{busSets, rowsLength, Rows, setAt, neighbours, circuits, withBit, isOdd, withCircuits}
 use Rattle.grid.specs.Rows.{withEnd, withLine}
-use Rattle.grid.proofs.Rows.{set-bus, row-set, set-put-same, set-put-other, set-put-length}
+use Rattle.grid.proofs.Rows.{set-bus, set-put-same, set-put-other, set-put-length}
 
 -- 1 where i and j are joined as seen from i, else 0
 abbrev pub joined : Rows → ℕ → ℕ → ℕ

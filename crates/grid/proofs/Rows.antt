@@ -1,10 +1,9 @@
 -- The sets of each bus, by bus number and place: what is read after a set is put.
 use mathlib.Core.Path.{_≡_, refl, sym, ap, _∙_}
-use mathlib.Core.Bool.{Bool, true, false, cond}
 use mathlib.Core.List.{_++_}
 use Prim.Native.Nat.{ℕ, zero, suc, _+_, _-_, _*_, _≤_, _<_}
 use native.Mathlib.Omega.{arith}
-use lib.ListN.{getD, length, length-set, length-replicate, length-append, replicate, List·getD-eq-default}
+use lib.ListN.{getD, length, length-set, length-replicate, replicate, List·getD-eq-default}
 use lib.Seq.{getD-set-same, getD-set-other}
 use Rattle.busset.specs.Sets.{bit, In, Out, empty, setOf}
 use Rattle.busset.specs.Held.{SetWord, emptyWord}

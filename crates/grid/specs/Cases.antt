@@ -51,9 +51,14 @@ LinesAt n nbr b = (a : ℕ) → In (nbr b) a → Line n nbr b a
 abbrev pub Lines : ℕ → (ℕ → ℕ) → Type 0
 Lines n nbr = (b : ℕ) → LinesAt n nbr b
 
+-- k is a count of circuits, 1 to the most
+pub record CircuitCount (k : ℕ) : Type 0 where
+  pub some : 1 ≤ k
+  pub most : k ≤ mostCircuits
+
 -- a joined pair is counted 1 to the most circuits, as a counts
 abbrev pub JoinedCounted : Rows → ℕ → Type 0
-JoinedCounted rows a = (b : ℕ) → In (neighbours rows a) b → Bus mostCircuits (circuits rows a b)
+JoinedCounted rows a = (b : ℕ) → In (neighbours rows a) b → CircuitCount (circuits rows a b)
 
 -- any other pair is counted 0: one that is not joined, a bus with itself, a bus above n
 abbrev pub OthersUncounted : Rows → ℕ → Type 0
@@ -71,7 +76,9 @@ pub record Valid (c : Case) : Type 0 where
   pub proper : Proper (gridOf c)
   -- there are no more lines than the most
   pub few : lineCount (c .n) (neighbours (c .nbr)) ≤ mostLines
-  -- a joined pair is counted 1 to the most circuits, any other pair is counted 0, and the two ends count alike
+  -- a joined pair is counted 1 to the most circuits
   pub joined : (a : ℕ) → JoinedCounted (c .nbr) a
+  -- any other pair is counted 0
   pub others : (a : ℕ) → OthersUncounted (c .nbr) a
+  -- the two ends count alike
   pub alike : (a : ℕ) → CountedAlike (c .nbr) a

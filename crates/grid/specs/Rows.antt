@@ -46,7 +46,7 @@ withSet rows b i w = set rows (busSets * (b - 1) + i) w
 abbrev pub withRow : Rows → ℕ → SetWord → Rows
 withRow rows b w = withSet rows b 0 w
 
--- the rows with b in set i of bus a where t, and not in it otherwise
+-- the rows with b in set i of bus a if t, and not in it otherwise
 unfoldable pub withBit : Rows → ℕ → ℕ → ℕ → Bool → Rows
 withBit rows a i b t = withSet rows a i (wordOf (cond t (add (setAt rows a i) b) (less (setAt rows a i) b)))
 

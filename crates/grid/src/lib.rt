@@ -88,7 +88,7 @@ pub fn set_row(rows: &mut Rows, b: usize, s: BusSet)
     put_set(rows, b, 0, s);
 }
 
-// The set with b where t, and without it otherwise.
+// The set with b if t, and without it otherwise.
 fn with_if(t: bool, s: BusSet, b: usize) -> BusSet
     requires { ⌜ Bus width b ⌝ }
     ensures { λ r. ⌜ r ≡ wordOf (cond t (add (setOf s) b) (less (setOf s) b)) ⌝ }
@@ -99,7 +99,7 @@ fn with_if(t: bool, s: BusSet, b: usize) -> BusSet
     busset::without(s, b)
 }
 
-// Puts b into set i of bus a where t, and takes it out otherwise.
+// Puts b into set i of bus a if t, and takes it out otherwise.
 fn put_bit(rows: &mut Rows, a: usize, i: usize, b: usize, t: bool)
     requires { ⌜ Bus width a × (i < busSets) × Bus width b ⌝ }
     ensures { λ _. ⌜ now (rows .exit) ≡ withBit (now (rows .entry)) a i b t ⌝ }

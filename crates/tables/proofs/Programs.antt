@@ -23,7 +23,7 @@ use Rattle.refusals.specs.declared.Refusal.{Refusal}
 use Rattle.refusals.specs.declared.Refusal.the-variants.{WrongForm, OutOfRange, ReasonFails, OverBudget, NoCover}
 use Rattle.refusals.proofs.Orders.{itself}
 use Rattle.case_line.specs.CaseText.{members, linesText}
-use Rattle.grid.specs.Rows.{setAt, neighbours, circuits, withBit, withCircuits, withEnd, withLine}
+use Rattle.grid.specs.Rows.{setAt, neighbours, withBit, withCircuits, withEnd, withLine}
 use Rattle.case_judge.specs.Judging.{isBus, isSeveral, isAfter, pastBuses, judged}
 use Rattle.case_read.specs.Reading.{readLines, readText, readCase}
 use Rattle.report_lines.specs.Printing.{refusedText}

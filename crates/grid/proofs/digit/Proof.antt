@@ -1,5 +1,4 @@
 -- A bus is in a set or not, and its digit is 1 or 0.
-use borrow.Author.Tests.{not-true, not-false}
 use Rattle.basics.proofs.Tests.{refutes}
 use Rattle.grid.proofs.Rows.{digit-in, digit-out}
 use borrow.Author.Needs.{needs}
