@@ -26,7 +26,7 @@ use Rattle.case_inverse.proofs.Texts.{begun, first-stand, reads-of, of-
 use Rattle.case_inverse.proofs.Written.{Above, Writable, linesOf, readable}
 use Rattle.case_inverse.proofs.Few.{read-few}
 use Rattle.case_inverse.proofs.Soundness.{Sound, read-sound, known}
-use Rattle.case_inverse.proofs.Lengths.{lines-append, lines-short}
+use Rattle.case_inverse.proofs.Lengths.{append-length, lines-short}
 
 -- ---- a valid case is written
 
@@ -63,9 +63,9 @@ text-within c v =
     simp length-append (omega (
       arith,
       record-length (Grid (c .n)),
-      lines-append B (L ++ (U ++ End ∷ [])),
-      lines-append L (U ++ End ∷ []),
-      lines-append U (End ∷ []),
+      append-length B (L ++ (U ++ End ∷ [])),
+      append-length L (U ++ End ∷ []),
+      append-length U (End ∷ []),
       lines-length B,
       buses-length (setOf (c .zero)) (setOf (c .site)) 1 (c .n),
       lines-short (neighbours (c .nbr)) (circuits (c .nbr)) 1 (c .n) (λ i j. omega (arith, circuits-few (c .nbr) i j)) .length-of,

@@ -1,5 +1,5 @@
 -- How long the text of a case is: its circuits have at most two digits, so its lines are shorter than any record may be.
-use mathlib.Core.Path.{_≡_}
+use mathlib.Core.Path.{_≡_, ap, _∙_}
 use mathlib.Core.Bool.{Bool, true, false, cond}
 use mathlib.Core.List.{List, [], _∷_, _++_}
 use Prim.Native.Nat.{ℕ, suc, zero, _+_, _*_, _≤_, _<_}
@@ -13,6 +13,7 @@ use Rattle.text_field.proofs.Digits.{text-length, text-two}
 use Rattle.case_line.specs.Record.{recordText}
 use Rattle.case_line.specs.declared.Record.{Record}
 use Rattle.case_line.specs.declared.Record.the-variants.{Line, Circuits}
+use Rattle.case_read.proofs.Lengths.{lines-append}
 use Rattle.case_line.specs.CaseText.{has, members, lineRecord, lineFrom, lineRecords, linesText}
 
 -- no line is longer than this: `line`, three tabs, two numbers and two digits
@@ -41,14 +42,12 @@ short-more : (r : Record) (rs : List Record) → length (recordText r) ≤ short
 unfolding linesText
 short-more r rs l s = record { length-of = simp length-append (omega (arith, s .length-of)) }
 
-pub lines-append : (rs qs : List Record) → length (linesText (rs ++ qs)) ≡ length (linesText rs) + length (linesText qs)
-unfolding linesText
-lines-append [] qs = omega arith
-lines-append (r ∷ rs) qs = simp length-append (omega (arith, lines-append rs qs))
+pub append-length : (rs qs : List Record) → length (linesText (rs ++ qs)) ≡ length (linesText rs) + length (linesText qs)
+append-length rs qs = ap length (lines-append rs qs) ∙ length-append (linesText rs) (linesText qs)
 
 short-append : (rs qs : List Record) → Short rs → Short qs → Short (rs ++ qs)
 short-append rs qs s t =
-    record { length-of = omega (arith, lines-append rs qs, length-append rs qs, s .length-of, t .length-of) }
+    record { length-of = omega (arith, append-length rs qs, length-append rs qs, s .length-of, t .length-of) }
 
 members-short : (f : ℕ → Record) (s k m : ℕ) → ((b : ℕ) → length (recordText (f b)) ≤ shortRoom) → Short (members f s k m)
 unfolding members

@@ -1,11 +1,13 @@
 -- How long a case's text is.
-use mathlib.Core.Path.{_≡_, refl, ap}
+use mathlib.Core.Path.{_≡_, refl, sym, ap, _∙_}
 use mathlib.Core.Bool.{Bool, true, false, cond}
-use mathlib.Core.List.{List, [], _∷_}
+use mathlib.Core.List.{List, [], _∷_, _++_, append-assoc}
 use Prim.Native.Nat.{ℕ, suc, zero, _+_, _*_, _≤_}
 use native.Mathlib.Omega.{arith}
 use lib.ListN.{length, length-append}
 use Rattle.grid.specs.Limits.{mostBuses}
+use Rattle.text_field.specs.Split.{lineFeed}
+use Rattle.case_line.specs.Record.{recordText}
 use Rattle.case_line.specs.declared.Record.{Record}
 use Rattle.case_line.proofs.Lengths.{recordRoom, record-length}
 use Rattle.case_line.specs.CaseText.{has, busRecords, members, lineFrom, lineRecords, linesText}
@@ -22,6 +24,13 @@ pub lines-length : (rs : List Record) → length (linesText rs) ≤ lineRoom * l
 unfolding linesText
 lines-length [] = omega arith
 lines-length (r ∷ rs) = simp length-append (omega (arith, record-length r, lines-length rs))
+
+pub lines-append : (rs qs : List Record) → linesText (rs ++ qs) ≡ linesText rs ++ linesText qs
+unfolding linesText
+lines-append [] qs = refl
+lines-append (r ∷ rs) qs =
+    ap (λ (t : List ℕ). recordText r ++ lineFeed ∷ t) (lines-append rs qs)
+    ∙ sym (append-assoc (recordText r) (lineFeed ∷ linesText rs) (linesText qs))
 
 pub buses-length : (zeros sites k m : ℕ) → length (busRecords zeros sites k m) ≡ m
 unfolding busRecords

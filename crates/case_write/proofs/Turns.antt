@@ -19,7 +19,7 @@ use Rattle.case_line.specs.declared.Record.{Record}
 use Rattle.case_line.specs.declared.Record.the-variants.{Line, Circuits}
 use Rattle.case_line.proofs.Lengths.{record-length}
 use Rattle.case_line.specs.CaseText.{has, busRecord, busRecords, members, lineFrom, lineRecords, linesText}
-use Rattle.case_read.proofs.Lengths.{lineRoom, lines-length, members-length, rowRoom}
+use Rattle.case_read.proofs.Lengths.{lineRoom, lines-length, lines-append, members-length, rowRoom}
 use Rattle.text_put.specs.Put.{Put}
 use Rattle.case_write.specs.Lines.{lineText}
 use Rattle.text_put.proofs.Left.{Left, left-none, left-more, left-all}
@@ -29,13 +29,6 @@ use Rattle.text_put.proofs.Left.{Left, left-none, left-more, left-all}
 lines-cons : (r : Record) (rs : List Record) → linesText (r ∷ rs) ≡ lineText r ++ linesText rs
 unfolding linesText lineText
 lines-cons r rs = sym (append-assoc (recordText r) (lineFeed ∷ []) (linesText rs))
-
-lines-append : (rs qs : List Record) → linesText (rs ++ qs) ≡ linesText rs ++ linesText qs
-unfolding linesText
-lines-append [] qs = refl
-lines-append (r ∷ rs) qs =
-    ap (λ (t : List ℕ). recordText r ++ lineFeed ∷ t) (lines-append rs qs)
-    ∙ sym (append-assoc (recordText r) (lineFeed ∷ linesText rs) (linesText qs))
 
 pub line-length : (r : Record) → length (lineText r) ≤ lineRoom
 unfolding lineText

@@ -72,7 +72,7 @@ pub set-put-length : (rows : Rows) (x i : ℕ) (w : SetWord) → length (withSet
 set-put-length rows x i w = length-set rows (busSets * (x - 1) + i) w
 
 -- rows of no line have no set
-no-words : (m k i : ℕ) → getD (replicate m emptyWord ++ replicate k emptyWord) i emptyWord ≡ emptyWord
+pub no-words : (m k i : ℕ) → getD (replicate m emptyWord ++ replicate k emptyWord) i emptyWord ≡ emptyWord
 no-words zero zero i = refl
 no-words zero (suc k) zero = refl
 no-words zero (suc k) (suc i) = no-words zero k i

@@ -143,7 +143,7 @@ pub fn add_line(rows: &mut Rows, a: usize, b: usize, k: usize)
     add_end(rows, b, a, k);
 }
 
-// The case with a line of k circuits between a and b.
+// The case with a line of k circuits, at most 15, between a and b.
 pub fn with_line(case: Case, a: usize, b: usize, k: usize) -> Case
     requires { ⌜ Bus width a × Bus width b ⌝ }
     ensures { λ r. ⌜ r ≡ lineAdded case a b k ⌝ }

@@ -64,8 +64,8 @@ pub fn is_counted(nbr: &Rows, b: usize) -> bool
     requires { ⌜ Bus width b ⌝ }
     ensures { λ r. ⌜ Decides (JoinedCounted (now (nbr .entry)) b × OthersUncounted (now (nbr .entry)) b) r ⌝ }
 {
-    let pairs = busset::union(crate::set_at(nbr, b, 1), crate::set_at(nbr, b, 2));
-    let low = busset::union(pairs, crate::set_at(nbr, b, 3));
+    let low_two = busset::union(crate::set_at(nbr, b, 1), crate::set_at(nbr, b, 2));
+    let low = busset::union(low_two, crate::set_at(nbr, b, 3));
     let high = crate::set_at(nbr, b, 4);
     if !busset::is_none(busset::both(low, high)) {
         return false;

@@ -17,7 +17,7 @@ use Rattle.grid.specs.declared.Case.{Case}
 use Rattle.grid.specs.Limits.{mostBuses, mostLines}
 use Rattle.grid.specs.Rows.{Rows, busSets, setAt, neighbours, circuits}
 use Rattle.grid.specs.Cases.{Lines, Valid}
-use Rattle.grid.proofs.Rows.{set-at, set-none, row-set}
+use Rattle.grid.proofs.Rows.{set-at, set-none, row-set, no-words}
 use Rattle.case_inverse.proofs.Counts.{both-ends}
 use Rattle.tables.specs.Starred.{singles, filled}
 
@@ -51,14 +51,9 @@ none-in zero = refl
 none-in (suc zero) = refl
 none-in (suc (suc i)) = refl
 
-no-word : (k i : ℕ) → getD (replicate k emptyWord) i emptyWord ≡ emptyWord
-no-word zero i = refl
-no-word (suc k) zero = refl
-no-word (suc k) (suc i) = no-word k i
-
 word-in : (ws : List SetWord) (m k i : ℕ) → i < busSets
     → getD (singles ws ++ replicate m emptyWord) (busSets * k + i) emptyWord ≡ setIn (getD ws k emptyWord) i
-word-in [] m k i l = no-word m (busSets * k + i) ∙ sym (none-in i)
+word-in [] m k i l = no-words 0 m (busSets * k + i) ∙ sym (none-in i)
 word-in (w ∷ ws) m zero zero l = refl
 word-in (w ∷ ws) m zero (suc zero) l = refl
 word-in (w ∷ ws) m zero (suc (suc zero)) l = refl
