@@ -1,4 +1,4 @@
--- Document 01's definitions, to be read in this order.
+-- The definitions of documents 01 and 02, to be read in this order.
 -- the grid, lines, and when a grid is proper
 pub mod Grids
 -- the two rules, and the observed set
@@ -17,3 +17,5 @@ pub mod Confirming
 pub mod Placing
 -- greedy: the site that it adds
 pub mod Choosing
+-- observation in rounds, as document 02 asks for it
+pub mod Rounds

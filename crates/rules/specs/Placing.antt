@@ -34,7 +34,7 @@ abbrev pub Rising : (ℕ → Type 0) → ℕ → List ℕ → Type 0
 Rising P low [] = Unit {0}
 Rising P low (x ∷ xs) = (low < x) × P x × Rising P x xs
 
--- the set u with the sites of a list
+-- the set u with the buses of a list
 abbrev pub placed : ℕ → List ℕ → ℕ
 placed u [] = u
 placed u (x ∷ xs) = placed (add u x) xs
