@@ -9,7 +9,7 @@ use Rattle.busset.proofs.Sizes.{size-most}
 use Rattle.step.specs.declared.Step.{Step}
 use Rattle.rules.specs.Steps.{Names}
 use Rattle.basics.specs.Lists.{Each}
-use Rattle.rules.proofs.Leasts.{least-unique}
+use Rattle.rules.proofs.Leasts.{least-unique, observed-few}
 use Rattle.rules.proofs.Lists.{finished-length}
 use Rattle.rules.proofs.Derivations.{derived-unique, derived-accepted}
 use Rattle.rules.proofs.Choices.{unconfirmed-unique}
@@ -24,7 +24,7 @@ use Rattle.report_lines.specs.Printing.{printedLine}
 use Rattle.report_lines.proofs.Printed.{refused-length}
 use Rattle.report_day.specs.Day.{stepsText, verdictFields, dayText, dayRoom, DayReport, DayFor, DayPrinted}
 use Rattle.report_day.proofs.Texts.{steps-length, verdict-length, observed-length}
-use Rattle.report_day.proofs.Reports.{observed-few, derivation-named, read-good}
+use Rattle.report_day.proofs.Reports.{derivation-named, read-good}
 
 -- ---- one text
 

@@ -6,8 +6,6 @@ use native.Mathlib.Omega.{arith}
 use lib.ListN.{length, replicate, length-append, length-replicate}
 use lib.Seq.{take-append-seam}
 use Rattle.busset.specs.Sets.{Counted, empty, size, width, setOf}
-use Rattle.busset.proofs.Sizes.{size-most}
-use Rattle.busset.proofs.Words.{all-law}
 use Rattle.step.specs.declared.Step.{Step}
 use Rattle.rules.specs.Grids.{Grid, Proper}
 use Rattle.rules.specs.Observation.{ObservedSet}
@@ -16,7 +14,7 @@ use Rattle.basics.specs.Lists.{Each}
 use Rattle.rules.specs.Derivation.{Derivation}
 use Rattle.rules.specs.Confirming.{UnconfirmedSet}
 use Rattle.rules.proofs.Reasons.{names-more}
-use Rattle.rules.proofs.Leasts.{least-bus}
+use Rattle.rules.proofs.Leasts.{observed-few}
 use Rattle.rules.proofs.Lists.{accepted-names}
 use Rattle.rules.proofs.Derivations.{derived-accepted, derivation-least, derivation-length}
 use Rattle.grid.specs.Rows.{neighbours}
@@ -39,10 +37,6 @@ use Rattle.report_day.specs.Day.{dayText, IsDayText, DayReport, DayFor, 
 use Rattle.report_day.specs.Listing.{Named}
 
 -- ---- the derivation
-
--- the observed set has at most n buses
-pub observed-few : {g : Grid} {s : ℕ} → Proper g → ObservedSet g s → size s ≤ g .n
-observed-few {g} {s} v l = size-most (g .n) s (least-bus v (all-law (g .n)) l)
 
 each-more : {n m : ℕ} → n ≤ m → (xs : List Step) → Each (Names n) xs → Each (Names m) xs
 each-more h [] e = tt

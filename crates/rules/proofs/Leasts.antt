@@ -1,10 +1,12 @@
--- The observed set: there is one at most, it lies within the grid, and with no units it is empty.
+-- The observed set: there is one at most, it lies within the grid and has at most n buses, and with no units it is empty.
 use mathlib.Core.Path.{_≡_, ap}
-use Prim.Native.Nat.{ℕ}
+use Prim.Native.Nat.{ℕ, _≤_}
 use native.Mathlib.Omega.{arith}
-use Rattle.busset.specs.Sets.{Bus, bit, In, All, empty}
+use Rattle.busset.specs.Sets.{Bus, bit, In, All, empty, size}
 use Rattle.busset.proofs.Digits.{bit-zero}
 use Rattle.busset.proofs.Members.{sub-of, sub-antisym, empty-sub}
+use Rattle.busset.proofs.Sizes.{size-most}
+use Rattle.busset.proofs.Words.{all-law}
 use Rattle.rules.specs.Grids.{Grid, Proper}
 use Rattle.rules.specs.Observation.{Closed, ObservedSet}
 
@@ -38,3 +40,6 @@ all-closed {g} {a} v all = record {
 -- so the observed set has buses of the grid alone
 pub least-bus : {g : Grid} {a s : ℕ} → Proper g → All (g .n) a → ObservedSet g s → (b : ℕ) → In s b → Bus (g .n) b
 least-bus {g} {a} v all l b h = all .only b (omega (arith, l .least a (all-closed v all) b))
+
+pub observed-few : {g : Grid} {s : ℕ} → Proper g → ObservedSet g s → size s ≤ g .n
+observed-few {g} {s} v l = size-most (g .n) s (least-bus v (all-law (g .n)) l)

@@ -8,3 +8,4 @@ pub mod Figures
 pub mod Covering
 pub mod Ordering
 pub mod Choices
+pub mod Rounds
