@@ -7,6 +7,7 @@ use native.Mathlib.Omega.{arith}
 use lib.ListN.{length}
 use Rattle.busset.specs.Sets.{Bus, Out}
 use Rattle.basics.proofs.Tests.{same-or, below-or}
+use Rattle.basics.proofs.Lacking.{Lacks}
 use Rattle.step.specs.declared.Reason.{Reason}
 use Rattle.step.specs.declared.NamedBus.{NamedBus}
 use Rattle.step.specs.declared.NamedBus.the-variants.{Nothing, Bus as BusNamed}
@@ -19,15 +20,6 @@ use Rattle.rules.specs.Derivation.{NamesAtMost, TakenFirst, NextIs}
 use Rattle.rules.proofs.Reasons.{allowed-bus, holds-names}
 
 -- ---- numbers below k that lack something
-
--- P holds of no number below k
-pub record Lacks (P : ℕ → Type 0) (k : ℕ) : Type 0 where
-  pub below : (q : ℕ) → q < k → P q → ⊥
-
-pub lacks-more : {P : ℕ → Type 0} {k : ℕ} → Lacks P k → (P k → ⊥) → Lacks P (k + 1)
-lacks-more {P} {k} h n = record {
-  below = λ q l u. ⊎-elim (λ (m : q < k). h .below q m u) (λ (m : k ≤ q). let e : q ≡ k = omega arith in n (subst P e u)) (below-or q k);
-}
 
 lacks-first : {P : ℕ → Type 0} {k : ℕ} → Lacks P k → (q : ℕ) → P q → k ≤ q
 lacks-first {P} {k} h q u = ⊎-elim (λ (l : q < k). absurd (h .below q l u)) (λ (l : k ≤ q). l) (below-or q k)

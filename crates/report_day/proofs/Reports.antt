@@ -8,7 +8,6 @@ use lib.Seq.{take-append-seam}
 use Rattle.busset.specs.Sets.{Counted, empty, size, width, setOf}
 use Rattle.step.specs.declared.Step.{Step}
 use Rattle.rules.specs.Grids.{Grid, Proper}
-use Rattle.rules.specs.Observation.{ObservedSet}
 use Rattle.rules.specs.Steps.{Names, reached}
 use Rattle.basics.specs.Lists.{Each}
 use Rattle.rules.specs.Derivation.{Derivation}

@@ -1,6 +1,6 @@
 -- Rounds: a list of all that something holds of, rising, is one list; the rounds of a grid are one list, which ends at the observed set,
 -- and there are no more of them than buses. No law here names a reason.
-use mathlib.Core.Path.{_≡_, refl, sym, ap, ap₂, _∙_, subst, subst⁻¹}
+use mathlib.Core.Path.{_≡_, refl, ap, ap₂, _∙_, subst, subst⁻¹}
 use mathlib.Core.Logic.{_⊎_, inl, inr, ⊎-elim}
 use mathlib.Core.List.{List, [], _∷_}
 use Prim.Native.Nat.{ℕ, zero, suc, _+_, _≤_, _<_}
@@ -11,13 +11,13 @@ use Rattle.basics.specs.Lists.{Each, Some}
 use Rattle.basics.proofs.Tests.{same-or, below-or}
 use Rattle.busset.specs.Sets.{bit, In, Out, Sub, Within, Lowest, Without, empty, add, size}
 use Rattle.busset.proofs.Digits.{bit-zero}
-use Rattle.busset.proofs.Members.{in-or, sub-of, sub-antisym, empty-sub, add-of, add-here, add-there}
+use Rattle.busset.proofs.Members.{in-or, sub-of, sub-antisym, empty-sub, add-here, add-there}
 use Rattle.busset.proofs.Sizes.{size-add, size-empty}
 use Rattle.rules.specs.Grids.{Grid, Proper}
 use Rattle.rules.specs.Observation.{Closed, ObservedSet}
 use Rattle.rules.specs.Steps.{Finished}
 use Rattle.rules.specs.Placing.{Rising, placed}
-use Rattle.rules.specs.Rounds.{Gives, AllRising, Round, AddsBus, RoundsFrom, RoundsOf, afterRounds}
+use Rattle.rules.specs.Rounds.{AllRising, Round, AddsBus, RoundsFrom, RoundsOf, afterRounds}
 use Rattle.rules.proofs.Reasons.{holds-more, closed-reasoned}
 use Rattle.rules.proofs.Leasts.{observed-few}
 use Rattle.rules.proofs.Lists.{finished-closed}
@@ -174,7 +174,7 @@ listing n s w = record {
 pub round-size : {g : Grid} (s : ℕ) (r : List ℕ) → Round g s r → size (placed s r) ≡ size s + length r
 round-size s r p = size-rising 0 r s (rising-to 0 0 r (omega arith) (λ b l h. h .allowed .new) (p .rising))
 
-adds-some : (r : List ℕ) → AddsBus r → 1 ≤ length r
+pub adds-some : (r : List ℕ) → AddsBus r → 1 ≤ length r
 adds-some [] a = absurd a
 adds-some (b ∷ r) a = omega arith
 

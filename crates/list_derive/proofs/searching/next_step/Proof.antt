@@ -9,6 +9,7 @@ use borrow.Author.Tests.{not-true, not-false}
 use Rattle.busset.specs.Sets.{Out, setOf}
 use Rattle.busset.specs.Held.{SetWord, emptyWord}
 use Rattle.basics.proofs.Tests.{refutes}
+use Rattle.basics.proofs.Lacking.{Lacks, lacks-more}
 use Rattle.busset.proofs.Members.{out-of}
 use Rattle.step.specs.declared.Reason.the-variants.{OwnUnit, NeighbourOf, ZeroInjection}
 use Rattle.step.specs.Reasons.{turnOf}
@@ -19,7 +20,7 @@ use Rattle.grid.specs.Cases.{gridWith}
 use Rattle.list_derive.specs.Searching.{NextAnswer}
 use Rattle.list_derive.specs.declared.searching.Next.{Next}
 use Rattle.list_derive.specs.declared.searching.Next.the-variants.{Nothing}
-use Rattle.list_derive.proofs.Nexting.{Lacks, lacks-more, names-none, FailsBefore, fails-none, fails-alone, fails-named, none-holds}
+use Rattle.list_derive.proofs.Nexting.{names-none, FailsBefore, fails-none, fails-alone, fails-named, none-holds}
 use Rattle.list_derive.proofs.Nexting.{Clear, clear-none, clear-more, finished-by, next-by, first-alone, first-named}
 use Rattle.list_derive.proofs.Siteless.{siteless-proper, next-sites}
 use borrow.Author.Needs.{needs}
