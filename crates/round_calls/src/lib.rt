@@ -1,7 +1,8 @@
 // The trainer's call: observation in rounds, as a list of numbers in the room lent.
 ghost use mathlib.Core.List.{List, [], _∷_};
-ghost use Prim.Native.Nat.{ℕ, _<_};
+ghost use Prim.Native.Nat.{ℕ, suc, _+_, _≤_, _<_};
 ghost use lib.ListN.{length};
+ghost use Rattle.busset.specs.Sets.{width};
 ghost use Rattle.text_put.specs.Put.{Put, farByte, farLine};
 ghost use Rattle.round_list.specs.Rounds.{Members, HeldRounds};
 ghost use Rattle.round_calls.specs.Replies.{roundNumbers, RoundsReply};
@@ -31,7 +32,7 @@ fn put_one(out: &mut [usize], at: usize, x: usize) -> usize
 // A round: how many buses it adds, and these, rising.
 fn put_round(out: &mut [usize], at: usize, r: BusSet) -> usize
     requires { ⌜ at < farLine ⌝ }
-    ensures { λ k. ⌜ ((buses : List ℕ) → Members r buses
+    ensures { λ k. ⌜ (k ≤ at + suc width) × ((buses : List ℕ) → Members r buses
         → Put (now (out .entry)) at (length buses ∷ buses) (now (out .exit)) k) ⌝ }
 {
     let mut k = put_one(out, at, busset::count(r));
@@ -46,7 +47,7 @@ fn put_round(out: &mut [usize], at: usize, r: BusSet) -> usize
 
 // Every round, from the first number on.
 fn put_rounds(out: &mut [usize], list: RoundSets) -> usize
-    requires { ⌜ (rounds : List (List ℕ)) × HeldRounds list rounds ⌝ }
+    requires { ⌜ ((rounds : List (List ℕ)) × HeldRounds list rounds) ⌝ }
     ensures { λ k. ⌜ ((rounds : List (List ℕ)) → HeldRounds list rounds
         → Put (now (out .entry)) 0 (roundNumbers rounds) (now (out .exit)) k) ⌝ }
 {

@@ -156,10 +156,13 @@ module _ {g : Grid} {s : ℕ} (new : SetWord) (v : Proper g) (r : RoundSet g s (
       place : count < mostBuses
       place = sofar-place few a
 
-      each : (i : ℕ) → i < count + 1 → Members (getD (set sets count new) i emptyWord) (getD (a .rounds ++ added .list ∷ []) i [])
+      HeldAt : ℕ → Type 0
+      HeldAt i = Members (getD (set sets count new) i emptyWord) (getD (a .rounds ++ added .list ∷ []) i [])
+
+      each : (i : ℕ) → i < count + 1 → HeldAt i
       each i l =
           ⊎-elim
-          (λ (e : i ≡ count). subst⁻¹ (λ (k : ℕ). Members (getD (set sets count new) k emptyWord) (getD (a .rounds ++ added .list ∷ []) k [])) e
+          (λ (e : i ≡ count). subst⁻¹ HeldAt e
           (members-by (getD-set-same sets count new emptyWord (omega (arith, a .held .room, place)))
           (getD-at (a .rounds) (added .list) [] [] count (a .held .count)) (added .members)))
           (λ (ne : i ≡ count → ⊥). members-by (getD-set-other sets count i new emptyWord ne)

@@ -48,7 +48,8 @@ loop-again c =
       search needs,
       search needs,
       λ sites v. ⊎-elim
-          (λ w. gathered-to (w .2) (gathered-yes (at .loop .inv .2 sites v) (asked .is-given .ensures sites v .yes (w .0 .taken)) (w .1 .ensures)))
+          (λ w. gathered-to (w .2)
+          (gathered-yes (at .loop .inv .2 sites v) (asked .is-given .ensures sites v .yes (w .0 .taken)) (w .1 .ensures)))
           (λ w. gathered-to (w .1) (gathered-no (at .loop .inv .2 sites v) (refutes (asked .is-given .ensures sites v) (w .0 .left))))
           (c .if1 .came),
     )

@@ -22,7 +22,8 @@ abbrev μ-loop : tie.MeasureT-loop
 
 -- what the round from s on adds, of this case's grid
 added : (c : tie.After-round Inv-loop μ-loop)
-    → let at = c .before .before in RoundSet (gridOf (at .before .before .before .args .case)) (setOf (at .loop .s)) (setOf (c .round .result))
+    → let at = c .before .before in
+    RoundSet (gridOf (at .before .before .before .args .case)) (setOf (at .loop .s)) (setOf (c .round .result))
 added c = c .round .ensures _ (c .before .before .before .before .before .pre .proper)
 
 -- it is not the last: it adds a bus
@@ -65,13 +66,15 @@ loop-less : tie.Need-loop-less Inv-loop μ-loop
 loop-less c =
     let asked = c .before .before .before in
     let valid = asked .before .before .before .before .before .pre in
-    sofar-less _ (valid .proper) (added asked) (some (c .before)) (valid .buses .most) (c .union .ensures) (asked .before .before .loop .inv)
+    sofar-less _ (valid .proper) (added asked) (some (c .before)) (valid .buses .most) (c .union .ensures)
+    (asked .before .before .loop .inv)
 
 loop-again : tie.Need-loop-again Inv-loop μ-loop
 loop-again c =
     let asked = c .before .before .before in
     let valid = asked .before .before .before .before .before .pre in
-    sofar-more _ (valid .proper) (added asked) (some (c .before)) (valid .buses .most) (c .union .ensures) (asked .before .before .loop .inv)
+    sofar-more _ (valid .proper) (added asked) (some (c .before)) (valid .buses .most) (c .union .ensures)
+    (asked .before .before .loop .inv)
 
 pub rounds-spec : {M : Type 1} → statement M
 rounds-spec =
