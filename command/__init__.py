@@ -1,1 +1,1 @@
-"""The command `wozgrzyt`: it runs the two proved programs and says in words what they reply. Nothing here is proved."""
+"""The command `wozgrzyt`: it runs the proved programs and says in words what they reply. Nothing here is proved."""

@@ -1,4 +1,4 @@
-"""Proves and builds the two programs, in a checkout, when a call needs them."""
+"""Proves and builds the three programs, in a checkout, when a call needs them."""
 import collections
 import contextlib
 import fcntl

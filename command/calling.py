@@ -10,6 +10,7 @@ from command.speaking import Misused, Stop, hold_streams, named, say
 PARTS = {
     "day": ("reporting", "day"),
     "plan": ("reporting", "plan"),
+    "rounds": ("rounds", "main"),
     "map": ("mapping", "main"),
     "tidy": ("tidying", "main"),
     "import": ("importing", "main"),

@@ -1,10 +1,11 @@
 """What the command says of itself: help, and its version."""
-from command import building, places
+from command import building, places, programs
 from command.speaking import Misused, Stop, named, show_text
 
 USAGE = """\
 usage: wozgrzyt day [CASE]                which buses are observed, and why
        wozgrzyt plan [BUDGET] [CASE]      where the fewest new units would do, within a budget of 0 to 8 (8 if none)
+       wozgrzyt rounds [CASE]             in which rounds the buses are observed, for the trainer
        wozgrzyt map [--svg|--dot] [CASE]  a table of all buses for the dispatchers, or a drawing of them
        wozgrzyt tidy [CASE]               a case text that is nearly right, put right
        wozgrzyt import FILE               a case text from a MATPOWER file or the IEEE common data format
@@ -41,6 +42,19 @@ Among the smallest additions it is the first, by comparing their rising lists nu
 Refusal 11 says that no addition within the budget will do.
 
 On a large grid the search can take long. After two seconds a terminal shows for how long it has searched.
+"""
+
+ROUNDS = """\
+usage: wozgrzyt rounds [CASE]
+
+Prints observation in rounds, a line for each round that adds a bus:
+
+    round 1: 2 3 4 7    the first round adds buses 2, 3, 4 and 7: those with a unit, and their neighbours
+    round 2: 1          the second adds bus 1
+
+Each round looks at all buses against the set as it was when the round began, and adds everything that the rules give.
+So no bus of a round counts as observed before the next round. The buses of all rounds are those that 'wozgrzyt day'
+says are observed. If there is no unit, it prints 'no rounds: no unit observes a bus'.
 """
 
 MAP = """\
@@ -119,8 +133,8 @@ However many circuits a line has, it makes its two buses neighbours once.
 """
 
 TEXTS = {
-    "day": DAY, "plan": PLAN, "map": MAP, "tidy": TIDY, "import": IMPORT, "refusal": REFUSAL, "case": CASE,
-    "help": USAGE, "version": USAGE,
+    "day": DAY, "plan": PLAN, "rounds": ROUNDS, "map": MAP, "tidy": TIDY, "import": IMPORT, "refusal": REFUSAL,
+    "case": CASE, "help": USAGE, "version": USAGE,
 }
 
 
@@ -154,7 +168,7 @@ def version(arguments):
 
 def kit_here():
     """The identity of the kit that built the programs of this checkout, or of the kit on the PATH if none did."""
-    for name in ("day", "plan"):
+    for name in programs.NAMES:
         try:
             with open(places.stamp(name), encoding="utf-8", errors="replace") as file:
                 found = file.read().strip()

@@ -4,7 +4,7 @@ A checkout has command/ at its top, with VERSION and crates/ beside it; rt build
 An installed copy has command/ in PREFIX/lib/wozgrzyt/, and beside it
 
     installed     a file that says that this is an installed copy; what is in it does not matter
-    bin/          the programs day and plan as they were built
+    bin/          the programs day, plan and rounds as they were built
     version       its first line is the project's version, its second what `rt version` printed at the build
 """
 import os
@@ -23,7 +23,7 @@ def is_installed():
 
 
 def programs():
-    """The folder of the two programs' binaries."""
+    """The folder of the programs' binaries."""
     return at("bin") if is_installed() else at("target", "bin")
 
 

@@ -1,4 +1,4 @@
-"""Asks the two proved programs. What they reply is the only source of a verdict."""
+"""Asks the three proved programs. What they reply is the only source of a verdict."""
 import os
 import re
 import subprocess
@@ -7,6 +7,7 @@ from command.building import kit_command, ready
 from command.running import run
 from command.speaking import Stop
 
+NAMES = "day", "plan", "rounds"
 REFUSED = re.compile(rb"refused\t([0-9]+)\t([0-9]+)\n")
 
 
@@ -46,7 +47,7 @@ def ask(name, words, text, patiently=False):
         raise Stop("the program '%s' cannot be run: %s" % (name, error.strerror)) from None
     if status != 0:
         raise Stop("the program '%s' did not end well: %s" % (name, ending(status)))
-    if not is_whole(reply):
+    if not is_whole(name, reply):
         raise Stop("the program '%s' gave no whole reply" % name)
     return reply
 
@@ -56,8 +57,13 @@ def ending(status):
     return "a signal ended it, number %d" % -status if status < 0 else "its status is %d" % status
 
 
-def is_whole(reply):
-    """Whether a reply is one line with a refusal, or ends with the line 'end'."""
+def is_whole(name, reply):
+    """Whether a reply is one line with a refusal, or ends with the line 'end' after others.
+
+    A report of no rounds is that line alone.
+    """
+    if name == "rounds" and reply == b"end\n":
+        return True
     return refusal(reply) is not None or reply.endswith(b"\nend\n")
 
 

@@ -22,26 +22,26 @@ class Refusal:
 REFUSALS = {
     1: Refusal(
         "a text is over its byte limit", "0",
-        "day plan", ALL_C, "read_case check_steps read_steps replay_text"),
+        "day plan rounds", ALL_C, "read_case check_steps read_steps replay_text"),
     2: Refusal(
         "a record's word, field count, class, site, reason or number form is wrong; a record or a line feed is "
         "missing; something follows `end`", "line",
-        "day plan", ALL_C, "read_case check_steps read_steps replay_text"),
+        "day plan rounds", ALL_C, "read_case check_steps read_steps replay_text"),
     3: Refusal(
         "the `grid` number is not 1 to 64; a `line`'s circuits are written and not 2 to 8; another number of a case "
         "text is 0 or above n; a number of a step text is 0 or above 64; this is the 257th `line`", "line",
-        "day plan", ALL_C, "read_case check_steps read_steps replay_text"),
+        "day plan rounds", ALL_C, "read_case check_steps read_steps replay_text"),
     4: Refusal(
         "a bus is not the next; a is not below b; `line` or `pmu` does not rise", "line",
-        "day plan", ALL_C, "read_case"),
+        "day plan rounds", ALL_C, "read_case"),
     5: Refusal(
         "a case value is not a grid: n is not 1 to 64, lines are not the same seen from both ends, a bus is joined to "
         "itself, a line, unit, class Z or site Y is at a bus above n, there are over 256 lines, a joined pair has 0 "
         "circuits or above 8, another pair has any, or circuits are not the same seen from both ends", "0",
-        calls=CASES + " write_case replay_text"),
+        calls=CASES + " write_case replay_text observed_rounds"),
     6: Refusal(
         "the answer is longer than the room lent", "0",
-        "", ALL_C, "weave place_greedy write_case read_steps day_report plan_report"),
+        "", ALL_C, "weave place_greedy write_case read_steps observed_rounds day_report plan_report rounds_report"),
     7: Refusal(
         "a step, in its bus or its reason, or a question names a bus that is not 1 to n", "step, or 0",
         "", "wz_replay", "firing_figure test_step replay weave replay_text"),

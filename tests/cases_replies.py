@@ -57,6 +57,7 @@ WRONG = [
     (["week", "--help"], "there is no 'week'"), (["plan", "x", SEVEN], "'plan' takes a budget, which is a number"),
     (["plan", "-1", SEVEN], "'plan' takes a budget"), (["plan", "2", SEVEN, SEVEN], "'plan' takes a budget"),
     (["day", SEVEN, SEVEN], "'day' takes one case"), (["day", "--quick"], "'day' has no option '--quick'"),
+    (["rounds", SEVEN, SEVEN], "'rounds' takes one case"), (["rounds", "--quick"], "'rounds' has no option '--quick'"),
     (["map", "--png", SEVEN], "'map' has no option '--png'"), (["map", SEVEN, "--svg"], "'map' takes one of"),
     (["map", "--svg", "--dot", SEVEN], "'map' takes one of"), (["map", SEVEN, SEVEN], "'map' takes one case"),
     (["tidy", SEVEN, SEVEN], "'tidy' takes one case"), (["tidy", "-q"], "'tidy' has no option '-q'"),

@@ -9,7 +9,10 @@ from cases_support import NOBODY, TOP, Called, lines_of, stored, write
 
 SEVEN = os.path.join(TOP, "cases", "seven.case")
 REPLY = stored("cases", "seven.day")
-WRITING = ["day", SEVEN], ["plan", SEVEN], ["map", SEVEN], ["tidy", SEVEN], ["refusal", "3"], ["help"], ["--version"]
+WRITING = [
+    ["day", SEVEN], ["plan", SEVEN], ["rounds", SEVEN], ["map", SEVEN], ["tidy", SEVEN], ["refusal", "3"], ["help"],
+    ["--version"],
+]
 
 
 def shell(checks, script, **others):
@@ -82,7 +85,7 @@ def check_files(checks):
         (os.path.join(SEVEN, "x"), "there is no file"), ("two\nlines", "there is no file 'two\\nlines'"),
         (b"\xff".decode("utf-8", "surrogateescape"), "there is no file '\\xff'"),
     ]:
-        for part in ("day", "map", "tidy")[:3 if name == absent else 1]:
+        for part in ("day", "rounds", "map", "tidy")[:4 if name == absent else 1]:
             checks.stops("%s %r" % (part, name), checks.call(part, name), words)
     blank = os.path.join(checks.room, "a case", "of seven")
     os.mkdir(os.path.dirname(blank))

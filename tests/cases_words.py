@@ -15,12 +15,14 @@ STEP_TEXT_REFUSALS = {51, 52, 53, 62}
 
 
 def check_table(checks):
-    """Each damaged text has its refusal and its words."""
-    words_of_day = programs.words_of("day")
+    """Each damaged text has its refusal and its words. The rounds report refuses it as the day report does."""
+    words_of_day, words_of_rounds = programs.words_of("day"), programs.words_of("rounds")
     for name, text, number, place, words in damaged_texts.DAMAGED:
         reply = programs.ask("day", words_of_day, text[:8193])
         said = explain(number, place, text[:8193])
         checks.that("%s: %r, %s" % (name, reply, said), (reply, said) == (refused(number, place), words))
+        reply = programs.ask("rounds", words_of_rounds, text[:8193])
+        checks.that("%s, in rounds: %r" % (name, reply), reply == refused(number, place))
     checks.that("there are 100 damaged texts", len(damaged_texts.DAMAGED) >= 100)
 
 
