@@ -9,13 +9,13 @@ SHELL = /bin/sh
 .NOTPARALLEL:
 .PHONY: help build install uninstall
 
-PROGRAMS = target/bin/day target/bin/plan
+PROGRAMS = target/bin/day target/bin/plan target/bin/rounds
 ARCHIVE = target/staticlib/libestimator.a
 SOURCES := $(shell find crates crates.txt -type f)
 
 help:
 	@cat <<'END'
-	make build        proves and builds the two programs and the library; needs the Rattle kit, takes some minutes
+	make build        proves and builds the three programs and the library; needs the Rattle kit, takes some minutes
 	make install      installs the command, the programs, the library, the cases and the documents into PREFIX
 	make uninstall    removes what was installed there, and nothing else
 	PREFIX=/usr/local is where it goes. DESTDIR= is put before it, for packages.
