@@ -9,3 +9,4 @@ pub mod Soundness
 pub mod Few
 pub mod Lengths
 pub mod Inverse
+pub mod Answers

@@ -20,11 +20,12 @@ use Rattle.grid.specs.declared.Case.{Case}
 use Rattle.case_read.specs.Reading.{readCase}
 use Rattle.case_read.specs.declared.ReadAnswer.{ReadAnswer}
 use Rattle.case_read.specs.declared.ReadAnswer.the-variants.{Read, Refused}
+use Rattle.case_inverse.proofs.Answers.{read-good}
 use Rattle.report_lines.specs.Printing.{printedLine}
 use Rattle.report_lines.proofs.Printed.{refused-length}
 use Rattle.report_day.specs.Day.{stepsText, verdictFields, dayText, dayRoom, DayReport, DayFor, DayPrinted}
 use Rattle.report_day.proofs.Texts.{steps-length, verdict-length, observed-length}
-use Rattle.report_day.proofs.Reports.{derivation-named, read-good}
+use Rattle.report_day.proofs.Reports.{derivation-named}
 
 -- ---- one text
 

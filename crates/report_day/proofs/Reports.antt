@@ -1,7 +1,7 @@
 -- The report of a case that was read: its derivation as a list by value, the text that it asks for, and what is said where reading refuses.
-use mathlib.Core.Path.{_≡_, sym, ap, _∙_, subst, subst⁻¹}
+use mathlib.Core.Path.{_≡_, ap, _∙_, subst⁻¹}
 use mathlib.Core.List.{List, [], _∷_, _++_}
-use Prim.Native.Nat.{ℕ, _+_, _-_, _≤_, _<_}
+use Prim.Native.Nat.{ℕ, _+_, _-_, _≤_}
 use native.Mathlib.Omega.{arith}
 use lib.ListN.{length, replicate, length-append, length-replicate}
 use lib.Seq.{take-append-seam}
@@ -18,9 +18,7 @@ use Rattle.rules.proofs.Lists.{accepted-names}
 use Rattle.rules.proofs.Derivations.{derived-accepted, derivation-least, derivation-length}
 use Rattle.grid.specs.Rows.{neighbours}
 use Rattle.grid.specs.Cases.{gridOf, Valid}
-use Rattle.refusals.specs.Refusals.{placeOf}
 use Rattle.grid.specs.declared.Case.{Case}
-use Rattle.refusals.specs.declared.Refusal.{Refusal}
 use Rattle.list_derive.specs.Deriving.{Derives}
 use Rattle.step.specs.Records.{noStep}
 use Rattle.list_value.specs.Lists.{listedSteps, listOf}
@@ -28,10 +26,7 @@ use Rattle.list_value.specs.declared.StepList.{StepList}
 use Rattle.case_read.specs.Reading.{readCase}
 use Rattle.case_read.specs.declared.CaseRead.{CaseRead}
 use Rattle.case_read.specs.declared.ReadAnswer.{ReadAnswer}
-use Rattle.case_read.specs.declared.ReadAnswer.the-variants.{Read, Refused}
-use Rattle.text_field.specs.Number.{mostPrinted}
-use Rattle.case_read.proofs.Refusing.{read-place}
-use Rattle.case_inverse.proofs.Inverse.{read-valid}
+use Rattle.case_inverse.proofs.Answers.{read-says}
 use Rattle.report_day.specs.Day.{dayText, IsDayText, DayReport, DayFor, DayPrinted}
 use Rattle.report_day.specs.Listing.{Named}
 
@@ -99,11 +94,5 @@ reported c {l} {alone} {k} d u counted t e = record {
 -- ---- what reading says
 
 module _ (text : List ℕ) (r : CaseRead) where
-  pub read-good : r ≡ readCase text → r .answer ≡ Read → Valid (r .case)
-  read-good e told = read-valid text (r .case) (sym e ∙ (λ i. record { answer = told i; case = r .case })) .valid
-
-  pub read-bad : (q : Refusal) → r ≡ readCase text → r .answer ≡ Refused q → placeOf q < mostPrinted
-  read-bad q e told = omega (arith, read-place text q (ap (λ (x : CaseRead). x .answer) (sym e) ∙ told))
-
   pub day-by : {a : ReadAnswer} → r ≡ readCase text → r .answer ≡ a → (t : List ℕ) → DayFor a (r .case) t → DayPrinted text t
-  day-by e told t d = subst (λ (x : CaseRead). DayFor (x .answer) (x .case) t) e (subst⁻¹ (λ (a : ReadAnswer). DayFor a (r .case) t) told d)
+  day-by e told t d = read-says text r (λ (a : ReadAnswer) (c : Case). DayFor a c t) e told d

@@ -1,6 +1,7 @@
 -- A case that is read is valid, as `report` requires. The place of a refused text is a line of it, so it prints.
 use Rattle.report_lines.proofs.Printed.{printed-by}
-use Rattle.report_day.proofs.Reports.{read-good, read-bad, day-by}
+use Rattle.case_inverse.proofs.Answers.{read-good, read-bad}
+use Rattle.report_day.proofs.Reports.{day-by}
 use borrow.Author.Needs.{needs}
 use Rattle.report_day.proofs.day_report.Statement.{statement}
 use Rattle.report_day.proofs.day_report.Tie as tie
