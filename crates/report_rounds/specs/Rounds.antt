@@ -17,13 +17,13 @@ use Rattle.report_lines.specs.Printing.{printedLine, IsRefusedText, printingCal
 -- ---- its lines
 
 -- a field for each bus
-unfoldable pub busFields : List ℕ → List (List ℕ)
-busFields [] = []
-busFields (b ∷ buses) = numberText b ∷ busFields buses
+unfoldable pub roundFields : List ℕ → List (List ℕ)
+roundFields [] = []
+roundFields (b ∷ buses) = numberText b ∷ roundFields buses
 
 -- round i, which adds these buses
 abbrev pub roundLine : ℕ → List ℕ → List ℕ
-roundLine i buses = printedLine (bytes "round") (numberText i ∷ busFields buses)
+roundLine i buses = printedLine (bytes "round") (numberText i ∷ roundFields buses)
 
 -- a line for each round, numbered from i on
 unfoldable pub roundLines : ℕ → List (List ℕ) → List ℕ
