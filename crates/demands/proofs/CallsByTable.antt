@@ -33,6 +33,9 @@ use Rattle.observe_calls.specs.Replies.{observedSetCall, firingFigureCall, test
 use Rattle.list_derive.specs.Replies.{derivationChecks, DerivationAt, DerivationReply, noDerivation, derivationCall}
 use Rattle.place_calls.specs.Replies.{verdictChecks, VerdictReply, greedyChecks, GreedyReply, fewestChecks, FewestReply}
 use Rattle.place_calls.specs.Replies.{crossValidateCall, placeGreedyCall, placeFewestCall}
+use Rattle.round_calls.specs.declared.RoundsAnswer.{RoundsAnswer}
+use Rattle.round_calls.specs.declared.RoundsAnswer.the-variants as rounds-answer
+use Rattle.round_calls.specs.Replies.{roundsChecks, RoundsReply, observedRoundsCall}
 use Rattle.text_calls.specs.Replies.{writeChecks, CaseWrittenReply, writeCaseCall}
 use Rattle.demands.specs.ByTable.{AllByTable}
 use Rattle.demands.proofs.Firsts.{reply-meets}
@@ -120,6 +123,17 @@ place-fewest (c, budget) before after =
     cases : (r : Fewest) → FewestReply c budget r → Passed (fewestChecks c budget) ⊎ ((q : Refusal) × (r ≡ fewest.Refused q))
     cases (fewest.Sites s) p = inl (p .0)
     cases (fewest.Refused q) p = inr (q, refl)
+
+-- ---- rounds
+
+pub observed-rounds : AllByTable observedRoundsCall
+observed-rounds c entry exit =
+    reply-meets (RoundsReply c entry exit) (roundsChecks c entry) rounds-answer.Refused (refl, inl (lit< tt), refl) (λ q p. p) cases
+  where
+    cases : (r : RoundsAnswer) → RoundsReply c entry exit r
+        → Passed (roundsChecks c entry) ⊎ ((q : Refusal) × (r ≡ rounds-answer.Refused q))
+    cases (rounds-answer.Listed k m) p = inl (p .0)
+    cases (rounds-answer.Refused q) p = inr (q, refl)
 
 -- ---- a case text written
 

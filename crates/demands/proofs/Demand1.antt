@@ -13,8 +13,10 @@ use Rattle.text_calls.proofs.write_case.Met as met-write-case
 use Rattle.step_text.proofs.check_steps.Met as met-check-steps
 use Rattle.step_records.proofs.read_steps.Met as met-read-steps
 use Rattle.step_replay.proofs.replay_text.Met as met-replay-text
+use Rattle.round_calls.proofs.observed_rounds.Met as met-observed-rounds
 use Rattle.report_day.proofs.day_report.Met as met-day-report
 use Rattle.report_plan.proofs.plan_report.Met as met-plan-report
+use Rattle.report_rounds.proofs.rounds_report.Met as met-rounds-report
 use Rattle.estimator.proofs.wz_observed.Met as met-wz-observed
 use Rattle.estimator.proofs.wz_unconfirmed.Met as met-wz-unconfirmed
 use Rattle.estimator.proofs.wz_fewest.Met as met-wz-fewest
@@ -44,8 +46,10 @@ demand-1 = record {
     check-steps = met-check-steps.met;
     read-steps = met-read-steps.met;
     replay-text = met-replay-text.met;
+    observed-rounds = met-observed-rounds.met;
     day-report = met-day-report.met;
     plan-report = met-plan-report.met;
+    rounds-report = met-rounds-report.met;
     wz-observed = met-wz-observed.met;
     wz-unconfirmed = met-wz-unconfirmed.met;
     wz-fewest = met-wz-fewest.met;
@@ -67,8 +71,10 @@ demand-1 = record {
       also texts.check-steps
       also texts.read-steps
       also texts.replay-text
+      also calls.observed-rounds
       also reports.day-report
       also reports.plan-report
+      also reports.rounds-report
       also estimator.wz-observed
       also estimator.wz-unconfirmed
       also estimator.wz-fewest
@@ -76,4 +82,5 @@ demand-1 = record {
       also tt;
   day-printed = reports.day-printed;
   plan-printed = reports.plan-printed;
+  rounds-printed = reports.rounds-printed;
 }

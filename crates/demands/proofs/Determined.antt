@@ -5,6 +5,7 @@ use Rattle.demands.proofs.Uniqueness as grid
 use Rattle.demands.proofs.ListUniqueness as lists
 use Rattle.demands.proofs.SitingUniqueness as sites
 use Rattle.demands.proofs.TextUniqueness as texts
+use Rattle.demands.proofs.RoundUniqueness as rounds
 use Rattle.demands.proofs.ReportUniqueness as reports
 use Rattle.demands.proofs.EstimatorUniqueness as estimator
 
@@ -24,8 +25,10 @@ determined =
     also texts.check-steps
     also texts.read-steps
     also lists.replay-text
+    also rounds.observed-rounds
     also reports.day-report
     also reports.plan-report
+    also reports.rounds-report
     also estimator.wz-observed
     also estimator.wz-unconfirmed
     also estimator.wz-fewest

@@ -3,6 +3,7 @@ pub mod Uniqueness
 pub mod ListUniqueness
 pub mod SitingUniqueness
 pub mod TextUniqueness
+pub mod RoundUniqueness
 pub mod ReportUniqueness
 pub mod EstimatorUniqueness
 pub mod Determined
@@ -19,4 +20,5 @@ pub mod Demand1
 pub mod Demand2
 pub mod Demand3
 pub mod Document01
+pub mod Request2
 pub mod Programs

@@ -7,8 +7,10 @@ use Rattle.place_calls.proofs.Promised.{cross-validate-promised, place-greedy-p
 use Rattle.text_calls.proofs.Promised.{read-case-promised, write-case-promised, check-steps-promised}
 use Rattle.step_replay.proofs.Promised.{replay-text-promised}
 use Rattle.step_records.proofs.Promised.{read-steps-promised}
+use Rattle.round_calls.proofs.Promised.{observed-rounds-promised}
 use Rattle.report_day.proofs.Promised.{day-report-promised}
 use Rattle.report_plan.proofs.Promised.{plan-report-promised}
+use Rattle.report_rounds.proofs.Promised.{rounds-report-promised}
 use Rattle.estimator.proofs.Promised.{wz-observed-promised, wz-unconfirmed-promised, wz-fewest-promised, wz-replay-promised}
 
 pub every-promise : EveryPromise
@@ -27,8 +29,10 @@ every-promise = record {
   check-steps = check-steps-promised;
   read-steps = read-steps-promised;
   replay-text = replay-text-promised;
+  observed-rounds = observed-rounds-promised;
   day-report = day-report-promised;
   plan-report = plan-report-promised;
+  rounds-report = rounds-report-promised;
   wz-observed = wz-observed-promised;
   wz-unconfirmed = wz-unconfirmed-promised;
   wz-fewest = wz-fewest-promised;

@@ -8,6 +8,8 @@ use Rattle.report_day.specs.Day.{dayReportCall}
 use Rattle.report_day.proofs.Days.{day-unique}
 use Rattle.report_plan.specs.Plan.{planReportCall}
 use Rattle.report_plan.proofs.Unique.{plan-unique}
+use Rattle.report_rounds.specs.Rounds.{roundsReportCall}
+use Rattle.report_rounds.proofs.Reports.{rounds-text-unique}
 use Rattle.demands.specs.Determined.{OneReply}
 
 -- where P asks for one text
@@ -20,3 +22,6 @@ day-report = printed-one _ day-unique
 
 pub plan-report : OneReply planReportCall
 plan-report = printed-one _ plan-unique
+
+pub rounds-report : OneReply roundsReportCall
+rounds-report = printed-one _ rounds-text-unique

@@ -18,11 +18,15 @@ use Rattle.refusals.proofs.Orders.{itself, failed-unique, failed-or-passed, pas
 use Rattle.grid.specs.Limits.{mostBytes}
 use Rattle.case_read.specs.Reading.{start, refused, readLines, readCase}
 use Rattle.case_read.specs.declared.CaseRead.{CaseRead}
+use Rattle.case_read.specs.declared.ReadAnswer.{ReadAnswer}
+use Rattle.case_read.specs.declared.ReadAnswer.the-variants.{Read, Refused}
 use Rattle.report_lines.specs.Printing.{IsRefusedText, PrintedReply, printChecks, printingCall}
 use Rattle.refusals.specs.declared.Written.{Written}
 use Rattle.refusals.specs.declared.Written.the-variants as written
 use Rattle.report_day.specs.Day.{DayReport, DayFor, DayPrinted, dayReportCall}
 use Rattle.report_day.proofs.Days.{day-unique}
+use Rattle.report_rounds.specs.Rounds.{RoundsReport, RoundsFor, RoundsPrinted, roundsReportCall}
+use Rattle.report_rounds.proofs.Reports.{rounds-text-unique}
 use Rattle.plan_input.specs.Asking.{budgetOf, unasked, askedWith, planLines, readPlan}
 use Rattle.report_plan.specs.Plan.{planChecks, PlanReport, found, none, PlanFor, PlanPrinted, planReportCall}
 use Rattle.report_plan.proofs.Unique.{plan-unique}
@@ -54,6 +58,9 @@ day-report = print-meets DayPrinted day-unique
 pub plan-report : AllByTable planReportCall
 plan-report = print-meets PlanPrinted plan-unique
 
+pub rounds-report : AllByTable roundsReportCall
+rounds-report = print-meets RoundsPrinted rounds-text-unique
+
 -- ---- what is printed
 
 -- the report where all pass, or the line of the refusal that the first check that fails gives
@@ -69,16 +76,26 @@ printed-met {t = t} checks order (inr (q, f, e)) = record {
   refused = λ k g. subst (λ (x : Refusal). IsRefusedText x t) (failed-unique checks q k f g) e;
 }
 
-pub day-printed : (text t : List ℕ) → DayPrinted text t → PrintedByTable (caseChecks text) (DayReport (readCase text .case) t) t
-day-printed text t p = printed-met (caseChecks text) (case-ordered text) (go (case-judged text))
+-- what is printed for a case text: by what reading says, the report of the case or the refusal
+case-printed : (Report : Case → List ℕ → Type 0) (For : ReadAnswer → Case → List ℕ → Type 0)
+    → ((c : Case) (t : List ℕ) → For Read c t → Report c t)
+    → ((q : Refusal) (c : Case) (t : List ℕ) → For (Refused q) c t → IsRefusedText q t)
+    → (text t : List ℕ) → For (readCase text .answer) (readCase text .case) t → PrintedByTable (caseChecks text) (Report (readCase text .case) t) t
+case-printed Report For report line text t p = printed-met (caseChecks text) (case-ordered text) (go (case-judged text))
   where
     by : CaseRead → Type 0
-    by x = DayFor (x .answer) (x .case) t
+    by x = For (x .answer) (x .case) t
 
     go : ReadBy (caseChecks text) (readCase text)
-        → (Passed (caseChecks text) × DayReport (readCase text .case) t) ⊎ ((q : Refusal) × Failed (caseChecks text) q × IsRefusedText q t)
-    go (good h (c, e)) = inl (h, subst⁻¹ (λ (x : CaseRead). DayReport (x .case) t) e (subst by e p))
-    go (bad q f e) = inr (q, f, subst by e p)
+        → (Passed (caseChecks text) × Report (readCase text .case) t) ⊎ ((q : Refusal) × Failed (caseChecks text) q × IsRefusedText q t)
+    go (good h (c, e)) = inl (h, subst⁻¹ (λ (x : CaseRead). Report (x .case) t) e (report c t (subst by e p)))
+    go (bad q f e) = inr (q, f, line q _ t (subst by e p))
+
+pub day-printed : (text t : List ℕ) → DayPrinted text t → PrintedByTable (caseChecks text) (DayReport (readCase text .case) t) t
+day-printed = case-printed DayReport DayFor (λ c t p. p) (λ q c t p. p)
+
+pub rounds-printed : (text t : List ℕ) → RoundsPrinted text t → PrintedByTable (caseChecks text) (RoundsReport (readCase text .case) t) t
+rounds-printed = case-printed RoundsReport RoundsFor (λ c t p. p) (λ q c t p. p)
 
 -- ---- the planning program's input
 

@@ -8,8 +8,10 @@ use Rattle.place_calls.specs.Replies.{crossValidateCall, placeGreedyCall, place
 use Rattle.text_calls.specs.Replies.{readCaseCall, writeCaseCall, checkStepsCall}
 use Rattle.step_text.specs.Taking.{readStepsCall}
 use Rattle.step_replay.specs.Replying.{replayTextCall}
+use Rattle.round_calls.specs.Replies.{observedRoundsCall}
 use Rattle.report_day.specs.Day.{dayReportCall}
 use Rattle.report_plan.specs.Plan.{planReportCall}
+use Rattle.report_rounds.specs.Rounds.{roundsReportCall}
 use Rattle.estimator.specs.Answers.{wzObservedCall, wzUnconfirmedCall, wzFewestCall, wzReplayCall}
 use Rattle.observe_calls.proofs.observed_set.Statement as observed-set
 use Rattle.observe_calls.proofs.firing_figure.Statement as firing-figure
@@ -25,8 +27,10 @@ use Rattle.text_calls.proofs.write_case.Statement as write-case
 use Rattle.step_text.proofs.check_steps.Statement as check-steps
 use Rattle.step_records.proofs.read_steps.Statement as read-steps
 use Rattle.step_replay.proofs.replay_text.Statement as replay-text
+use Rattle.round_calls.proofs.observed_rounds.Statement as observed-rounds
 use Rattle.report_day.proofs.day_report.Statement as day-report
 use Rattle.report_plan.proofs.plan_report.Statement as plan-report
+use Rattle.report_rounds.proofs.rounds_report.Statement as rounds-report
 use Rattle.estimator.proofs.wz_observed.Statement as wz-observed
 use Rattle.estimator.proofs.wz_unconfirmed.Statement as wz-unconfirmed
 use Rattle.estimator.proofs.wz_fewest.Statement as wz-fewest
@@ -58,8 +62,10 @@ publicCalls =
     ∷ checkStepsCall
     ∷ readStepsCall
     ∷ replayTextCall
+    ∷ observedRoundsCall
     ∷ dayReportCall
     ∷ planReportCall
+    ∷ roundsReportCall
     ∷ estimatorCalls
 
 -- the statement of each: its own code, on every input that its contract allows, returns and leaves what the contract says;
@@ -79,8 +85,10 @@ pub record EveryCall (M : Type 1) : Type 2 where
   pub check-steps : check-steps.statement M
   pub read-steps : read-steps.statement M
   pub replay-text : replay-text.statement M
+  pub observed-rounds : observed-rounds.statement M
   pub day-report : day-report.statement M
   pub plan-report : plan-report.statement M
+  pub rounds-report : rounds-report.statement M
   pub wz-observed : wz-observed.statement M
   pub wz-unconfirmed : wz-unconfirmed.statement M
   pub wz-fewest : wz-fewest.statement M

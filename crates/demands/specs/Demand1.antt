@@ -9,6 +9,7 @@ use Rattle.case_read.specs.Checks.{caseChecks}
 use Rattle.report_day.specs.Day.{DayReport, DayPrinted}
 use Rattle.plan_input.specs.Asking.{readPlan}
 use Rattle.report_plan.specs.Plan.{planChecks, PlanPrinted}
+use Rattle.report_rounds.specs.Rounds.{RoundsReport, RoundsPrinted}
 use Rattle.demands.specs.Calls.{publicCalls, EveryCall}
 use Rattle.demands.specs.Promised.{EveryPromise}
 use Rattle.demands.specs.ByTable.{AllByTable}
@@ -26,3 +27,5 @@ pub record Demand1 (M : Type 1) : Type 2 where
   pub plan-printed : (input t : List ℕ) → PlanPrinted input t
       → PrintedByTable (inputChecks input ++ planChecks (readPlan input .read .case) (readPlan input .budget))
       (FewestPrinted (readPlan input .read .case) (readPlan input .budget) t) t
+  pub rounds-printed : (text t : List ℕ) → RoundsPrinted text t
+      → PrintedByTable (caseChecks text) (RoundsReport (readCase text .case) t) t

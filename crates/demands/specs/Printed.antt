@@ -1,4 +1,4 @@
--- What the two programs print, by document 01's table, and what the planning program's input is checked for.
+-- What the programs print, by document 01's table, and what the planning program's input is checked for.
 use mathlib.Core.List.{List, [], _∷_}
 use mathlib.Core.Logic.{_⊎_}
 use Prim.Native.Nat.{ℕ, _≤_}

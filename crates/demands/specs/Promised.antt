@@ -21,8 +21,10 @@ use Rattle.step_text.specs.declared.StepsRead.{StepsRead}
 use Rattle.text_calls.specs.Replies.{readCaseCall, writeCaseCall, checkStepsCall}
 use Rattle.step_text.specs.Taking.{readStepsCall}
 use Rattle.step_replay.specs.Replying.{replayTextCall}
+use Rattle.round_calls.specs.Replies.{observedRoundsCall}
 use Rattle.report_day.specs.Day.{dayReportCall}
 use Rattle.report_plan.specs.Plan.{planReportCall}
+use Rattle.report_rounds.specs.Rounds.{roundsReportCall}
 use Rattle.estimator.specs.Answers.{wzObservedCall, wzUnconfirmedCall, wzFewestCall, wzReplayCall}
 use Rattle.observe_calls.proofs.observed_set.Reads as observed-set
 use Rattle.observe_calls.proofs.firing_figure.Reads as firing-figure
@@ -38,8 +40,10 @@ use Rattle.text_calls.proofs.write_case.Reads as write-case
 use Rattle.step_text.proofs.check_steps.Reads as check-steps
 use Rattle.step_records.proofs.read_steps as read-steps
 use Rattle.step_replay.proofs.replay_text.Reads as replay-text
+use Rattle.round_calls.proofs.observed_rounds.Reads as observed-rounds
 use Rattle.report_day.proofs.day_report.Reads as day-report
 use Rattle.report_plan.proofs.plan_report.Reads as plan-report
+use Rattle.report_rounds.proofs.rounds_report.Reads as rounds-report
 use Rattle.estimator.proofs.wz_observed.Reads as wz-observed
 use Rattle.estimator.proofs.wz_unconfirmed.Reads as wz-unconfirmed
 use Rattle.estimator.proofs.wz_fewest.Reads as wz-fewest
@@ -92,11 +96,16 @@ pub record EveryPromise : Type 2 where
       (readStepsCall .promise (now text) (now out) (now left) r))
   pub replay-text : (κs : Lfts 1) → Keeps replayTextCall (λ (c, (text, _)). (c, now text)) (λ a. tt)
       (replay-text.Asked κs) (replay-text.Learnt κs)
+  -- rounds
+  pub observed-rounds : (κs : Lfts 1) → Keeps observedRoundsCall (λ (c, _). c) (λ (_, (room, _)). now room)
+      (observed-rounds.Asked κs) (observed-rounds.Learnt κs)
   -- the reports
   pub day-report : (κs : Lfts 2) → Keeps dayReportCall (λ (text, _). now text) (λ (_, (out, _)). now out)
       (day-report.Asked κs) (day-report.Learnt κs)
   pub plan-report : (κs : Lfts 2) → Keeps planReportCall (λ (input, _). now input) (λ (_, (out, _)). now out)
       (plan-report.Asked κs) (plan-report.Learnt κs)
+  pub rounds-report : (κs : Lfts 2) → Keeps roundsReportCall (λ (text, _). now text) (λ (_, (out, _)). now out)
+      (rounds-report.Asked κs) (rounds-report.Learnt κs)
   -- the state estimator's calls
   pub wz-observed : (κs : Lfts 2) → Keeps wzObservedCall (λ (text, _). now text) (λ (_, (set, _)). now set)
       (wz-observed.Asked κs) (wz-observed.Learnt κs)

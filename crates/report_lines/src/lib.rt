@@ -1,4 +1,4 @@
-// What both programs print: the line of a refusal, and a text printed into the bytes lent.
+// What every program prints: the line of a refusal, and a text printed into the bytes lent.
 ghost use Prim.Native.Nat.{_<_};
 ghost use Rattle.refusals.specs.Refusals.{placeOf};
 ghost use Rattle.text_field.specs.Number.{mostPrinted};

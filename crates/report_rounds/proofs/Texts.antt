@@ -12,7 +12,7 @@ use Rattle.text_field.specs.Split.{join, bytes, tab, lineFeed}
 use Rattle.text_field.specs.Number.{numberText}
 use Rattle.text_put.specs.Put.{Put}
 use Rattle.text_put.proofs.Left.{Left, left-none, left-more, left-all}
-use Rattle.round_list.specs.Rounds.{Members}
+use Rattle.round_list.specs.Rounds.{HoldsBuses}
 use Rattle.report_rounds.specs.Rounds.{roundFields, roundLine, roundLines}
 use Rattle.report_rounds.specs.Lines.{tabbedBuses}
 
@@ -25,10 +25,10 @@ tabbed-cons b buses = refl
 -- of these buses, those of the word `left` are left to put
 pub record BusesLeft (l : List ℕ) (at : ℕ) (buses m : List ℕ) (k : ℕ) (left : SetWord) : Type 0 where
   pub rest : List ℕ
-  pub members : Members left rest
+  pub members : HoldsBuses left rest
   pub put : Left l at (tabbedBuses buses) m k (tabbedBuses rest)
 
-pub buses-none : {l : List ℕ} {at : ℕ} {r : SetWord} (buses : List ℕ) → Members r buses → BusesLeft l at buses l at r
+pub buses-none : {l : List ℕ} {at : ℕ} {r : SetWord} (buses : List ℕ) → HoldsBuses r buses → BusesLeft l at buses l at r
 buses-none buses m = record { rest = buses; members = m; put = left-none refl }
 
 pub buses-more : {l buses m n : List ℕ} {at k q b : ℕ} {left next : SetWord} → BusesLeft l at buses m k left

@@ -4,7 +4,7 @@ ghost use Prim.Native.Nat.{ℕ, _+_, _*_, _^_, _≤_, _<_};
 ghost use Rattle.busset.specs.Sets.{width};
 ghost use Rattle.grid.specs.Limits.{mostBuses};
 ghost use Rattle.text_put.specs.Put.{Put};
-ghost use Rattle.round_list.specs.Rounds.{Members, HeldRounds};
+ghost use Rattle.round_list.specs.Rounds.{HoldsBuses, HeldRounds};
 ghost use Rattle.report_rounds.specs.Rounds.{roundLine, roundLines, roundsText};
 ghost use Rattle.report_rounds.specs.Lines.{tabbedBuses, busesReach, lineReach};
 use busset::BusSet;
@@ -13,7 +13,7 @@ use round_list::RoundSets;
 // A tab and a number for each bus, rising.
 fn put_buses(out: &mut [u8], at: usize, r: BusSet) -> usize
     requires { ⌜ at < 2 ^ 28 ⌝ }
-    ensures { λ k. ⌜ (k ≤ at + busesReach) × ((buses : List ℕ) → Members r buses
+    ensures { λ k. ⌜ (k ≤ at + busesReach) × ((buses : List ℕ) → HoldsBuses r buses
         → Put (now (out .entry)) at (tabbedBuses buses) (now (out .exit)) k) ⌝ }
 {
     let mut k = at;
@@ -29,7 +29,7 @@ fn put_buses(out: &mut [u8], at: usize, r: BusSet) -> usize
 // `round`, its number i and its buses.
 fn put_round(out: &mut [u8], at: usize, i: usize, r: BusSet) -> usize
     requires { ⌜ (at < 2 ^ 20) × (i ≤ width) ⌝ }
-    ensures { λ k. ⌜ (k ≤ at + lineReach) × ((buses : List ℕ) → Members r buses
+    ensures { λ k. ⌜ (k ≤ at + lineReach) × ((buses : List ℕ) → HoldsBuses r buses
         → Put (now (out .entry)) at (roundLine i buses) (now (out .exit)) k) ⌝ }
 {
     let a = text_put::put_tagged(out, at, b"round\t", i);

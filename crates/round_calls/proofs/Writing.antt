@@ -14,7 +14,7 @@ use Rattle.text_put.proofs.Whole.{put-whole, put-count}
 use Rattle.rules.proofs.Rounds.{members-none, members-next, rounds-unique}
 use Rattle.grid.specs.declared.Case.{Case}
 use Rattle.grid.specs.Cases.{gridOf}
-use Rattle.round_list.specs.Rounds.{Members, HeldRounds, HasRounds}
+use Rattle.round_list.specs.Rounds.{HoldsBuses, HeldRounds, HasRounds}
 use Rattle.round_list.specs.declared.RoundSets.{RoundSets}
 use Rattle.round_calls.specs.Replies.{roundNumbers, RoundsFit, RoundsWritten}
 
@@ -23,10 +23,10 @@ use Rattle.round_calls.specs.Replies.{roundNumbers, RoundsFit, RoundsWri
 -- of these buses, those of the word are left to put
 pub record BusesLeft (l : List ℕ) (at : ℕ) (buses m : List ℕ) (k : ℕ) (left : SetWord) : Type 0 where
   pub rest : List ℕ
-  pub members : Members left rest
+  pub members : HoldsBuses left rest
   pub put : Left l at buses m k rest
 
-pub buses-none : {l : List ℕ} {at : ℕ} {w : SetWord} {buses : List ℕ} → Members w buses → BusesLeft l at buses l at w
+pub buses-none : {l : List ℕ} {at : ℕ} {w : SetWord} {buses : List ℕ} → HoldsBuses w buses → BusesLeft l at buses l at w
 buses-none {buses = buses} m = record { rest = buses; members = m; put = left-none refl }
 
 pub buses-more : {l m o buses : List ℕ} {at k q b n : ℕ} (v w : SetWord) → BusesLeft l at buses m k v → Lowest n (setOf v) b

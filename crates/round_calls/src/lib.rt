@@ -4,7 +4,7 @@ ghost use Prim.Native.Nat.{ℕ, suc, _+_, _≤_, _<_};
 ghost use lib.ListN.{length};
 ghost use Rattle.busset.specs.Sets.{width};
 ghost use Rattle.text_put.specs.Put.{Put, farByte, farLine};
-ghost use Rattle.round_list.specs.Rounds.{Members, HeldRounds};
+ghost use Rattle.round_list.specs.Rounds.{HoldsBuses, HeldRounds};
 ghost use Rattle.round_calls.specs.Replies.{roundNumbers, RoundsReply};
 use busset::BusSet;
 use grid::Case;
@@ -32,7 +32,7 @@ fn put_one(out: &mut [usize], at: usize, x: usize) -> usize
 // A round: how many buses it adds, and these, rising.
 fn put_round(out: &mut [usize], at: usize, r: BusSet) -> usize
     requires { ⌜ at < farLine ⌝ }
-    ensures { λ k. ⌜ (k ≤ at + suc width) × ((buses : List ℕ) → Members r buses
+    ensures { λ k. ⌜ (k ≤ at + suc width) × ((buses : List ℕ) → HoldsBuses r buses
         → Put (now (out .entry)) at (length buses ∷ buses) (now (out .exit)) k) ⌝ }
 {
     let mut k = put_one(out, at, busset::count(r));

@@ -19,7 +19,7 @@ use Rattle.rules.proofs.Reasons.{allowed-bus}
 use Rattle.rules.proofs.Covering.{rising-to, placed-of, placed-max}
 use Rattle.rules.proofs.Rounds.{rising-same, members-set, Listing, listing, round-size, adds-some}
 use Rattle.grid.specs.Limits.{mostBuses}
-use Rattle.round_list.specs.Rounds.{RoundSet, Members, HeldRounds, HasRounds}
+use Rattle.round_list.specs.Rounds.{RoundSet, HoldsBuses, HeldRounds, HasRounds}
 
 -- ---- one round
 
@@ -93,8 +93,8 @@ sofar-all {g} {s} new r e a = record {
     last : Round g s []
     last = record { rising = tt; all = λ b h. absurd (omega (arith, r .all b h, ap (λ (t : ℕ). bit t b) e, bit-zero b)) }
 
-members-by : {v w : SetWord} {xs ys : List ℕ} → v ≡ w → xs ≡ ys → Members w ys → Members v xs
-members-by {v} {w} {xs} {ys} e f m = subst⁻¹ (λ (x : SetWord). Members x xs) e (subst⁻¹ (Members w) f m)
+members-by : {v w : SetWord} {xs ys : List ℕ} → v ≡ w → xs ≡ ys → HoldsBuses w ys → HoldsBuses v xs
+members-by {v} {w} {xs} {ys} e f m = subst⁻¹ (λ (x : SetWord). HoldsBuses x xs) e (subst⁻¹ (HoldsBuses w) f m)
 
 -- one round more: from s it adds the buses of the word `new`, of which there are some
 module _ {g : Grid} {s : ℕ} (new : SetWord) (v : Proper g) (r : RoundSet g s (setOf new)) (some : setOf new ≡ empty → ⊥) where
@@ -107,7 +107,7 @@ module _ {g : Grid} {s : ℕ} (new : SetWord) (v : Proper g) (r : RoundSet g s (
   adds : AddsBus (added .list)
   adds = go (added .list) (added .members)
     where
-      go : (xs : List ℕ) → Members new xs → AddsBus xs
+      go : (xs : List ℕ) → HoldsBuses new xs → AddsBus xs
       go [] m = absurd (some (empty-of (setOf new) (λ b. out-of (setOf new) b (m .all b))))
       go (x ∷ xs) m = tt
 
@@ -157,7 +157,7 @@ module _ {g : Grid} {s : ℕ} (new : SetWord) (v : Proper g) (r : RoundSet g s (
       place = sofar-place few a
 
       HeldAt : ℕ → Type 0
-      HeldAt i = Members (getD (set sets count new) i emptyWord) (getD (a .rounds ++ added .list ∷ []) i [])
+      HeldAt i = HoldsBuses (getD (set sets count new) i emptyWord) (getD (a .rounds ++ added .list ∷ []) i [])
 
       each : (i : ℕ) → i < count + 1 → HeldAt i
       each i l =

@@ -23,15 +23,15 @@ pub record RoundSet (g : Grid) (s r : ℕ) : Type 0 where
   pub only : (b : ℕ) → In r b → Gives g s b
 
 -- the word holds these buses, rising
-abbrev pub Members : SetWord → List ℕ → Type 0
-Members w buses = AllRising (In (setOf w)) buses
+abbrev pub HoldsBuses : SetWord → List ℕ → Type 0
+HoldsBuses w buses = AllRising (In (setOf w)) buses
 
 -- the first `count` words hold these rounds
 pub record HeldRounds (r : RoundSets) (rounds : List (List ℕ)) : Type 0 where
   pub count : length rounds ≡ r .count
   pub most : r .count ≤ mostBuses
   pub room : length (r .sets) ≡ mostBuses
-  pub each : (i : ℕ) → i < r .count → Members (getD (r .sets) i emptyWord) (getD rounds i [])
+  pub each : (i : ℕ) → i < r .count → HoldsBuses (getD (r .sets) i emptyWord) (getD rounds i [])
 
 -- r holds the rounds of the grid
 pub record HasRounds (g : Grid) (r : RoundSets) : Type 0 where

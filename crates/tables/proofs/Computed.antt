@@ -13,7 +13,7 @@ use Rattle.grid.specs.Rows.{setAt, neighbours}
 use Rattle.grid.specs.Cases.{Valid}
 use Rattle.tables.proofs.Drawn.{writtenRow, rowTest, linesTest, validTest, filled-passes}
 use Rattle.tables.specs.Starred.{Drawing, shortCase, drawnCase, seven, path}
-use Rattle.tables.specs.Drawings.{set, drawnGrid, pathWith, sweep, leaf, lone, ring}
+use Rattle.tables.specs.Drawings.{set, drawnGrid, pathWith, sweep, onward, leaf, lone, ring}
 use Rattle.tables.proofs.Deriving.{holdsTest, acceptedTest, leastTest, least-passes, derived, pick, reasonFor, reasonAt, stepFor}
 use Rattle.tables.proofs.Deriving.{passFrom, extended, derive}
 
@@ -43,6 +43,7 @@ pub record Known : Type 0 where
   pub path15 : ObservedIn path (set (1 ∷ 2 ∷ 4 ∷ 5 ∷ []))
   pub path1 : ObservedIn (pathWith (1 ∷ [])) (set (1 ∷ 2 ∷ []))
   pub swept : ObservedIn sweep (set (1 ∷ 2 ∷ 3 ∷ 4 ∷ []))
+  pub goneOn : ObservedIn onward (set (1 ∷ 2 ∷ 3 ∷ 4 ∷ []))
   pub leaf2 : ObservedIn leaf (set (1 ∷ 2 ∷ []))
   pub lone1 : ObservedIn lone (set (1 ∷ []))
 
@@ -63,6 +64,7 @@ known = record {
   path15 = observed path (set (1 ∷ 2 ∷ 4 ∷ 5 ∷ [])) refl refl;
   path1 = observed (pathWith (1 ∷ [])) (set (1 ∷ 2 ∷ [])) refl refl;
   swept = observed sweep (set (1 ∷ 2 ∷ 3 ∷ 4 ∷ [])) refl refl;
+  goneOn = observed onward (set (1 ∷ 2 ∷ 3 ∷ 4 ∷ [])) refl refl;
   leaf2 = observed leaf (set (1 ∷ 2 ∷ [])) refl refl;
   lone1 = observed lone (set (1 ∷ [])) refl refl;
 }

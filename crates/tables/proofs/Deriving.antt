@@ -5,7 +5,8 @@ use mathlib.Core.List.{List, [], _∷_}
 use mathlib.Core.Logic.{⊎-elim}
 use Prim.Native.Nat.{ℕ, zero, suc, _+_, _-_, _≤_, _<_}
 use native.Mathlib.Omega.{arith}
-use Rattle.list_derive.proofs.Nexting.{Lacks, FailsBefore, fails-none, fails-alone, fails-named, none-holds, first-alone, first-named}
+use Rattle.basics.proofs.Lacking.{Lacks}
+use Rattle.list_derive.proofs.Nexting.{FailsBefore, fails-none, fails-alone, fails-named, none-holds, first-alone, first-named}
 use Rattle.step.proofs.Reasons.{own-turn, neighbour-turn, zero-turn}
 use Rattle.busset.specs.Sets.{Bus, bit, In, Out, Sub, Within, empty, add, lack, less, size}
 use Rattle.basics.proofs.Tests.{same-or, below-or}
@@ -220,7 +221,7 @@ module _ (g : Grid) (v : Proper g) where
   zeros-fail : (s b : ℕ) → FailsBefore g s b 2 → noZero g s b (g .n) ≡ 0 → FailsBefore g s b 3
   zeros-fail s b f e = fails-named zero-turn v f (omega arith) (zeros-lack s b (g .n + 1) (ap (noZero g s b) (omega arith) ∙ e))
 
-  no-reason : (s b : ℕ) (r : Reason) → noReason g s b ≡ 0 → Out s b → Holds g s b r → ⊥
+  pub no-reason : (s b : ℕ) (r : Reason) → noReason g s b ≡ 0 → Out s b → Holds g s b r → ⊥
   unfolding noReason
   no-reason s b r e o =
       let z = given-out (bit s b) ((1 - holdsTest g s b OwnUnit) + noUnit g s b (g .n) + noZero g s b (g .n)) o e in

@@ -20,5 +20,7 @@ pub mod Confirming
 pub mod Placing
 pub mod Replies
 pub mod Programs
+pub mod Rounding
+pub mod Rounds
 pub mod StarredSites
 pub mod StarredRows

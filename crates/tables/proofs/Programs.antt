@@ -59,7 +59,7 @@ use Rattle.tables.specs.Reports.{output}
 use Rattle.tables.specs.Steps.{derivationSteps}
 use Rattle.tables.specs.Programs as tables
 
--- ---- the two programs
+-- ---- document 01's two programs
 
 -- texts that differ at some byte are two
 other : (i : ℕ) (s t : List ℕ) → s ≡ t → (getD s i 0 ≡ getD t i 0 → ⊥) → ⊥

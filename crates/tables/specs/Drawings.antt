@@ -60,6 +60,10 @@ pathWith units = record { n = 5; lines = path .lines; zeros = path .zeros; units
 abbrev pub sweep : Drawing
 sweep = record { n = 4; lines = (1, 2) ∷ (2, 3) ∷ (3, 4) ∷ []; zeros = 2 ∷ 3 ∷ []; units = 4 ∷ [] }
 
+-- the same path with a unit at 1: a round that went on with what it finds would have 4 beside 3
+abbrev pub onward : Drawing
+onward = record { n = 4; lines = sweep .lines; zeros = sweep .zeros; units = 1 ∷ [] }
+
 -- two buses, joined, where 1 is Z, with a unit at 2
 abbrev pub leaf : Drawing
 leaf = record { n = 2; lines = (1, 2) ∷ []; zeros = 1 ∷ []; units = 2 ∷ [] }

@@ -19,4 +19,5 @@ pub mod Confirming
 pub mod Placing
 pub mod Replies
 pub mod Programs
+pub mod Rounds
 pub mod Starred

@@ -1,4 +1,4 @@
--- From text to text: the two programs, the four C functions, and the calls on step texts.
+-- From text to text: document 01's two programs, the four C functions, and the calls on step texts.
 use mathlib.Core.Bool.{true}
 use mathlib.Core.List.{List, [], _∷_, _++_}
 use Prim.Native.Nat.{ℕ, suc}
@@ -26,7 +26,7 @@ use Rattle.tables.specs.StepTexts.{derivationText}
 use Rattle.tables.specs.Reports.{output}
 use Rattle.tables.specs.Replies.{sevenCase, badCase}
 
--- ---- the two programs
+-- ---- document 01's two programs
 
 -- inputs of the day report, and what it prints
 abbrev pub dayPrintedTable : List Row

@@ -1,4 +1,4 @@
--- What the two programs print, and what the planning program reads first.
+-- What document 01's two programs print, and what the planning program reads first.
 use mathlib.Core.List.{List, [], _∷_, _++_}
 use Prim.Native.Nat.{ℕ, suc, _-_}
 use Prim.Native.String.{String}

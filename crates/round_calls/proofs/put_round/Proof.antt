@@ -10,7 +10,7 @@ use Rattle.basics.proofs.Tests.{refutes}
 use Rattle.busset.specs.Sets.{size, setOf, width}
 use Rattle.text_put.proofs.Putting.{put-then, put-same, put-length}
 use Rattle.rules.proofs.Rounds.{members-size}
-use Rattle.round_list.specs.Rounds.{Members}
+use Rattle.round_list.specs.Rounds.{HoldsBuses}
 use Rattle.round_calls.proofs.Writing.{BusesLeft, buses-none, buses-more, buses-all}
 use Rattle.round_calls.proofs.put_round.Statement.{statement}
 use Rattle.round_calls.proofs.put_round.Tie as tie
@@ -18,7 +18,7 @@ use Rattle.round_calls.proofs.put_round.Tie as tie
 abbrev Inv-loop : tie.InvT-loop
 Inv-loop out₀ at r k₀ left₀ out k left =
     (length out ≡ length out₀) × (k + size (setOf left) ≡ k₀ + size (setOf r))
-    × ((buses : List ℕ) → Members r buses → BusesLeft out₀ k₀ buses out k left)
+    × ((buses : List ℕ) → HoldsBuses r buses → BusesLeft out₀ k₀ buses out k left)
 
 abbrev μ-loop : tie.MeasureT-loop
 μ-loop out₀ at r k₀ left₀ out k left = size (setOf left)

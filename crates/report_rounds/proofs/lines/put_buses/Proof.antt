@@ -12,7 +12,7 @@ use Rattle.basics.proofs.Tests.{refutes}
 use Rattle.text_field.specs.Number.{mostDigits}
 use Rattle.text_field.proofs.Digits.{text-length}
 use Rattle.text_put.proofs.Putting.{put-length}
-use Rattle.round_list.specs.Rounds.{Members}
+use Rattle.round_list.specs.Rounds.{HoldsBuses}
 use Rattle.report_rounds.proofs.Texts.{BusesLeft, buses-none, buses-more, buses-all}
 use Rattle.report_rounds.proofs.lines.put_buses.Statement.{statement}
 use Rattle.report_rounds.proofs.lines.put_buses.Tie as tie
@@ -20,7 +20,7 @@ use Rattle.report_rounds.proofs.lines.put_buses.Tie as tie
 abbrev Inv-loop : tie.InvT-loop
 Inv-loop out₀ at r k₀ left₀ t7 out k left =
     (k + (1 + mostDigits) * size (setOf left) ≤ at + (1 + mostDigits) * size (setOf r)) × (length out ≡ length out₀)
-    × ((buses : List ℕ) → Members r buses → BusesLeft out₀ at buses out k left)
+    × ((buses : List ℕ) → HoldsBuses r buses → BusesLeft out₀ at buses out k left)
 
 abbrev μ-loop : tie.MeasureT-loop
 μ-loop out₀ at r k₀ left₀ t7 out k left = size (setOf left)
