@@ -76,6 +76,7 @@ line-length i buses h =
       text-two i (omega arith),
     )
 
+-- the lines of the rounds from s on: 3 bytes for each bus that they add, which are as many as the set grows by
 lines-length : (g : Grid) (i s : ℕ) (rounds : List (List ℕ)) → Proper g → g .n ≤ width → i + length rounds ≤ width + 1
     → RoundsFrom g s rounds → length (roundLines i rounds) + 3 * size s ≤ 9 * length rounds + 3 * size (afterRounds s rounds)
 unfolding roundLines
