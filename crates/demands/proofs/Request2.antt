@@ -1,17 +1,15 @@
 -- Request 2, over the promises of the two engines: their answers are of one grid, whose rounds end at its observed set.
-use mathlib.Core.Path.{_≡_, refl, ap, _∙_, subst⁻¹}
-use mathlib.Core.Logic.{inl, inr}
-use mathlib.Core.List.{List, [], _∷_, _++_}
+use mathlib.Core.Path.{_≡_, refl, ap, _∙_}
+use mathlib.Core.List.{List, [], _∷_}
 use Prim.Native.Nat.{ℕ, _+_, _*_, _≤_}
 use native.Mathlib.Omega.{arith}
 use lib.ListN.{length, length-append, take, drop}
 use lib.Seq.{take-append-seam}
 use Rattle.busset.specs.Sets.{empty, size, setOf}
-use Rattle.busset.specs.Held.{SetWord}
 use Rattle.busset.proofs.Sizes.{size-empty}
-use Rattle.rules.specs.Grids.{Grid, Proper}
+use Rattle.rules.specs.Grids.{Grid}
 use Rattle.rules.specs.Placing.{placed}
-use Rattle.rules.specs.Rounds.{RoundsFrom, RoundsOf, afterRounds}
+use Rattle.rules.specs.Rounds.{RoundsFrom, afterRounds}
 use Rattle.rules.proofs.Leasts.{least-unique, observed-few}
 use Rattle.rules.proofs.Rounds.{round-size, rounds-add, rounds-least, rounds-few}
 use Rattle.grid.specs.declared.Case.{Case}

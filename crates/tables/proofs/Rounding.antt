@@ -1,15 +1,14 @@
 -- Tests of rounds, which the checker computes: 0 where they pass. A round is written as its steps, a bus with a reason for it.
 use mathlib.Core.Path.{_≡_, refl}
 use mathlib.Core.List.{List, [], _∷_, map}
-use mathlib.Core.Logic.{inl, inr, ⊎-elim}
+use mathlib.Core.Logic.{inl, inr}
 use Prim.Native.Nat.{ℕ, zero, suc, _+_, _-_}
 use native.Mathlib.Omega.{arith}
 use Rattle.basics.specs.Lists.{Some}
-use Rattle.basics.proofs.Tests.{same-or}
 use Rattle.step.specs.declared.Step.{Step}
 use Rattle.rules.specs.Grids.{Grid, Proper, total}
 use Rattle.rules.specs.Placing.{Rising, placed}
-use Rattle.rules.specs.Rounds.{Gives, Round, RoundsFrom}
+use Rattle.rules.specs.Rounds.{Gives, RoundsFrom}
 use Rattle.rules.proofs.Reasons.{allowed-bus}
 use Rattle.tables.proofs.Tests.{total-none, gap, gap-none, given}
 use Rattle.tables.proofs.Deriving.{allowedTest, allowed-passes, noReason, no-reason}
@@ -40,11 +39,11 @@ amongTest b (x ∷ xs) = given (gap x b) (amongTest b xs)
 among-passes : (b : ℕ) (xs : List ℕ) → amongTest b xs ≡ 0 → Some (λ x. x ≡ b) xs
 unfolding amongTest given
 among-passes b [] e = absurd (omega arith)
-among-passes b (x ∷ xs) e = go (gap x b) refl e
+among-passes b (x ∷ xs) e = go (gap x b) refl (λ h. among-passes b xs h) e
   where
-    go : (d : ℕ) → gap x b ≡ d → given d (amongTest b xs) ≡ 0 → Some (λ x. x ≡ b) (x ∷ xs)
-    go zero q h = inl (gap-none x b q)
-    go (suc d) q h = inr (among-passes b xs h)
+    go : (d : ℕ) → gap x b ≡ d → (amongTest b xs ≡ 0 → Some (λ x. x ≡ b) xs) → given d (amongTest b xs) ≡ 0 → Some (λ x. x ≡ b) (x ∷ xs)
+    go zero q later h = inl (gap-none x b q)
+    go (suc d) q later h = inr (later h)
 
 -- no reason holds for a bus that is not one of these
 unfoldable pub othersTest : Grid → ℕ → List ℕ → ℕ

@@ -4,7 +4,7 @@ use mathlib.Core.List.{List, [], _∷_, _++_}
 use Prim.Native.Nat.{ℕ, _≤_}
 use native.Mathlib.Omega.{arith}
 use lib.Count.{ones, onesIn}
-use lib.ListN.{length, getD}
+use lib.ListN.{length, getD, replicate}
 use Rattle.busset.specs.Sets.{empty, add, lack, less, setOf}
 use Rattle.busset.specs.Held.{wordOf, hold}
 use Rattle.text_field.specs.Split.{split, join, same, bytes}
@@ -30,7 +30,7 @@ use Rattle.tables.proofs.Rounding.{risingTest, amongTest, othersTest, r
 use Rattle.tables.proofs.Replies.{invalid}
 use Rattle.tables.specs.Tables.{AllRight, block}
 use Rattle.tables.specs.Drawings.{own, near, zeroAt, drawnGrid, sevenGrid, onward}
-use Rattle.tables.specs.CaseTexts.{input, bareInput}
+use Rattle.tables.specs.CaseTexts.{input}
 use Rattle.tables.specs.Replies.{sevenCase}
 use Rattle.tables.specs.Rounds.{sevenRounds}
 use Rattle.tables.specs.Rounds as tables
@@ -56,24 +56,28 @@ shown = record {
       (known .goneOn .valid .proper) refl;
 }
 
--- lists that differ at some bus are two
-other : (g : Grid) (i j : ℕ) (ps qs : List (List ℕ)) → RoundsOf g ps → (getD (getD ps i []) j 0 ≡ getD (getD qs i []) j 0 → ⊥)
-    → RoundsOf g qs → ⊥
-other g i j ps qs p ne q = ne (ap (λ (rs : List (List ℕ)). getD (getD rs i []) j 0) (rounds-unique g empty ps qs p q))
+-- a list that differs at some bus, the j-th of round i, is another
+module _ (g : Grid) (ps : List (List ℕ)) (p : RoundsOf g ps) where
+  other : (i j : ℕ) (qs : List (List ℕ)) → (getD (getD ps i []) j 0 ≡ getD (getD qs i []) j 0 → ⊥) → RoundsOf g qs → ⊥
+  other i j qs ne q = ne (ap (λ (rs : List (List ℕ)). getD (getD rs i []) j 0) (rounds-unique g empty ps qs p q))
 
 pub rounds-right : AllRight tables.roundsTable
 rounds-right =
     shown .seven
-    & other (sevenGrid (3 ∷ [])) 0 0 _ _ (shown .seven) (λ e. omega arith)
-    & other (sevenGrid (3 ∷ [])) 0 0 _ _ (shown .seven) (λ e. omega arith)
-    & other (sevenGrid (3 ∷ [])) 0 2 _ _ (shown .seven) (λ e. omega arith)
-    & other (sevenGrid (3 ∷ [])) 1 0 _ _ (shown .seven) (λ e. omega arith)
+    & not-seven 0 0 ((3 ∷ []) ∷ (2 ∷ 4 ∷ 7 ∷ []) ∷ (1 ∷ []) ∷ []) (λ e. omega arith)
+    & not-seven 0 0 ((3 ∷ 2 ∷ 4 ∷ 7 ∷ []) ∷ (1 ∷ []) ∷ []) (λ e. omega arith)
+    & not-seven 0 2 ((2 ∷ 3 ∷ 7 ∷ []) ∷ (1 ∷ []) ∷ []) (λ e. omega arith)
+    & not-seven 1 0 ((2 ∷ 3 ∷ 4 ∷ 7 ∷ []) ∷ []) (λ e. omega arith)
     & (λ h. h .2 .2 .1)
     & shown .none
     & (λ h. h .1)
     & shown .path
-    & other (drawnGrid onward) 1 1 _ _ (shown .path) (λ e. omega arith)
+    & other (drawnGrid onward) ((1 ∷ 2 ∷ []) ∷ (3 ∷ []) ∷ (4 ∷ []) ∷ []) (shown .path) 1 1 ((1 ∷ 2 ∷ []) ∷ (3 ∷ 4 ∷ []) ∷ []) (λ e. omega arith)
     & tt
+  where
+    not-seven : (i j : ℕ) (qs : List (List ℕ)) → (getD (getD sevenRounds i []) j 0 ≡ getD (getD qs i []) j 0 → ⊥)
+        → RoundsOf (sevenGrid (3 ∷ [])) qs → ⊥
+    not-seven = other (sevenGrid (3 ∷ [])) sevenRounds (shown .seven)
 
 -- ---- the list of numbers, and the lines
 
@@ -95,11 +99,10 @@ roomy room l rounds p =
 
 pub replies-right : AllRight tables.roundsReplyTable
 unfolding roundNumbers
-replies-right =
-    (
-      (known .at3 .valid, (roomy _ (omega arith), tt)),
-      record { rounds = sevenRounds; are = shown .seven; long = refl; many = refl; written = refl },
-    )
+replies-right = (
+  (known .at3 .valid, (roomy (replicate 8 9) (omega arith), tt)),
+  record { rounds = sevenRounds; are = shown .seven; long = refl; many = refl; written = refl },
+)
     & (λ h. omega (
       arith,
       h .1 .many,
@@ -117,8 +120,8 @@ replies-right =
         omega (arith, ap (λ (rs : List (List ℕ)). length (roundNumbers rs)) (rounds-unique (sevenGrid []) empty [] rounds (shown .none) p))
 
     left : (rounds : List (List ℕ)) → sevenRounds ≡ rounds → _≡_ {A = List ℕ} (4 ∷ 2 ∷ 3 ∷ 4 ∷ 7 ∷ 1 ∷ 1 ∷ 0 ∷ []) (roundNumbers rounds ++ 9 ∷ []) → ⊥
-    left rounds same e =
-        omega (arith, ap (λ (r : List ℕ). getD r 7 0) (e ∙ sym (ap (λ (rs : List (List ℕ)). roundNumbers rs ++ 9 ∷ []) same)))
+    left rounds is e =
+        omega (arith, ap (λ (r : List ℕ). getD r 7 0) (e ∙ sym (ap (λ (rs : List (List ℕ)). roundNumbers rs ++ 9 ∷ []) is)))
 
 pub printed-right : AllRight tables.roundsPrintedTable
 unfolding readCase readText readLines judged isBus isAfter pastBuses recordOf recordWordOf lineFields busFields markOf ifOneField
