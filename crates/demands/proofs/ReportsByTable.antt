@@ -80,7 +80,8 @@ printed-met {t = t} checks order (inr (q, f, e)) = record {
 case-printed : (Report : Case → List ℕ → Type 0) (For : ReadAnswer → Case → List ℕ → Type 0)
     → ((c : Case) (t : List ℕ) → For Read c t → Report c t)
     → ((q : Refusal) (c : Case) (t : List ℕ) → For (Refused q) c t → IsRefusedText q t)
-    → (text t : List ℕ) → For (readCase text .answer) (readCase text .case) t → PrintedByTable (caseChecks text) (Report (readCase text .case) t) t
+    → (text t : List ℕ) → For (readCase text .answer) (readCase text .case) t
+    → PrintedByTable (caseChecks text) (Report (readCase text .case) t) t
 case-printed Report For report line text t p = printed-met (caseChecks text) (case-ordered text) (go (case-judged text))
   where
     by : CaseRead → Type 0

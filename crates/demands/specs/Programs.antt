@@ -41,4 +41,5 @@ pub record Programs (M : Type 1) : Type 2 where
   -- in so many bytes the report is never refused with 6
   pub day-room : (text lent left : List ℕ) (r : Written) → length lent ≡ dayRoom → dayReportCall .promise text lent left r → Prints r
   pub plan-room : (input lent left : List ℕ) (r : Written) → length lent ≡ planRoom → planReportCall .promise input lent left r → Prints r
-  pub rounds-room : (text lent left : List ℕ) (r : Written) → length lent ≡ roundsRoom → roundsReportCall .promise text lent left r → Prints r
+  pub rounds-room : (text lent left : List ℕ) (r : Written) → length lent ≡ roundsRoom → roundsReportCall .promise text lent left r
+      → Prints r

@@ -23,12 +23,12 @@ use Rattle.case_read.specs.declared.CaseRead.{CaseRead}
 use Rattle.case_read.specs.declared.ReadAnswer.{ReadAnswer}
 use Rattle.case_read.specs.declared.ReadAnswer.the-variants.{Read, Refused}
 use Rattle.case_inverse.proofs.Answers.{read-good, read-says}
-use Rattle.round_list.specs.Rounds.{HasRounds}
+use Rattle.round_list.specs.Rounds.{eachBus, HasRounds}
 use Rattle.round_list.specs.declared.RoundSets.{RoundSets}
 use Rattle.report_lines.specs.Printing.{printedLine}
 use Rattle.report_lines.proofs.Printed.{refused-length}
 use Rattle.report_rounds.specs.Rounds.{roundLine, roundLines, roundsText, roundsRoom, RoundsReport, RoundsFor, RoundsPrinted}
-use Rattle.report_rounds.specs.Lines.{tabbedBuses}
+use Rattle.report_rounds.specs.Lines.{tabbed}
 use Rattle.report_rounds.proofs.Texts.{line-parts}
 
 -- ---- the text of the rounds held
@@ -54,25 +54,25 @@ rounds-text-unique text s t = go (readCase text .answer) (readCase text .case)
 -- ---- how long it is
 
 -- a tab and at most two digits for each bus
-buses-length : (low : ℕ) (buses : List ℕ) → Rising (Bus width) low buses → length (tabbedBuses buses) ≤ 3 * length buses
-unfolding tabbedBuses
+buses-length : (low : ℕ) (buses : List ℕ) → Rising (Bus width) low buses → length (eachBus tabbed buses) ≤ 3 * length buses
+unfolding eachBus
 buses-length low [] r = omega arith
 buses-length low (b ∷ buses) r =
     omega (
       arith,
-      length-append (numberText b) (tabbedBuses buses),
+      length-append (numberText b) (eachBus tabbed buses),
       text-two b (omega (arith, r .1 .most)),
       buses-length b buses (r .2),
     )
 
 -- `round`, a tab, at most two digits and a line feed for each round
-line-length : (i : ℕ) (buses : List ℕ) → i ≤ width → length (roundLine i buses) ≤ 9 + length (tabbedBuses buses)
+line-length : (i : ℕ) (buses : List ℕ) → i ≤ width → length (roundLine i buses) ≤ 9 + length (eachBus tabbed buses)
 line-length i buses h =
     omega (
       arith,
       ap length (line-parts i buses),
-      length-append ((bytes "round\t" ++ numberText i) ++ tabbedBuses buses) (lineFeed ∷ []),
-      length-append (bytes "round\t" ++ numberText i) (tabbedBuses buses),
+      length-append ((bytes "round\t" ++ numberText i) ++ eachBus tabbed buses) (lineFeed ∷ []),
+      length-append (bytes "round\t" ++ numberText i) (eachBus tabbed buses),
       text-two i (omega arith),
     )
 

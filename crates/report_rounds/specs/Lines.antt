@@ -1,16 +1,15 @@
 -- On the way to the lines: the fields of a round's buses as they are put, one after another, and how far what is put reaches.
-use mathlib.Core.List.{List, [], _∷_, _++_}
+use mathlib.Core.List.{List, _∷_}
 use Prim.Native.Nat.{ℕ, _+_, _*_}
 use Rattle.busset.specs.Sets.{width}
 use Rattle.text_field.specs.Split.{tab}
 use Rattle.text_field.specs.Number.{mostDigits, numberText}
 
--- a tab and a number for each bus
-unfoldable pub tabbedBuses : List ℕ → List ℕ
-tabbedBuses [] = []
-tabbedBuses (b ∷ buses) = (tab ∷ numberText b) ++ tabbedBuses buses
+-- a tab and the number of a bus
+abbrev pub tabbed : ℕ → List ℕ
+tabbed b = tab ∷ numberText b
 
--- the most bytes that these have, whatever their numbers are
+-- the most bytes that those of a round have, whatever their numbers are
 abbrev pub busesReach : ℕ
 busesReach = (1 + mostDigits) * width
 

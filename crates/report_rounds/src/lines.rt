@@ -4,9 +4,9 @@ ghost use Prim.Native.Nat.{ℕ, _+_, _*_, _^_, _≤_, _<_};
 ghost use Rattle.busset.specs.Sets.{width};
 ghost use Rattle.grid.specs.Limits.{mostBuses};
 ghost use Rattle.text_put.specs.Put.{Put};
-ghost use Rattle.round_list.specs.Rounds.{HoldsBuses, HeldRounds};
+ghost use Rattle.round_list.specs.Rounds.{HoldsBuses, eachBus, HeldRounds};
 ghost use Rattle.report_rounds.specs.Rounds.{roundLine, roundLines, roundsText};
-ghost use Rattle.report_rounds.specs.Lines.{tabbedBuses, busesReach, lineReach};
+ghost use Rattle.report_rounds.specs.Lines.{tabbed, busesReach, lineReach};
 use busset::BusSet;
 use round_list::RoundSets;
 
@@ -14,7 +14,7 @@ use round_list::RoundSets;
 fn put_buses(out: &mut [u8], at: usize, r: BusSet) -> usize
     requires { ⌜ at < 2 ^ 28 ⌝ }
     ensures { λ k. ⌜ (k ≤ at + busesReach) × ((buses : List ℕ) → HoldsBuses r buses
-        → Put (now (out .entry)) at (tabbedBuses buses) (now (out .exit)) k) ⌝ }
+        → Put (now (out .entry)) at (eachBus tabbed buses) (now (out .exit)) k) ⌝ }
 {
     let mut k = at;
     let mut left = r;

@@ -1,4 +1,4 @@
--- The numbers of a round, bus after bus; and those of all rounds, round after round.
+-- The numbers of a round, and those of all rounds, round after round; and what the call replies.
 use mathlib.Core.Path.{_≡_, refl, sym, ap, _∙_}
 use mathlib.Core.List.{List, [], _∷_, _++_}
 use Prim.Native.Nat.{ℕ, _+_, _≤_, _<_}
@@ -6,37 +6,23 @@ use native.Mathlib.Numerals.{add-one}
 use native.Mathlib.Omega.{arith}
 use lib.ListN.{length, getD, drop, drop-of-length-le}
 use lib.Seq.{drop-cons}
-use Rattle.busset.specs.Sets.{Lowest, Without, empty, setOf}
-use Rattle.busset.specs.Held.{SetWord}
+use Rattle.busset.specs.Sets.{empty}
 use Rattle.text_put.specs.Put.{Put}
-use Rattle.text_put.proofs.Left.{Left, left-none, left-more, left-all}
 use Rattle.text_put.proofs.Whole.{put-whole, put-count}
-use Rattle.rules.proofs.Rounds.{members-none, members-next, rounds-unique}
+use Rattle.rules.proofs.Rounds.{rounds-unique}
 use Rattle.grid.specs.declared.Case.{Case}
 use Rattle.grid.specs.Cases.{gridOf}
-use Rattle.round_list.specs.Rounds.{HoldsBuses, HeldRounds, HasRounds}
+use Rattle.round_list.specs.Rounds.{eachBus, HeldRounds, HasRounds}
 use Rattle.round_list.specs.declared.RoundSets.{RoundSets}
 use Rattle.round_calls.specs.Replies.{roundNumbers, RoundsFit, RoundsWritten}
 
 -- ---- one round
 
--- of these buses, those of the word are left to put
-pub record BusesLeft (l : List ℕ) (at : ℕ) (buses m : List ℕ) (k : ℕ) (left : SetWord) : Type 0 where
-  pub rest : List ℕ
-  pub members : HoldsBuses left rest
-  pub put : Left l at buses m k rest
-
-pub buses-none : {l : List ℕ} {at : ℕ} {w : SetWord} {buses : List ℕ} → HoldsBuses w buses → BusesLeft l at buses l at w
-buses-none {buses = buses} m = record { rest = buses; members = m; put = left-none refl }
-
-pub buses-more : {l m o buses : List ℕ} {at k q b n : ℕ} (v w : SetWord) → BusesLeft l at buses m k v → Lowest n (setOf v) b
-    → Put m k (b ∷ []) o q → Without (setOf v) b (setOf w) → BusesLeft l at buses o q w
-buses-more v w a low p without =
-    let next = members-next (a .rest) (a .members) low without in
-    record { rest = next .rest; members = next .others; put = left-more (a .put) (next .is) p }
-
-pub buses-all : {l m buses : List ℕ} {at k : ℕ} (w : SetWord) → BusesLeft l at buses m k w → setOf w ≡ empty → Put l at buses m k
-buses-all w a e = left-all (a .put) (members-none e (a .members))
+-- a bus as a number is itself
+pub number-each : (buses : List ℕ) → eachBus (λ b. b ∷ []) buses ≡ buses
+unfolding eachBus
+number-each [] = refl
+number-each (b ∷ buses) = ap (λ (rest : List ℕ). b ∷ rest) (number-each buses)
 
 -- ---- all rounds
 
@@ -68,7 +54,8 @@ module _ (c : Case) {list : RoundSets} {k : ℕ} {lent left : List ℕ} (h : Has
 
   pub has-room : (room : List ℕ) → k ≤ length room → RoundsFit c room
   has-room room l rounds p =
-      omega (arith, numbers, ap (λ (r : List (List ℕ)). length (roundNumbers r)) (rounds-unique (gridOf c) empty rounds (h .rounds) p (h .are)))
+      let same = rounds-unique (gridOf c) empty rounds (h .rounds) p (h .are) in
+      omega (arith, numbers, ap (λ (r : List (List ℕ)). length (roundNumbers r)) same)
 
   pub rounds-written : RoundsFit c lent → RoundsWritten c lent left k (list .count)
   rounds-written fits = record {

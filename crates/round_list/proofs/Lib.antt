@@ -1,2 +1,3 @@
 pub mod Reasoned
 pub mod Gathering
+pub mod Putting

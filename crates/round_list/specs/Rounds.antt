@@ -1,6 +1,6 @@
 -- Rounds held in words: each as the set of its buses.
 use mathlib.Core.Path.{_≡_}
-use mathlib.Core.List.{List, []}
+use mathlib.Core.List.{List, [], _∷_, _++_}
 use Prim.Native.Nat.{ℕ, _≤_, _<_}
 use lib.ListN.{length, getD}
 use Rattle.busset.specs.Sets.{In, setOf}
@@ -25,6 +25,11 @@ pub record RoundSet (g : Grid) (s r : ℕ) : Type 0 where
 -- the word holds these buses, rising
 abbrev pub HoldsBuses : SetWord → List ℕ → Type 0
 HoldsBuses w buses = AllRising (In (setOf w)) buses
+
+-- a piece for each bus, as what is put of a round
+unfoldable pub eachBus : (ℕ → List ℕ) → List ℕ → List ℕ
+eachBus piece [] = []
+eachBus piece (b ∷ buses) = piece b ++ eachBus piece buses
 
 -- the first `count` words hold these rounds
 pub record HeldRounds (r : RoundSets) (rounds : List (List ℕ)) : Type 0 where

@@ -65,7 +65,8 @@ roundsTest g s ([] ∷ rounds) = 1
 roundsTest g s ((x ∷ xs) ∷ rounds) =
     risingTest g s 0 (x ∷ xs) + othersTest g s (busesOf (x ∷ xs)) + roundsTest g (placed s (busesOf (x ∷ xs))) rounds
 
-pub rounds-pass : (g : Grid) (s : ℕ) (rounds : List (List Step)) → Proper g → roundsTest g s rounds ≡ 0 → RoundsFrom g s (map busesOf rounds)
+pub rounds-pass : (g : Grid) (s : ℕ) (rounds : List (List Step)) → Proper g → roundsTest g s rounds ≡ 0
+    → RoundsFrom g s (map busesOf rounds)
 unfolding roundsTest
 rounds-pass g s [] v e = record { rising = tt; all = others-pass g s [] v e }
 rounds-pass g s ([] ∷ rounds) v e = absurd (omega arith)

@@ -72,7 +72,8 @@ rounds-right =
     & shown .none
     & (λ h. h .1)
     & shown .path
-    & other (drawnGrid onward) ((1 ∷ 2 ∷ []) ∷ (3 ∷ []) ∷ (4 ∷ []) ∷ []) (shown .path) 1 1 ((1 ∷ 2 ∷ []) ∷ (3 ∷ 4 ∷ []) ∷ []) (λ e. omega arith)
+    & other (drawnGrid onward) ((1 ∷ 2 ∷ []) ∷ (3 ∷ []) ∷ (4 ∷ []) ∷ []) (shown .path) 1 1
+    ((1 ∷ 2 ∷ []) ∷ (3 ∷ 4 ∷ []) ∷ []) (λ e. omega arith)
     & tt
   where
     not-seven : (i j : ℕ) (qs : List (List ℕ)) → (getD (getD sevenRounds i []) j 0 ≡ getD (getD qs i []) j 0 → ⊥)
@@ -91,11 +92,13 @@ texts-right = refl
 
 -- ---- the calls
 
--- what is written of the seven buses has room for so many numbers
+-- there is one list of the seven buses, and it has room for so many numbers
+one : (rounds : List (List ℕ)) → RoundsOf (sevenGrid (3 ∷ [])) rounds → sevenRounds ≡ rounds
+one rounds p = rounds-unique (sevenGrid (3 ∷ [])) empty sevenRounds rounds (shown .seven) p
+
 roomy : (room : List ℕ) → 7 ≤ length room → RoundsFit (sevenCase (3 ∷ [])) room
 unfolding roundNumbers
-roomy room l rounds p =
-    omega (arith, ap (λ (rs : List (List ℕ)). length (roundNumbers rs)) (rounds-unique (sevenGrid (3 ∷ [])) empty sevenRounds rounds (shown .seven) p))
+roomy room l rounds p = omega (arith, ap (λ (rs : List (List ℕ)). length (roundNumbers rs)) (one rounds p))
 
 pub replies-right : AllRight tables.roundsReplyTable
 unfolding roundNumbers
@@ -103,12 +106,8 @@ replies-right = (
   (known .at3 .valid, (roomy (replicate 8 9) (omega arith), tt)),
   record { rounds = sevenRounds; are = shown .seven; long = refl; many = refl; written = refl },
 )
-    & (λ h. omega (
-      arith,
-      h .1 .many,
-      ap length (rounds-unique (sevenGrid (3 ∷ [])) empty sevenRounds (h .1 .rounds) (shown .seven) (h .1 .are)),
-    ))
-    & (λ h. left (h .1 .rounds) (rounds-unique (sevenGrid (3 ∷ [])) empty sevenRounds (h .1 .rounds) (shown .seven) (h .1 .are)) (h .1 .written))
+    & (λ h. omega (arith, h .1 .many, ap length (one (h .1 .rounds) (h .1 .are))))
+    & (λ h. changed (h .1 .rounds) (one (h .1 .rounds) (h .1 .are)) (h .1 .written))
     & ((known .none .valid, (none, tt)), record { rounds = []; are = shown .none; long = refl; many = refl; written = refl })
     & (stop invalid (itself _), refl)
     & (known .at3 .valid then stop (λ h. omega (arith, h sevenRounds (shown .seven))) (itself _), refl)
@@ -119,8 +118,10 @@ replies-right = (
     none rounds p =
         omega (arith, ap (λ (rs : List (List ℕ)). length (roundNumbers rs)) (rounds-unique (sevenGrid []) empty [] rounds (shown .none) p))
 
-    left : (rounds : List (List ℕ)) → sevenRounds ≡ rounds → _≡_ {A = List ℕ} (4 ∷ 2 ∷ 3 ∷ 4 ∷ 7 ∷ 1 ∷ 1 ∷ 0 ∷ []) (roundNumbers rounds ++ 9 ∷ []) → ⊥
-    left rounds is e =
+    changed : (rounds : List (List ℕ)) → sevenRounds ≡ rounds
+        → _≡_ {A = List ℕ} (4 ∷ 2 ∷ 3 ∷ 4 ∷ 7 ∷ 1 ∷ 1 ∷ 0 ∷ []) (roundNumbers rounds ++ 9 ∷ [])
+        → ⊥
+    changed rounds is e =
         omega (arith, ap (λ (r : List ℕ). getD r 7 0) (e ∙ sym (ap (λ (rs : List (List ℕ)). roundNumbers rs ++ 9 ∷ []) is)))
 
 pub printed-right : AllRight tables.roundsPrintedTable

@@ -39,7 +39,8 @@ returns-2 : tie.Need-returns-2
 returns-2 c =
     let counted = c .before .before in
     let listed = counted .before .before in
-    (inr (valid (listed .before), inl (no-room _ (listed .rounds .ensures) (counted .put-rounds .ensures) (room listed) (c .if2 .taken), itself _)), refl)
+    let none = no-room _ (listed .rounds .ensures) (counted .put-rounds .ensures) (room listed) (c .if2 .taken) in
+    (inr (valid (listed .before), inl (none, itself _)), refl)
 
 put-rounds-requires-2 : tie.Need-put-rounds-requires-2
 put-rounds-requires-2 c κs = search needs

@@ -1,7 +1,7 @@
 -- Invariant: of the round's buses those of `left` are to put. Its size falls, and with it what is left to count.
 use Prim.Native.Nat.{ℕ, suc, _+_, _≤_}
 use mathlib.Core.Path.{_≡_, refl, sym, ap, _∙_}
-use mathlib.Core.List.{List, _∷_}
+use mathlib.Core.List.{List, [], _∷_}
 use native.Mathlib.Omega.{arith}
 use lib.ListN.{length}
 use borrow.Author.Needs.{needs}
@@ -11,14 +11,15 @@ use Rattle.busset.specs.Sets.{size, setOf, width}
 use Rattle.text_put.proofs.Putting.{put-then, put-same, put-length}
 use Rattle.rules.proofs.Rounds.{members-size}
 use Rattle.round_list.specs.Rounds.{HoldsBuses}
-use Rattle.round_calls.proofs.Writing.{BusesLeft, buses-none, buses-more, buses-all}
+use Rattle.round_list.proofs.Putting.{BusesLeft, buses-none, buses-more, buses-all}
+use Rattle.round_calls.proofs.Writing.{number-each}
 use Rattle.round_calls.proofs.put_round.Statement.{statement}
 use Rattle.round_calls.proofs.put_round.Tie as tie
 
 abbrev Inv-loop : tie.InvT-loop
 Inv-loop out₀ at r k₀ left₀ out k left =
     (length out ≡ length out₀) × (k + size (setOf left) ≡ k₀ + size (setOf r))
-    × ((buses : List ℕ) → HoldsBuses r buses → BusesLeft out₀ k₀ buses out k left)
+    × ((buses : List ℕ) → HoldsBuses r buses → BusesLeft (λ b. b ∷ []) out₀ k₀ buses out k left)
 
 abbrev μ-loop : tie.MeasureT-loop
 μ-loop out₀ at r k₀ left₀ out k left = size (setOf left)
@@ -61,7 +62,7 @@ loop-again c =
     let at = low .before .before .before in (
       put-length (put .put-one2 .ensures) ∙ at .loop .inv .0,
       omega (arith, at .loop .inv .1, put .put-one2 .ensures .next, c .without .ensures .fewer (low .lowest .ensures .has)),
-      λ buses m. buses-more _ _ (at .loop .inv .2 buses m) (low .lowest .ensures) (put .put-one2 .ensures) (c .without .ensures),
+      λ buses m. buses-more (at .loop .inv .2 buses m) (low .lowest .ensures) (put .put-one2 .ensures) (c .without .ensures),
     )
 
 same-length : tie.Need-same-length Inv-loop μ-loop
@@ -76,7 +77,8 @@ returns c =
       omega (arith, at .loop .inv .1, started first),
       λ buses m. put-same (ap (λ (k : ℕ). k ∷ buses) (first .before .count .ensures .is ∙ sym (members-size _ buses m)))
           (put-then (first .put-one .ensures)
-          (buses-all _ (at .loop .inv .2 buses m) (c .before .is-none .ensures .yes (not-false _ (c .if1 .left))))),
+          (put-same (number-each buses)
+          (buses-all (at .loop .inv .2 buses m) (c .before .is-none .ensures .yes (not-false _ (c .if1 .left)))))),
     )
 
 pub put-round-spec : {M : Type 1} → statement M

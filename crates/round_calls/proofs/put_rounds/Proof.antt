@@ -1,4 +1,4 @@
--- Invariant: the numbers of the rounds from i on are left to put, and at most a round of all buses was put for each one before. i-end - i falls.
+-- Invariant: the numbers of the rounds from i on are left to put, and those before are at most a round of all buses each. i-end - i falls.
 use Prim.Native.Nat.{ℕ, suc, _-_, _*_, _≤_}
 use mathlib.Core.Path.{_≡_, refl, _∙_}
 use mathlib.Core.List.{List}

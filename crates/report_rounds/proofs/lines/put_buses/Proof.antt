@@ -13,20 +13,21 @@ use Rattle.text_field.specs.Number.{mostDigits}
 use Rattle.text_field.proofs.Digits.{text-length}
 use Rattle.text_put.proofs.Putting.{put-length}
 use Rattle.round_list.specs.Rounds.{HoldsBuses}
-use Rattle.report_rounds.proofs.Texts.{BusesLeft, buses-none, buses-more, buses-all}
+use Rattle.round_list.proofs.Putting.{BusesLeft, buses-none, buses-more, buses-all}
+use Rattle.report_rounds.specs.Lines.{tabbed}
 use Rattle.report_rounds.proofs.lines.put_buses.Statement.{statement}
 use Rattle.report_rounds.proofs.lines.put_buses.Tie as tie
 
 abbrev Inv-loop : tie.InvT-loop
 Inv-loop out₀ at r k₀ left₀ t7 out k left =
     (k + (1 + mostDigits) * size (setOf left) ≤ at + (1 + mostDigits) * size (setOf r)) × (length out ≡ length out₀)
-    × ((buses : List ℕ) → HoldsBuses r buses → BusesLeft out₀ at buses out k left)
+    × ((buses : List ℕ) → HoldsBuses r buses → BusesLeft tabbed out₀ at buses out k left)
 
 abbrev μ-loop : tie.MeasureT-loop
 μ-loop out₀ at r k₀ left₀ t7 out k left = size (setOf left)
 
 loop-holds : tie.Need-loop-holds Inv-loop μ-loop
-loop-holds c = (omega arith, refl, λ buses m. buses-none buses m)
+loop-holds c = (omega arith, refl, λ buses m. buses-none m)
 
 is-none-requires : tie.Need-is-none-requires Inv-loop μ-loop
 is-none-requires c κs = search needs
@@ -62,7 +63,7 @@ loop-again c =
     let put = at-put-tagged .put-tagged .ensures in (
       omega (arith, at-loop .loop .inv .0, put .next, text-length (at-lowest .lowest .result), c .without .ensures .fewer (low .has)),
       put-length put ∙ at-loop .loop .inv .1,
-      λ buses m. buses-more (at-loop .loop .inv .2 buses m) low (c .without .ensures) put,
+      λ buses m. buses-more (at-loop .loop .inv .2 buses m) low put (c .without .ensures),
     )
 
 same-length : tie.Need-same-length Inv-loop μ-loop
