@@ -1,12 +1,13 @@
 """What crates/ask prints for each call, by the references beside this file."""
 import reference
+import reference_rounds
 import reference_sites
 import reference_texts
 import reports
 from reference import Case, Refused
 
 # the calls that write records, and those that write bytes, which are printed on lines of their own
-RECORDS, BYTES = ("weave", "read_steps"), ("write_case", "day_report", "plan_report")
+RECORDS, BYTES = ("weave", "read_steps"), ("write_case", "day_report", "plan_report", "rounds_report")
 
 
 def numbers(buses):
@@ -44,6 +45,11 @@ def bytes_of(text):
 
 def observed_set(case):
     return buses(reference.observed_set(case))
+
+
+def observed_rounds(case, room):
+    listed, count = reference_rounds.observed_rounds(case, room)
+    return " rounds %d, list%s" % (count, numbers(listed))
 
 
 def firing_figure(case, stated, i, j):
@@ -108,6 +114,10 @@ def day_report(text, room):
 
 def plan_report(text, room):
     return bytes_of(reference_texts.fitting(reports.plan(text), room))
+
+
+def rounds_report(text, room):
+    return bytes_of(reference_texts.fitting(reports.rounds(text), room))
 
 
 def is_unread(call, arguments):

@@ -1,7 +1,8 @@
 #!/usr/bin/env python3
-"""What the two programs print, worked out by the references beside this file.
+"""What the three programs print, worked out by the references beside this file.
 
     tests/reports.py day              the day report for the case text on standard input
+    tests/reports.py rounds           the rounds report for that text
     tests/reports.py plan [BUDGET]    the planning program's reply to `plan BUDGET`, or to `plan` alone, and that text
 
 The fewest are found by trying every placement in order. A case of few buses, or with few units missing, takes seconds;
@@ -9,6 +10,7 @@ others take hours.
 """
 import sys
 
+import reference_rounds
 from reference import Refused, derivation, observed_set
 from reference_sites import MOST_BUDGET, fewest, unconfirmed
 from reference_texts import CASE_LIMIT, lines, number, read_case
@@ -29,6 +31,15 @@ def day(text):
     rows += [("step", bus) + reason for bus, reason in derivation(case)]
     rows += [("xv", "no", len(alone)) if alone else ("xv", "yes"), ("end",)]
     return lines(rows)
+
+
+def rounds(text):
+    """The rounds report, or its refusal's line."""
+    try:
+        listed = reference_rounds.rounds(read_case(text))
+    except Refused as no:
+        return refused(no)
+    return lines([("round", place, *buses) for place, buses in enumerate(listed, 1)] + [("end",)])
 
 
 def read_plan(text):
@@ -57,10 +68,11 @@ def plan(text):
 
 def main():
     text = sys.stdin.buffer.read()
-    if sys.argv[1] == "day":
-        sys.stdout.buffer.write(day(text))
+    if sys.argv[1] == "plan":
+        printed = plan("\t".join(sys.argv[1:]).encode() + b"\n" + text)
     else:
-        sys.stdout.buffer.write(plan("\t".join(sys.argv[1:]).encode() + b"\n" + text))
+        printed = {"day": day, "rounds": rounds}[sys.argv[1]](text)
+    sys.stdout.buffer.write(printed)
 
 
 if __name__ == "__main__":
