@@ -5,6 +5,7 @@
     tests/questions.py stdout    prints crates/ask/stdout: the replies to them
     tests/questions.py drawn SEED COUNT PROGRAM
         asks the program COUNT questions drawn from the seed, and texts that are damaged in every way, and compares.
+        Compares on each drawn grid the rounds of the references with their observed set too.
         Prints each difference, and then one line of counts. The exit status is 1 after a difference.
 
 The program reads blocks of 32,768 bytes. No question goes over the end of one, and each block starts from nothing.
@@ -16,14 +17,16 @@ import sys
 
 import questions_drawn
 import questions_named
+import reference_rounds
 import replies
+from reference import is_grid, observed_set
 
 BLOCK = 32768
 # the letter by which each call is asked
 LETTERS = dict(
     observed_set="o", firing_figure="f", test_step="t", derivation="d", replay="r", weave="w", cross_validate="v",
     place_greedy="g", place_fewest="p", read_case="R", write_case="W", check_steps="C", read_steps="S",
-    replay_text="P", day_report="D", plan_report="L",
+    replay_text="P", day_report="D", plan_report="L", observed_rounds="i", rounds_report="I",
 )
 
 
@@ -146,13 +149,27 @@ def compared(asker, program, seed):
     return different + (at != len(said))
 
 
+def reach_observed(case):
+    """Whether the rounds of a grid add each bus of its observed set once, and no other."""
+    added = [bus for buses in reference_rounds.rounds(case) for bus in buses]
+    return sorted(added) == sorted(observed_set(case))
+
+
 class Counts:
-    """How many questions there were of each call, how many were accepted, and how often each refusal was given."""
+    """How many questions there were of each call, how many were accepted, and how often each refusal was given.
+
+    Of the grids whose rounds are asked for, `unlike` has those whose rounds do not reach the observed set.
+    """
 
     def __init__(self):
         self.calls, self.accepted, self.refused = (collections.Counter() for _ in range(3))
+        self.grids, self.unlike = 0, 0
 
     def add(self, questions):
+        cases = [q.arguments[0] for q in questions if q.call == "observed_rounds"]
+        alike = [reach_observed(case) for case in cases if is_grid(case)]
+        self.grids += len(alike)
+        self.unlike += alike.count(False)
         self.calls.update(q.call for q in questions)
         self.accepted.update(q.call for q in questions if q.reply[1] == 0)
         self.refused.update(q.reply[1] for q in questions if q.reply[1])
@@ -165,7 +182,8 @@ class Counts:
     def line(self):
         calls = ", ".join("%s %d (%d accepted)" % (call, self.calls[call], self.accepted[call]) for call in LETTERS)
         refused = ", ".join("%d: %d" % item for item in sorted(self.refused.items()))
-        return "%d questions: %s; refused %s" % (sum(self.calls.values()), calls, refused)
+        said = "%d questions: %s; refused %s" % (sum(self.calls.values()), calls, refused)
+        return said + "; of %d grids the rounds reach the observed set" % (self.grids - self.unlike)
 
 
 def ask_drawn(seed, count, program):
@@ -179,8 +197,10 @@ def ask_drawn(seed, count, program):
     missing = counts.missing(count)
     if missing:
         print("too few: %s" % missing)
+    if counts.unlike:
+        print("of %d grids the rounds do not reach the observed set" % counts.unlike)
     print("seed %s, %s" % (seed, counts.line()))
-    return not different and not missing
+    return not different and not missing and not counts.unlike
 
 
 def main():

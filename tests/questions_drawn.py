@@ -2,14 +2,17 @@
 import functools
 import random
 
+import reports
 from reference import Case, holds, is_grid, observed, reasons
+from reference_rounds import numbers, rounds
 from reference_texts import CASE_LIMIT, STEP_LIMIT, write_case, write_steps
-from reports import day
 from texts import damaged, over, places_of, texts
 
 # the highest number but one that a line can say
 HUGE = 18446744073709551608
-CALLS = 16
+# the numbers that crates/ask can lend: eight more than the rounds of any grid have
+MOST_LENT = 136
+CALLS = 18
 
 
 def ask_damaged(asker, seed):
@@ -75,6 +78,14 @@ class Dice(random.Random):
         for a, b in self.sample(pairs, min(len(pairs), self.choice((0, 1, 5, 40)))):
             case.join(a, b, self.randint(1, 8))
         return case
+
+    def far(self):
+        """A valid case that has many rounds: rows side by side, almost all Z, with units only at their beginning."""
+        n, width = self.randint(2, 64), self.randint(1, 5)
+        order, across = self.sample(range(1, n + 1), n), self.choice(((1,), (width,), (1, width), (1, width + 1)))
+        lines = [(order[b], order[b + d]) for b in range(n) for d in across if b + d < n]
+        zero, units = self.some(order, self.choice((90, 97, 100))), self.some(order[:width], 70)
+        return Case(n).drawn(lines=lines, zero=zero, units=units | {order[0]})
 
     def noise(self, n):
         """A case value with any bits in it."""
@@ -202,7 +213,7 @@ def of_cases(dice, asker, name, case):
     asker.of_case(name + "d", "derivation", case)
     asker.of_case(name + "v", "cross_validate", case)
     budget = dice.choice((dice.randint(0, 12), 64, 65, HUGE)) if dice.chance(50) else dice.randint(0, 64)
-    asker.of_case(name + "g", "place_greedy", case, budget, dice.room(dice.randint(0, 8), 72))
+    asker.of_case(name + "g", "place_greedy", case, budget, dice.room(dice.randint(0, 8), MOST_LENT))
     length = len(write_case(case, 8192)) if is_grid(case) else 100
     asker.of_case(name + "W", "write_case", case, dice.room(length, 16400))
     i = dice.bus(case.n)
@@ -229,11 +240,20 @@ def of_texts(dice, asker, name):
     case = dice.grid()
     text = dice.text(write_case(case, 8192), CASE_LIMIT)
     asker.of_text(name + "R", "read_case", text)
-    asker.of_text(name + "D", "day_report", text, dice.room(len(day(text)), 16400))
+    asker.of_text(name + "D", "day_report", text, dice.room(len(reports.day(text)), 16400))
     steps = dice.plan(case)
     text = dice.text(write_steps(steps), STEP_LIMIT)
     asker.of_text(name + "C", "check_steps", text)
     asker.of_text(name + "S", "read_steps", text, dice.room(len(steps), 1032))
+
+
+def of_rounds(dice, asker, name):
+    """The rounds of a case value, and the rounds report of a text."""
+    case = dice.value() if dice.chance(60) else dice.far()
+    length = len(numbers(rounds(case))) if is_grid(case) else dice.randint(0, MOST_LENT)
+    asker.of_case(name + "i", "observed_rounds", case, 0 if dice.chance(10) else dice.room(length, MOST_LENT))
+    text = dice.text(write_case(dice.grid() if dice.chance(60) else dice.far(), 8192), CASE_LIMIT)
+    asker.of_text(name + "I", "rounds_report", text, dice.room(len(reports.rounds(text)), 16400))
 
 
 def of_plans(dice, asker, name):
@@ -256,6 +276,7 @@ def ask_turns(asker, seed, turns):
         of_cases(dice, asker, name, case)
         of_lists(dice, asker, name, case)
         of_texts(dice, asker, name)
+        of_rounds(dice, asker, name)
         of_plans(dice, asker, name)
 
 

@@ -3,13 +3,14 @@ import os
 
 import replies
 from reference import Case, Refused, derivation, test_step
-from reference_texts import read_case, write_steps
-from reports import day, plan
+from reference_texts import read_case, write_case, write_steps
+from reports import day, plan, rounds
 from texts import PARALLEL, SEVEN, UNIT_AT_3, full_case, texts, with_circuits
 
 CASES = os.path.join(os.path.dirname(os.path.abspath(__file__)), "..", "cases")
 PATH = Case(5).drawn(lines=[(1, 2), (2, 3), (3, 4), (4, 5)], zero=[3], units=[1, 5])
 ROW = Case(64).drawn(lines=[(b, b + 1) for b in range(1, 64)], zero=range(1, 65))
+CHAIN = Case(4).drawn(lines=[(1, 2), (2, 3), (3, 4)], zero=[2, 3])
 RING = Case(12).drawn(lines=[(b, b % 12 + 1) for b in range(1, 13)], zero=range(2, 13, 2), units=[1, 7])
 PAIR = SEVEN.drawn(units=[1, 4])
 INVALID = UNIT_AT_3.drawn(lines=[(8, 1)])
@@ -270,6 +271,7 @@ def byte_rooms(asker):
     rooms("case", "write_case", text, lambda name, call, room: asker.of_case(name, call, UNIT_AT_3, room))
     for name, call, answer, said in (
         ("day", "day_report", day, text), ("plan", "plan_report", plan, b"plan\t8\n" + text),
+        ("rounds", "rounds_report", rounds, text),
     ):
         for room in (11, 12):
             asker.of_text("no %s into %d" % (name, room), call, b"", room)
@@ -405,10 +407,64 @@ def circuit_texts(asker):
     asker.of_text("plan with circuits", "plan_report", b"plan\t2\n" + text["parallel"], 16400)
 
 
+def in_rounds(asker):
+    """Each round is of the set as it stood when the round began, and only rounds that add a bus are listed."""
+    star = Case(64).drawn(lines=[(1, b) for b in range(2, 65)], units=[1])
+    ladder = Case(8).drawn(lines=[(1, 2), (2, 3), (3, 4), (5, 6), (6, 7), (7, 8), (3, 7)], zero=[2, 3, 6, 7])
+    for name, case in (
+        ("path of 4, Z at 2 and 3, unit at 1", CHAIN.drawn(units=[1])),
+        ("path of 4, Z at 2 and 3, unit at 4", CHAIN.drawn(units=[4])),
+        ("path, where no bus is freed", PATH), ("ring", RING),
+        ("seven, no unit", SEVEN), ("seven, unit at 3", UNIT_AT_3), ("seven, units at 1 and 4", PAIR),
+        ("seven, circuits, unit at 3", PARALLEL), ("star of 64, all in round 1", star),
+        ("row of 64 Z, no unit", ROW), ("row of 64 Z, unit at 1", ROW.drawn(units=[1])),
+        ("row of 64 Z, unit at 64", ROW.drawn(units=[64])), ("row of 64 Z, unit at 32", ROW.drawn(units=[32])),
+        ("row of 64 Z, units at 1 and 64", ROW.drawn(units=[1, 64])),
+        ("row of 64 Z, a unit at every bus", ROW.drawn(units=range(1, 65))),
+        ("two rows and a line between, unit at 1", ladder.drawn(units=[1])),
+        ("two rows and a line between, units at 1 and 5", ladder.drawn(units=[1, 5])),
+        ("64 Z buses with no lines, units at 7 and 64", Case(64).drawn(units=[7, 64], zero=range(1, 65))),
+        ("ieee14 with units", read("ieee14-placed")), ("ieee30 with units", read("ieee30-placed")),
+        ("no buses", Case(0)), ("65 buses", Case(65)), ("a line to a bus above n", INVALID),
+        ("1 to 3, which are not joined, counted 1", UNIT_AT_3.drawn(counted=[(1, 3, 1), (3, 1, 1)])),
+    ):
+        asker.of_case("in rounds, " + name, "observed_rounds", case, 136)
+
+
+def rooms_for_rounds(asker):
+    """Rooms that are too small, exact and larger; an invalid case comes before a room that is too small."""
+    for name, case, rooms in (
+        ("path of 4", CHAIN.drawn(units=[1]), (0, 1, 2, 3, 6, 7, 8)), ("seven, no unit", SEVEN, (0, 1)),
+        ("row of 64 Z", ROW.drawn(units=[1]), (0, 126, 127, 128)), ("invalid case", INVALID, (0, 1)),
+        ("a unit at every bus", ROW.drawn(units=range(1, 65)), (64, 65, 66)), ("no buses", Case(0), (0,)),
+    ):
+        for room in rooms:
+            asker.of_case("in rounds, %s into %d" % (name, room), "observed_rounds", case, room)
+
+
+def rounds_reports(asker):
+    """Reports into exact room and into a byte less, and texts that are refused."""
+    text = texts()
+    for name, case in (
+        ("path of 4", CHAIN.drawn(units=[1])), ("seven, no unit", SEVEN), ("row of 64 Z", ROW.drawn(units=[1])),
+        ("circuits", PARALLEL),
+    ):
+        said = write_case(case, 8192)
+        for room in (len(rounds(said)) - 1, len(rounds(said))):
+            asker.of_text("rounds of %s into %d" % (name, room), "rounds_report", said, room)
+    for name, said in (
+        ("256 lines of eight circuits", text["circuits"]), ("257 lines", text["more"]), ("65 buses", b"grid\t65\n"),
+        ("8193 bytes", text["seven"].ljust(8193, b"x")),
+        ("a line that falls", b"grid\t2\nbus\t1\tI\tY\nbus\t2\tI\tY\nline\t2\t1\nend\n"),
+    ):
+        for room in (8, 772):
+            asker.of_text("rounds of %s into %d" % (name, room), "rounds_report", said, room)
+
+
 def ask_all(asker):
     for questions in (
         observed_sets, figures, tests, case_values, derivations, lists, long_lists, record_rooms, shuffles,
         verdicts, greedy, fewest, out_of_reach, byte_rooms, text_questions, parallel_circuits, miscounted,
-        circuit_texts,
+        circuit_texts, in_rounds, rooms_for_rounds, rounds_reports,
     ):
         questions(asker)

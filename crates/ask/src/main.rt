@@ -8,12 +8,12 @@ ghost use Rattle.asked.specs.Lines.{LineAt};
 mod drawing;
 mod lending;
 mod lists;
+mod numbers;
 mod of_case;
 mod of_steps;
 mod of_text;
 mod printing;
 mod rooms;
-mod sites;
 
 use asked::Line;
 use wozgrzyt::BusSet;
@@ -83,7 +83,7 @@ fn reply(block: &[u8], at: usize, m: Marks, case: Case, s: BusSet, l: Line)
             letter,
             l.a,
         ),
-        b'R' | b'C' | b'S' | b'P' | b'D' | b'L' => with_text(block, m, case, letter, l.a),
+        b'R' | b'C' | b'S' | b'P' | b'D' | b'I' | b'L' => with_text(block, m, case, letter, l.a),
         _ => of_case::reply(case, s, letter, l.a, l.b),
     }
 }

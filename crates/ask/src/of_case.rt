@@ -1,8 +1,8 @@
 // What is asked of a case value, and what is printed for it.
 use crate::lists;
+use crate::numbers;
 use crate::printing;
 use crate::rooms;
-use crate::sites;
 use wozgrzyt::BusSet;
 use wozgrzyt::Case;
 use wozgrzyt::DerivationAnswer;
@@ -54,15 +54,17 @@ fn fewest(case: Case, budget: usize) {
     }
 }
 
-// o: the observed set. f: the figure from a to b. d: the derivation. v: cross-validation.
-// g: greedy with budget a, into room for b. p: the fewest with budget a. W: the case written into a bytes.
+// o: the observed set. i: in rounds, into room for a. f: the figure from a to b. d: the derivation.
+// v: cross-validation. g: greedy with budget a, into room for b. p: the fewest with budget a.
+// W: the case written into a bytes.
 pub fn reply(case: Case, s: BusSet, letter: u8, a: usize, b: usize) {
     match letter {
         b'o' => observed(case),
+        b'i' => numbers::rounds(case, a),
         b'f' => figure(case, s, a, b),
         b'd' => derivation(case),
         b'v' => verdict(case),
-        b'g' => sites::greedy(case, a, b),
+        b'g' => numbers::greedy(case, a, b),
         b'p' => fewest(case, a),
         b'W' => rooms::case_into(case, a),
         _ => printing::text(b" no such question"),

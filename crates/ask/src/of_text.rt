@@ -64,7 +64,8 @@ fn replayed(answer: TextReplayed) {
 }
 
 // R: the case of the text. C: its steps counted. S: its steps, into a records. P: its steps, replayed.
-// D: its day report, into a bytes. Any other: the planning program's reply to it, into a bytes.
+// D: its day report, into a bytes. I: its report in rounds, into a bytes.
+// Any other: the planning program's reply to it, into a bytes.
 pub fn reply(text: &[u8], case: Case, letter: u8, a: usize) {
     match letter {
         b'R' => read(text),
@@ -72,6 +73,7 @@ pub fn reply(text: &[u8], case: Case, letter: u8, a: usize) {
         b'S' => steps_into(text, a),
         b'P' => replayed(wozgrzyt::replay_text(case, text)),
         b'D' => rooms::day_into(text, a),
+        b'I' => rooms::rounds_into(text, a),
         _ => rooms::plan_into(text, a),
     }
 }

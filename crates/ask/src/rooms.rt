@@ -85,6 +85,12 @@ fn day_first(text: &[u8], out: &mut [u8], room: usize) {
     answer(r, out);
 }
 
+fn rounds_first(text: &[u8], out: &mut [u8], room: usize) {
+    let k = least(room, out.len());
+    let r = wozgrzyt::rounds_report(text, &mut out[0..k]);
+    answer(r, out);
+}
+
 fn plan_first(input: &[u8], out: &mut [u8], room: usize) {
     let k = least(room, out.len());
     let r = wozgrzyt::plan_report(input, &mut out[0..k]);
@@ -101,6 +107,12 @@ pub fn case_into(case: Case, room: usize) {
 pub fn day_into(text: &[u8], room: usize) {
     let mut out = filled();
     day_first(text, &mut out, room);
+}
+
+// The rounds report of a text, into the first `room` bytes.
+pub fn rounds_into(text: &[u8], room: usize) {
+    let mut out = filled();
+    rounds_first(text, &mut out, room);
 }
 
 // The planning program's reply, into the first `room` bytes.

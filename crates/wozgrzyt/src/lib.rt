@@ -15,6 +15,10 @@ pub use observe_calls::firing_figure;
 pub use observe_calls::observed_set;
 pub use observe_calls::test_step;
 
+// the trainer: observation in rounds
+pub use round_calls::RoundsAnswer;
+pub use round_calls::observed_rounds;
+
 // lists: the derivation, replay and weaving
 pub use list_calls::derivation;
 pub use list_calls::replay;
@@ -48,3 +52,4 @@ pub use text_calls::write_case;
 // what the programs print
 pub use report_day::day_report;
 pub use report_plan::plan_report;
+pub use report_rounds::rounds_report;

@@ -1,14 +1,14 @@
--- Invariant: i is at most 72, so each number read is there. 72 - i falls.
+-- Invariant: i is at most 136, so each number read is there. 136 - i falls.
 use borrow.Author.Needs.{needs}
 use Prim.Native.Nat.{_-_, _≤_}
-use Rattle.ask.proofs.sites.first.Statement.{statement}
-use Rattle.ask.proofs.sites.first.Tie as tie
+use Rattle.ask.proofs.numbers.first.Statement.{statement}
+use Rattle.ask.proofs.numbers.first.Tie as tie
 
 abbrev Inv-loop : tie.InvT-loop
-Inv-loop k out i₀ i = i ≤ 72
+Inv-loop k out i₀ i = i ≤ 136
 
 abbrev μ-loop : tie.MeasureT-loop
-μ-loop k out i₀ i = 72 - i
+μ-loop k out i₀ i = 136 - i
 
 loop-holds : tie.Need-loop-holds Inv-loop μ-loop
 loop-holds c = search needs

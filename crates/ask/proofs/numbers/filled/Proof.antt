@@ -1,16 +1,16 @@
--- Invariant: the array has its 72 places, so each write is within it. 72 - i falls.
+-- Invariant: the array has its 136 places, so each write is within it. 136 - i falls.
 use borrow.Author.Needs.{needs}
 use mathlib.Core.Path.{_≡_}
 use Prim.Native.Nat.{_-_, _≤_}
 use lib.ListN.{length}
-use Rattle.ask.proofs.sites.filled.Statement.{statement}
-use Rattle.ask.proofs.sites.filled.Tie as tie
+use Rattle.ask.proofs.numbers.filled.Statement.{statement}
+use Rattle.ask.proofs.numbers.filled.Tie as tie
 
 abbrev Inv-loop : tie.InvT-loop
-Inv-loop out₀ i₀ out i = (i ≤ 72) × (length out ≡ 72)
+Inv-loop out₀ i₀ out i = (i ≤ 136) × (length out ≡ 136)
 
 abbrev μ-loop : tie.MeasureT-loop
-μ-loop out₀ i₀ out i = 72 - i
+μ-loop out₀ i₀ out i = 136 - i
 
 loop-holds : tie.Need-loop-holds Inv-loop μ-loop
 loop-holds c = search needs
