@@ -1,6 +1,6 @@
-/* Document 01 in C, with document 02's parallel circuits, written from their words alone and for plainness. The library
- * and the programs are compared with it. Sets are arrays of truth values. Buses count from 1 and are their own
- * index. */
+/* Document 01 in C, with document 02's parallel circuits and rounds, written from their words alone and for plainness.
+ * The library and the programs are compared with it. Sets are arrays of truth values. Buses count from 1 and are their
+ * own index. */
 #ifndef DOCUMENT01_H
 #define DOCUMENT01_H
 
@@ -68,6 +68,9 @@ size_t derive(const struct grid_case *grid, struct step steps[MOST_BUSES]);
 struct refusal replay(const struct grid_case *grid, const struct step *steps, size_t step_count,
                       struct bus_set *observed);
 
+/* document01_rounds.c: the buses that each round adds, of the rounds that add any. Gives how many there are. */
+size_t observe_in_rounds(const struct grid_case *grid, struct bus_set added[MOST_BUSES]);
+
 /* document01_placing.c */
 void find_unconfirmed(const struct grid_case *grid, struct bus_set *unconfirmed);
 struct refusal place_fewest(const struct grid_case *grid, size_t budget, struct bus_set *added);
@@ -79,9 +82,10 @@ uint32_t document01_fewest(const uint8_t *case_text, size_t case_len, size_t bud
 uint32_t document01_replay(const uint8_t *case_text, size_t case_len, const uint8_t *step_text, size_t step_len,
                            uint8_t *set, size_t set_len);
 
-/* document01_programs.c: what the two programs print for an input. Each returns the length of what it printed, and
+/* document01_programs.c: what the three programs print for an input. Each returns the length of what it printed, and
  * gives the refusal's number, or 0. */
 size_t print_day_report(const uint8_t *input, size_t length, char printed[MOST_PRINTED], unsigned *number);
 size_t print_plan(const uint8_t *input, size_t length, char printed[MOST_PRINTED], unsigned *number);
+size_t print_rounds(const uint8_t *input, size_t length, char printed[MOST_PRINTED], unsigned *number);
 
 #endif

@@ -1,4 +1,4 @@
-/* Document 01's two programs as functions from an input to what is printed. */
+/* The three programs as functions from an input to what is printed. */
 #include "document01.h"
 
 #include <stdarg.h>
@@ -66,6 +66,33 @@ size_t print_day_report(const uint8_t *input, size_t length, char printed[MOST_P
     print_line(&print, "observed\t%zu\t%zu\n", count_buses(&observed), grid.buses);
     print_steps(&print, steps, derive(&grid, steps));
     print_verdict(&print, count_buses(&unconfirmed));
+    print_line(&print, "end\n");
+    return print.length;
+}
+
+static void print_round(struct print *print, size_t place, const struct bus_set *added)
+{
+    print_line(print, "round\t%zu", place);
+    for (unsigned bus = 1; bus <= MOST_BUSES; bus++)
+        if (added->has[bus])
+            print_line(print, "\t%u", bus);
+    print_line(print, "\n");
+}
+
+size_t print_rounds(const uint8_t *input, size_t length, char printed[MOST_PRINTED], unsigned *number)
+{
+    struct print print = {printed, 0};
+    struct grid_case grid;
+    struct bus_set added[MOST_BUSES];
+    struct refusal refusal = read_case_text(input, length, &grid);
+    *number = refusal.number;
+    if (refusal.number != 0) {
+        print_refusal(&print, refusal);
+        return print.length;
+    }
+    size_t rounds = observe_in_rounds(&grid, added);
+    for (size_t i = 0; i < rounds; i++)
+        print_round(&print, i + 1, &added[i]);
     print_line(&print, "end\n");
     return print.length;
 }

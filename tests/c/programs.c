@@ -1,5 +1,5 @@
-/* Runs the two programs on inputs drawn from a fixed seed and compares what they print with document 01 in C.
-   usage: programs DAY PLAN [EMULATOR WORDS] */
+/* Runs the three programs on inputs drawn from a fixed seed and compares what they print with document 01 in C.
+   usage: programs DAY PLAN ROUNDS [EMULATOR WORDS] */
 #include "checking.h"
 #include "programs_by_hand.h"
 #include "running.h"
@@ -12,13 +12,33 @@ enum { SEED = 7002, INPUTS = 2000, NUMBERS = 14, LEAST_OF_EACH = 10, MOST_SHOWN 
 
 static size_t counts[PROGRAM_COUNT][NUMBERS], mismatches[PROGRAM_COUNT];
 
+static void draw_case_input(struct dice *dice, const struct grid_case *grid, struct text *input)
+{
+    write_case_text(grid, input);
+    if (percent(dice, 40))
+        damage_text(dice, input, CASE_TEXT_LIMIT);
+}
+
 static void draw_day_input(struct dice *dice, struct text *input)
 {
     struct grid_case grid;
     draw_case(dice, &grid);
-    write_case_text(&grid, input);
-    if (percent(dice, 40))
-        damage_text(dice, input, CASE_TEXT_LIMIT);
+    draw_case_input(dice, &grid, input);
+}
+
+/* Half of the grids have one unit and zero injection at almost every bus, since the others have few rounds. */
+static void draw_rounds_input(struct dice *dice, struct text *input)
+{
+    struct grid_case grid;
+    draw_case(dice, &grid);
+    if (percent(dice, 50)) {
+        for (unsigned bus = 1; bus <= grid.buses; bus++) {
+            grid.zero_injection[bus] = percent(dice, 98);
+            grid.unit[bus] = false;
+        }
+        grid.unit[between(dice, 1, grid.buses)] = true;
+    }
+    draw_case_input(dice, &grid, input);
 }
 
 static void append(struct text *text, const struct text *more)
@@ -48,6 +68,13 @@ static void draw_plan_input(struct dice *dice, struct text *input)
     }
 }
 
+/* How each program's inputs are drawn, and what it must print for one. */
+static const struct {
+    void (*draw)(struct dice *dice, struct text *input);
+    size_t (*print)(const uint8_t *input, size_t length, char printed[MOST_PRINTED], unsigned *number);
+} programs[PROGRAM_COUNT] = {
+    {draw_day_input, print_day_report}, {draw_plan_input, print_plan}, {draw_rounds_input, print_rounds}};
+
 static void compare_input(enum program program, size_t index, const struct text *input)
 {
     static const enum feeding feedings[] = {FEED_PIPE, FEED_PIPE, FEED_PIPE, FEED_FILE};
@@ -55,8 +82,7 @@ static void compare_input(enum program program, size_t index, const struct text 
     char expected[MOST_PRINTED];
     struct printed printed;
     unsigned number;
-    size_t length = program == DAY ? print_day_report(input->bytes, input->length, expected, &number)
-                                   : print_plan(input->bytes, input->length, expected, &number);
+    size_t length = programs[program].print(input->bytes, input->length, expected, &number);
     run_program(program, feedings[index % 4], input->bytes, input->length, &printed);
     bool same = printed.ended_well && printed.length == length && memcmp(printed.bytes, expected, length) == 0;
     counts[program][number]++;
@@ -74,17 +100,14 @@ static void compare_all(enum program program)
     static struct text input;
     for (size_t index = 0; index < INPUTS; index++) {
         struct dice dice = dice_for(SEED + program, index);
-        if (program == DAY)
-            draw_day_input(&dice, &input);
-        else
-            draw_plan_input(&dice, &input);
+        programs[program].draw(&dice, &input);
         compare_input(program, index, &input);
     }
 }
 
 static void print_counts(enum program program)
 {
-    printf("%-4s %d inputs: accepted %zu; refused", program_names[program], INPUTS, counts[program][0]);
+    printf("%-6s %d inputs: accepted %zu; refused", program_names[program], INPUTS, counts[program][0]);
     for (size_t number = 1; number < NUMBERS; number++)
         if (counts[program][number] != 0)
             printf(" %zu: %zu", number, counts[program][number]);
@@ -93,7 +116,8 @@ static void print_counts(enum program program)
 
 static void check_program(enum program program)
 {
-    static const unsigned numbers[PROGRAM_COUNT][10] = {{0, 1, 2, 3, 4, NUMBERS}, {0, 1, 2, 3, 4, 10, 11, NUMBERS}};
+    static const unsigned numbers[PROGRAM_COUNT][10] = {
+        {0, 1, 2, 3, 4, NUMBERS}, {0, 1, 2, 3, 4, 10, 11, NUMBERS}, {0, 1, 2, 3, 4, NUMBERS}};
     char name[100];
     compare_all(program);
     print_counts(program);
@@ -109,14 +133,16 @@ static void check_program(enum program program)
 int main(int argc, char **argv)
 {
     if (argc < 1 + PROGRAM_COUNT) {
-        printf("usage: programs DAY PLAN [EMULATOR WORDS]\n");
+        printf("usage: programs DAY PLAN ROUNDS [EMULATOR WORDS]\n");
         return 2;
     }
     prepare_running(argv + 1, argc - 1);
     check_day_by_hand();
     check_plan_by_hand();
+    check_rounds_by_hand();
     check_standard_input();
     check_program(DAY);
     check_program(PLAN);
+    check_program(ROUNDS);
     return end_of_checks();
 }

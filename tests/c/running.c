@@ -14,7 +14,7 @@
 
 enum { MOST_WORDS = 20, MOST_WAITS = 2000 };
 
-const char *const program_names[PROGRAM_COUNT] = {"day", "plan"};
+const char *const program_names[PROGRAM_COUNT] = {"day", "plan", "rounds"};
 
 static char *commands[PROGRAM_COUNT][MOST_WORDS];
 static bool emulated;

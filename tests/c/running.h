@@ -1,4 +1,4 @@
-/* Runs one of the two programs on an input and takes what it prints. */
+/* Runs one of the three programs on an input and takes what it prints. */
 #ifndef RUNNING_H
 #define RUNNING_H
 
@@ -6,7 +6,7 @@
 #include <stddef.h>
 #include <stdint.h>
 
-enum program { DAY, PLAN, PROGRAM_COUNT };
+enum program { DAY, PLAN, ROUNDS, PROGRAM_COUNT };
 
 enum feeding {
     FEED_PIPE,  /* through a pipe, as fast as it takes it */
@@ -26,7 +26,7 @@ struct printed {
 
 extern const char *const program_names[PROGRAM_COUNT];
 
-/* The paths of the two programs, then the words of an emulator's command, if there is one. */
+/* The paths of the three programs, then the words of an emulator's command, if there is one. */
 void prepare_running(char **words, int count);
 bool is_emulated(void);
 void run_program(enum program program, enum feeding feeding, const uint8_t *input, size_t length,
