@@ -1,17 +1,20 @@
-// The observed set and the search for the fewest units, written by hand in C. They work as the crates observe,
-// place_pool, place_bound and place_fewest do. `fewest`, `count` and `observed` read a case text on standard input.
+// The observed set, observation in rounds and the search for the fewest units, written by hand in C. They work as the
+// crates observe, round_list, place_pool, place_bound and place_fewest do. `fewest`, `count`, `observed`, `rounds` and
+// `near` read a case text on standard input.
 //   by_hand calls GRIDS              for GRIDS grids of each family, of 64 buses and with a budget of 8: the calls that
 //                                    the search makes (of itself and of its cut), and the time of the slowest grid
 //   by_hand write FAMILY SIZE ZEROS  the text of one grid: family 0 meshes, 1 random with SIZE lines, 2 rooks' grids
 //   by_hand fewest                   what the program timed prints for the fewest
 //   by_hand count                    how many calls the search makes
 //   by_hand observed                 what the program timed prints for the observed set
+//   by_hand rounds TIMES             what the program timed prints for observation in rounds
+//   by_hand near TIMES               the same by C that does less than the crate: it looks at a bus's neighbours alone
 #include "drawn.h"
 #include "grid.h"
 
 #include <time.h>
 
-enum { MOST_KEPT = 1000, ENOUGH_KEPT = 200 };
+enum { MOST_KEPT = 1000, ENOUGH_KEPT = 200, MOST_LISTED = 128 };
 
 static unsigned long calls;
 
@@ -38,6 +41,76 @@ static set start(set u)
     for (; u; u &= u - 1)
         s |= nbr[low(u)];
     return s;
+}
+
+// ---- observation in rounds
+
+static int by_unit(int b, int p)
+{
+    return units & bus(p) && nbr[p] & bus(b);
+}
+
+static int by_zero(set s, int b, int w)
+{
+    return zero & s & bus(w) && nbr[w] & bus(b) && !(nbr[w] & ~(s | bus(b)));
+}
+
+// Whether a reason holds for b, by each bus of the grid.
+static int given(set s, int b)
+{
+    if (units & bus(b))
+        return 1;
+    for (int p = 0; p < n; p++)
+        if (by_unit(b, p) || by_zero(s, b, p))
+            return 1;
+    return 0;
+}
+
+// The same by the neighbours of b alone.
+static int given_near(set s, int b)
+{
+    if (units & (nbr[b] | bus(b)))
+        return 1;
+    for (set left = nbr[b] & zero & s; left; left &= left - 1)
+        if (!(nbr[low(left)] & ~(s | bus(b))))
+            return 1;
+    return 0;
+}
+
+// What the round that begins with s adds.
+static inline set one_round(set s, int near)
+{
+    set new = 0;
+    for (int b = 0; b < n; b++)
+        if (!(s & bus(b)) && (near ? given_near(s, b) : given(s, b)))
+            new |= bus(b);
+    return new;
+}
+
+static size_t put_round(uint64_t *room, size_t end, set r)
+{
+    room[end++] = (uint64_t)count(r);
+    for (; r; r &= r - 1)
+        room[end++] = (uint64_t)low(r) + 1;
+    return end;
+}
+
+// How many rounds add a bus; -1 if their list is longer than the room.
+static int in_rounds(uint64_t *room, size_t most, int near)
+{
+    set sets[64], s = 0;
+    size_t length = 0;
+    int rounds = 0;
+    for (set new; (new = one_round(s, near)); s |= new) {
+        sets[rounds++] = new;
+        length += 1 + (size_t)count(new);
+    }
+    if (length > most)
+        return -1;
+    length = 0;
+    for (int i = 0; i < rounds; i++)
+        length = put_round(room, length, sets[i]);
+    return rounds;
 }
 
 // ---- the groups that are kept, the oldest first; the first empty one ends them
@@ -297,6 +370,28 @@ static int read_observed(void)
     return printf("%llu\n", (unsigned long long)last) < 0;
 }
 
+// All numbers of the room, mixed into one.
+static uint64_t mixed(const uint64_t *room)
+{
+    uint64_t sum = 0;
+    for (int i = 0; i < MOST_LISTED; i++)
+        sum = sum % 1000003 * 1009 + room[i] % 1009;
+    return sum % 1000003;
+}
+
+static int read_rounds(long times, int near)
+{
+    static uint64_t room[MOST_LISTED];
+    int rounds = 0;
+    if (!read_text())
+        return 1;
+    for (; times > 0; times--) {
+        __asm__ volatile("" ::: "memory");
+        rounds = valid() ? in_rounds(room, MOST_LISTED, near) : 0;
+    }
+    return printf("%llu\n", (unsigned long long)mixed(room) * 100 + (unsigned long long)rounds) < 0;
+}
+
 static int write_text(int kind, int size, int many_zeros)
 {
     static char room[16384];
@@ -311,6 +406,8 @@ int main(int c, char **v)
         return read_fewest(v[1][0] == 'c');
     if (c > 1 && !strcmp(v[1], "observed"))
         return read_observed();
+    if (c > 2 && (!strcmp(v[1], "rounds") || !strcmp(v[1], "near")))
+        return read_rounds(atol(v[2]), v[1][0] == 'n');
     if (c > 4 && !strcmp(v[1], "write"))
         return write_text(atoi(v[2]), atoi(v[3]), atoi(v[4]));
     families(c > 2 ? atoi(v[2]) : 3);

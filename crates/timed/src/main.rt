@@ -2,11 +2,13 @@
 // call and how often it is asked; the rest is a case text. In a set, bus b is the bit b - 1.
 ghost use mathlib.Core.Path.{_≡_};
 use grid::limits::LARGEST_BUDGET;
+use grid::limits::MOST_BUSES;
 use wozgrzyt::Case;
 use wozgrzyt::Fewest;
 use wozgrzyt::Observed;
 use wozgrzyt::ReadAnswer;
 use wozgrzyt::Refusal;
+use wozgrzyt::RoundsAnswer;
 
 fn wide(n: usize) -> u64
     ensures { λ r. ⌜ r ≡ n ⌝ }
@@ -53,6 +55,40 @@ fn observes(case: Case, turns: usize) -> u64 {
     answer
 }
 
+// The most numbers that the list of the rounds has.
+const MOST_LISTED: usize = 2 * MOST_BUSES;
+
+// How many rounds there are; 0 if the case is refused.
+fn counted(case: Case, room: &mut [usize; MOST_LISTED]) -> usize {
+    match wozgrzyt::observed_rounds(case, room) {
+        RoundsAnswer::Listed(_, rounds) => rounds,
+        RoundsAnswer::Refused(_) => 0,
+    }
+}
+
+// All numbers of the room, mixed into one.
+fn mixed(room: &[usize]) -> u64 {
+    let mut sum: u64 = 0;
+    for i in 0..room.len() {
+        sum = sum % 1000003 * 1009 + wide(room[i] % 1009);
+    }
+    sum
+}
+
+// The numbers and the rounds as one, whose last two digits say how many rounds there are.
+fn both(room: &[usize; MOST_LISTED], rounds: usize) -> u64 {
+    mixed(room) % 1000003 * 100 + wide(rounds % 100)
+}
+
+fn lists(case: Case, turns: usize) -> u64 {
+    let mut room: [usize; MOST_LISTED] = [0; MOST_LISTED];
+    let mut rounds: usize = 0;
+    for _i in 0..turns {
+        rounds = counted(case, &mut room);
+    }
+    both(&room, rounds)
+}
+
 // The fewest new sites within the largest budget; 0 for a refusal.
 fn fewest(case: Case) -> u64 {
     match wozgrzyt::place_fewest(case, LARGEST_BUDGET) {
@@ -69,10 +105,11 @@ fn searches(case: Case, turns: usize) -> u64 {
     answer
 }
 
-// o: the observed set. p: the fewest. Any other: reading.
+// o: the observed set. i: in rounds. p: the fewest. Any other: reading.
 fn last(letter: u8, turns: usize, text: &[u8]) -> u64 {
     match letter {
         b'o' => observes(wozgrzyt::read_case(text).case, turns),
+        b'i' => lists(wozgrzyt::read_case(text).case, turns),
         b'p' => searches(wozgrzyt::read_case(text).case, turns),
         _ => reads(text, turns),
     }
