@@ -12,7 +12,8 @@ from texts import damaged, over, places_of, texts
 HUGE = 18446744073709551608
 # the numbers that crates/ask can lend: eight more than the rounds of any grid have
 MOST_LENT = 136
-CALLS = 18
+# the questions of a turn: one of each public call, and the observed set of the grid whose rounds are asked for
+QUESTIONS = 19
 
 
 def ask_damaged(asker, seed):
@@ -248,10 +249,11 @@ def of_texts(dice, asker, name):
 
 
 def of_rounds(dice, asker, name):
-    """The rounds of a case value, and the rounds report of a text."""
+    """The rounds of a case value and its observed set, which they must reach, and the rounds report of a text."""
     case = dice.value() if dice.chance(60) else dice.far()
     length = len(numbers(rounds(case))) if is_grid(case) else dice.randint(0, MOST_LENT)
     asker.of_case(name + "i", "observed_rounds", case, 0 if dice.chance(10) else dice.room(length, MOST_LENT))
+    asker.of_case(name + "io", "observed_set", case)
     text = dice.text(write_case(dice.grid() if dice.chance(60) else dice.far(), 8192), CASE_LIMIT)
     asker.of_text(name + "I", "rounds_report", text, dice.room(len(reports.rounds(text)), 16400))
 
@@ -283,6 +285,6 @@ def ask_turns(asker, seed, turns):
 def parts(seed, count):
     """Functions that ask: the damaged texts, and then so many drawn questions."""
     yield functools.partial(ask_damaged, seed=seed)
-    turns = -(-count // CALLS)
+    turns = -(-count // QUESTIONS)
     for first in range(0, turns, 500):
         yield functools.partial(ask_turns, seed=seed, turns=range(first, min(first + 500, turns)))
