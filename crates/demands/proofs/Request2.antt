@@ -6,6 +6,7 @@ use native.Mathlib.Omega.{arith}
 use lib.ListN.{length, length-append, take, drop}
 use lib.Seq.{take-append-seam}
 use Rattle.busset.specs.Sets.{empty, size, setOf}
+use Rattle.busset.specs.Held.{SetWord}
 use Rattle.busset.proofs.Sizes.{size-empty}
 use Rattle.rules.specs.Grids.{Grid}
 use Rattle.rules.specs.Placing.{placed}
@@ -15,11 +16,10 @@ use Rattle.rules.proofs.Rounds.{round-size, rounds-add, rounds-least, rounds-fe
 use Rattle.grid.specs.declared.Case.{Case}
 use Rattle.grid.specs.Cases.{gridOf, Valid}
 use Rattle.refusals.proofs.Orders.{failed-or-passed}
-use Rattle.observe_calls.specs.declared.Observed.{Observed}
 use Rattle.observe_calls.specs.declared.Observed.the-variants as observed
-use Rattle.observe_calls.specs.Replies.{observedChecks, ObservedReply}
+use Rattle.observe_calls.specs.Replies.{ObservedReply}
 use Rattle.round_calls.specs.declared.RoundsAnswer.{RoundsAnswer}
-use Rattle.round_calls.specs.declared.RoundsAnswer.the-variants as rounds-answer
+use Rattle.round_calls.specs.declared.RoundsAnswer.the-variants.{Listed, Refused}
 use Rattle.round_calls.specs.Replies.{roundNumbers, roundsChecks, RoundsFit, RoundsReply}
 use Rattle.demands.specs.Request2.{BothEngines, Request2}
 
@@ -46,17 +46,14 @@ numbers-fit c room v l rounds p =
       size-empty,
     )
 
-engines : (c : Case) (entry exit : List ℕ) (quick : Observed) (slow : RoundsAnswer) → Valid c → 2 * c .n ≤ length entry
-    → ObservedReply c quick → RoundsReply c entry exit slow → BothEngines c exit quick slow
-engines c entry exit (observed.Refused r) slow v l p q = absurd (failed-or-passed (observedChecks c) r p (v, tt))
-engines c entry exit (observed.Set s) (rounds-answer.Refused r) v l p q =
-    absurd (failed-or-passed (roundsChecks c entry) r (q .0) (v, (numbers-fit c entry v l, tt)))
-engines c entry exit (observed.Set s) (rounds-answer.Listed k m) v l p q = record {
-  set = s;
-  quick-answers = refl;
-  numbers = k;
-  count = m;
-  slow-answers = refl;
+answers : (c : Case) (entry exit : List ℕ) (r : RoundsAnswer) → Valid c → 2 * c .n ≤ length entry → RoundsReply c entry exit r
+    → (numbers : ℕ) × (count : ℕ) × (r ≡ Listed numbers count)
+answers c entry exit (Listed k m) v l p = (k, m, refl)
+answers c entry exit (Refused q) v l p = absurd (failed-or-passed (roundsChecks c entry) q (p .0) (v, (numbers-fit c entry v l, tt)))
+
+engines : (c : Case) (set : SetWord) (entry exit : List ℕ) (numbers count : ℕ) → ObservedReply c (observed.Set set)
+    → RoundsReply c entry exit (Listed numbers count) → BothEngines c set exit numbers count
+engines c set entry exit k m p q = record {
   rounds = rounds;
   are = q .1 .are;
   written =
@@ -64,12 +61,12 @@ engines c entry exit (observed.Set s) (rounds-answer.Listed k m) v l p q = recor
       ∙ take-append-seam (roundNumbers rounds) (drop k entry);
   many = q .1 .many;
   add = rounds-add (gridOf c) empty rounds (q .1 .are);
-  last = least-unique (gridOf c) (afterRounds empty rounds) (setOf s) (rounds-least (gridOf c) rounds (q .1 .are)) (p .1);
-  few = omega (arith, q .1 .many, rounds-few (v .proper) rounds (q .1 .are));
+  last = least-unique (gridOf c) (afterRounds empty rounds) (setOf set) (rounds-least (gridOf c) rounds (q .1 .are)) (p .1);
+  few = omega (arith, q .1 .many, rounds-few (q .0 .0 .proper) rounds (q .1 .are));
 }
   where
     rounds : List (List ℕ)
     rounds = q .1 .rounds
 
 pub request-2 : Request2
-request-2 = record { engines = engines }
+request-2 = record { answers = answers; engines = engines }

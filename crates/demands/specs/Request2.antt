@@ -10,20 +10,14 @@ use Rattle.busset.specs.Held.{SetWord}
 use Rattle.rules.specs.Rounds.{AddsBus, RoundsOf, afterRounds}
 use Rattle.grid.specs.declared.Case.{Case}
 use Rattle.grid.specs.Cases.{gridOf, Valid}
-use Rattle.observe_calls.specs.declared.Observed.{Observed}
 use Rattle.observe_calls.specs.declared.Observed.the-variants as observed
 use Rattle.observe_calls.specs.Replies.{ObservedReply}
 use Rattle.round_calls.specs.declared.RoundsAnswer.{RoundsAnswer}
-use Rattle.round_calls.specs.declared.RoundsAnswer.the-variants as rounds-answer
+use Rattle.round_calls.specs.declared.RoundsAnswer.the-variants.{Listed}
 use Rattle.round_calls.specs.Replies.{roundNumbers, RoundsReply}
 
--- what the two engines answer of a case: the quick one a set, and the slow one rounds, whose numbers are first in the room that it leaves
-pub record BothEngines (c : Case) (room : List ℕ) (quick : Observed) (slow : RoundsAnswer) : Type 0 where
-  pub set : SetWord
-  pub quick-answers : quick ≡ observed.Set set
-  pub numbers : ℕ
-  pub count : ℕ
-  pub slow-answers : slow ≡ rounds-answer.Listed numbers count
+-- what the slow engine's numbers, which are first in the room that it leaves, say beside the set that the quick one answers
+pub record BothEngines (c : Case) (set : SetWord) (room : List ℕ) (numbers count : ℕ) : Type 0 where
   -- the list of the rounds, and how many there are
   pub rounds : List (List ℕ)
   pub are : RoundsOf (gridOf c) rounds
@@ -37,6 +31,9 @@ pub record BothEngines (c : Case) (room : List ℕ) (quick : Observed) (slow : R
   pub few : count ≤ c .n
 
 pub record Request2 : Type 0 where
-  -- for every valid case, where room for twice as many numbers as buses is lent
-  pub engines : (c : Case) (entry exit : List ℕ) (quick : Observed) (slow : RoundsAnswer) → Valid c → 2 * c .n ≤ length entry
-      → ObservedReply c quick → RoundsReply c entry exit slow → BothEngines c exit quick slow
+  -- for every valid case the slow engine answers, if room for twice as many numbers as buses is lent
+  pub answers : (c : Case) (entry exit : List ℕ) (r : RoundsAnswer) → Valid c → 2 * c .n ≤ length entry → RoundsReply c entry exit r
+      → (numbers : ℕ) × (count : ℕ) × (r ≡ Listed numbers count)
+  -- and whenever both engines answer
+  pub engines : (c : Case) (set : SetWord) (entry exit : List ℕ) (numbers count : ℕ) → ObservedReply c (observed.Set set)
+      → RoundsReply c entry exit (Listed numbers count) → BothEngines c set exit numbers count
