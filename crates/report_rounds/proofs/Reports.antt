@@ -5,6 +5,7 @@ use Prim.Native.Nat.{ℕ, suc, _+_, _*_, _≤_}
 use native.Mathlib.Omega.{arith}
 use lib.ListN.{length, length-append}
 use Rattle.busset.specs.Sets.{Bus, size, width, empty}
+use Rattle.busset.proofs.Members.{bus-more}
 use Rattle.busset.proofs.Sizes.{size-empty}
 use Rattle.rules.specs.Grids.{Grid, Proper}
 use Rattle.rules.specs.Placing.{Rising, placed}
@@ -92,7 +93,7 @@ lines-length g i s (r ∷ rounds) v few h p =
     )
   where
     bus : (b : ℕ) → Gives g s b → Bus width b
-    bus b h = let b = allowed-bus v (h .allowed) in record { some = b .some; most = omega (arith, b .most) }
+    bus b h = bus-more (allowed-bus v (h .allowed)) few
 
 end-length : length (printedLine (bytes "end") []) ≡ 4
 unfolding join

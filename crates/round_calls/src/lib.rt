@@ -17,7 +17,8 @@ pub enum RoundsAnswer {
     Refused(Refusal),
 }
 
-// One number. Past the end it is counted and not written, so that what counts is what writes.
+// One number, put as text_put puts a byte: past the end it is counted and not written, so that what counts is what
+// writes.
 fn put_one(out: &mut [usize], at: usize, x: usize) -> usize
     requires { ⌜ at < farByte ⌝ }
     ensures { λ k. ⌜ Put (now (out .entry)) at (x ∷ []) (now (out .exit)) k ⌝ }

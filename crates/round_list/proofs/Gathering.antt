@@ -17,7 +17,8 @@ use Rattle.rules.specs.Placing.{placed}
 use Rattle.rules.specs.Rounds.{Gives, Round, AddsBus, RoundsFrom, RoundsOf}
 use Rattle.rules.proofs.Reasons.{allowed-bus}
 use Rattle.rules.proofs.Covering.{rising-to, placed-of, placed-max}
-use Rattle.rules.proofs.Rounds.{rising-same, members-set, Listing, listing, round-size, adds-some}
+use Rattle.rules.proofs.Rising.{rising-same, members-set, Listing, listing}
+use Rattle.rules.proofs.Rounds.{round-size, adds-some}
 use Rattle.grid.specs.Limits.{mostBuses}
 use Rattle.round_list.specs.Rounds.{RoundSet, HoldsBuses, HeldRounds, HasRounds}
 

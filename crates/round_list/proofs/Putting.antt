@@ -6,7 +6,7 @@ use Rattle.busset.specs.Sets.{Lowest, Without, empty, setOf}
 use Rattle.busset.specs.Held.{SetWord}
 use Rattle.text_put.specs.Put.{Put}
 use Rattle.text_put.proofs.Left.{Left, left-none, left-more, left-all}
-use Rattle.rules.proofs.Rounds.{members-none, members-next}
+use Rattle.rules.proofs.Rising.{members-none, members-next}
 use Rattle.round_list.specs.Rounds.{HoldsBuses, eachBus}
 
 -- of the pieces of these buses, those of the word's are left to put

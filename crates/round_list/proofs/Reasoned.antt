@@ -1,4 +1,5 @@
--- Whether some reason holds for a bus: O, or one that names a bus. A later rule adds its clause to `NamedHolds` or to `none-holds`.
+-- Whether some reason holds for a bus: O, or one that names a bus. A later reason adds its clause to `none-holds`,
+-- and one that names a bus to all three.
 use mathlib.Core.Logic.{_⊎_, inl, inr}
 use Prim.Native.Nat.{ℕ, _+_, _≤_, _<_}
 use native.Mathlib.Omega.{arith}
@@ -15,7 +16,7 @@ NamedHolds g s b p = Holds g s b (NeighbourOf p) ⊎ Holds g s b (ZeroInjection 
 
 -- 0 is no bus
 pub names-none : (g : Grid) (s b : ℕ) → Proper g → Lacks (NamedHolds g s b) 1
-names-none g s b v = record { below = λ q l h. named q l h }
+names-none g s b v = record { below = named }
   where
     named : (q : ℕ) → q < 1 → NamedHolds g s b q → ⊥
     named q l (inl h) = let some = holds-names g s b v (NeighbourOf q) h .some in omega arith

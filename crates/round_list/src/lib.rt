@@ -22,7 +22,7 @@ pub struct RoundSets {
 
 // Whether some reason holds for bus b where s is observed: O, and N and Z by each bus that they may name.
 // The sites are whatever they are: no reason reads them.
-pub fn has_reason(n: usize, nbr: &Rows, zero: BusSet, units: BusSet, s: BusSet, b: usize) -> bool
+fn has_reason(n: usize, nbr: &Rows, zero: BusSet, units: BusSet, s: BusSet, b: usize) -> bool
     requires { ⌜ (n ≤ width) × Bus width b ⌝ }
     ensures { λ r. ⌜ ((sites : SetWord) → Proper (gridWith n (now (nbr .entry)) zero sites units)
         → Decides (SomeReason (gridWith n (now (nbr .entry)) zero sites units) (setOf s) b) r) ⌝ }
@@ -43,7 +43,7 @@ pub fn has_reason(n: usize, nbr: &Rows, zero: BusSet, units: BusSet, s: BusSet, 
 }
 
 // Whether the round that begins with s adds bus b.
-pub fn is_given(n: usize, nbr: &Rows, zero: BusSet, units: BusSet, s: BusSet, b: usize) -> bool
+fn is_given(n: usize, nbr: &Rows, zero: BusSet, units: BusSet, s: BusSet, b: usize) -> bool
     requires { ⌜ (n ≤ width) × Bus width b ⌝ }
     ensures { λ r. ⌜ ((sites : SetWord) → Proper (gridWith n (now (nbr .entry)) zero sites units)
         → Decides (Gives (gridWith n (now (nbr .entry)) zero sites units) (setOf s) b) r) ⌝ }
@@ -55,7 +55,7 @@ pub fn is_given(n: usize, nbr: &Rows, zero: BusSet, units: BusSet, s: BusSet, b:
 }
 
 // The buses that the round beginning with s adds: every bus is looked at against s itself.
-pub fn round(n: usize, nbr: &Rows, zero: BusSet, units: BusSet, s: BusSet) -> BusSet
+fn round(n: usize, nbr: &Rows, zero: BusSet, units: BusSet, s: BusSet) -> BusSet
     requires { ⌜ n ≤ width ⌝ }
     ensures { λ r. ⌜ ((sites : SetWord) → Proper (gridWith n (now (nbr .entry)) zero sites units)
         → RoundSet (gridWith n (now (nbr .entry)) zero sites units) (setOf s) (setOf r)) ⌝ }

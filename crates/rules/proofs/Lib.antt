@@ -8,4 +8,5 @@ pub mod Figures
 pub mod Covering
 pub mod Ordering
 pub mod Choices
+pub mod Rising
 pub mod Rounds

@@ -9,7 +9,7 @@ use borrow.Author.Tests.{not-true, not-false}
 use Rattle.basics.proofs.Tests.{refutes}
 use Rattle.busset.specs.Sets.{size, setOf, width}
 use Rattle.text_put.proofs.Putting.{put-then, put-same, put-length}
-use Rattle.rules.proofs.Rounds.{members-size}
+use Rattle.rules.proofs.Rising.{members-size}
 use Rattle.round_list.specs.Rounds.{HoldsBuses}
 use Rattle.round_list.proofs.Putting.{BusesLeft, buses-none, buses-more, buses-all}
 use Rattle.round_calls.proofs.Writing.{number-each}
