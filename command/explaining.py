@@ -2,7 +2,7 @@
 import itertools
 
 from command import records
-from command.limits import MOST_BUDGET, MOST_BUSES, MOST_BYTES, MOST_LINES
+from command.limits import DEFAULT_BUDGET, MOST_BUDGET, MOST_BUSES, MOST_BYTES, MOST_LINES
 from command.records import Mendable
 from command.refusals import REFUSALS
 from command.speaking import counted, quoted
@@ -37,12 +37,22 @@ def too_long(text, plan_line):
 
 def of_budget(number, plan_line):
     """Refusals 10 and 11, and 2 in the plan line."""
-    budget = plan_line[len(b"plan\t"):-1] or b"%d" % MOST_BUDGET
+    budget = plan_line[len(b"plan\t"):-1]
     if number == 10:
         return "the budget is above %d: it is %s" % (MOST_BUDGET, budget.decode())
     if number == 11:
-        return "no addition within the budget, %s at most, makes every bus observed" % counted(int(budget), "unit")
+        return no_addition(budget)
     return "a budget is a number of 0 to %d: %s" % (MOST_BUDGET, records.wrong_number(budget))
+
+
+def no_addition(budget):
+    """Refusal 11; if no budget was given, also what it was and how to ask for more."""
+    units = counted(int(budget or DEFAULT_BUDGET), "unit")
+    said = "no addition within the budget, %s at most, makes every bus observed" % units
+    if budget:
+        return said
+    return said + "; the budget was %d, since none was given: 'wozgrzyt plan %d' asks for up to %s" % (
+        DEFAULT_BUDGET, MOST_BUDGET, counted(MOST_BUDGET, "unit"))
 
 
 def of_line(number, case, lines, at, is_open):

@@ -4,7 +4,7 @@ from command.speaking import Misused, Stop, named, show_text
 
 USAGE = """\
 usage: wozgrzyt day [CASE]                which buses are observed, and why
-       wozgrzyt plan [BUDGET] [CASE]      where the fewest new units would do, within a budget of 0 to 8 (8 if none)
+       wozgrzyt plan [BUDGET] [CASE]      where the fewest new units would do, within a budget of 0 to 8 (3 if none)
        wozgrzyt rounds [CASE]             in which rounds the buses are observed, for the trainer
        wozgrzyt map [--svg|--dot] [CASE]  a table of all buses for the dispatchers, or a drawing of them
        wozgrzyt tidy [CASE]               a case text that is nearly right, put right
@@ -37,9 +37,9 @@ PLAN = """\
 usage: wozgrzyt plan [BUDGET] [CASE]
 
 Prints the fewest new units with which every bus is observed: 'fewest' and how many, 'pmu' and a bus for each, 'end'.
-Installed units stay. BUDGET is the most new units, 0 to 8, and 8 if none is given. New units go only to sites Y.
+Installed units stay. BUDGET is the most new units, 0 to 8, and 3 if none is given. New units go only to sites Y.
 Among the smallest additions it is the first, by comparing their rising lists number by number.
-Refusal 11 says that no addition within the budget will do.
+Refusal 11 says that no addition within the budget will do. 'wozgrzyt plan 8' asks for as many as the limit allows.
 
 On a large grid the search can take long. After two seconds a terminal shows for how long it has searched.
 """

@@ -8,6 +8,7 @@ from command.speaking import Misused
 
 SEVEN = os.path.join(TOP, "cases", "seven.case")
 BARE = os.path.join(TOP, "cases", "seven-bare.case")
+TOO_SMALL = b"refused\t11\t0\n"
 
 
 def check_stored(checks):
@@ -46,9 +47,36 @@ def check_budgets(checks):
         called = checks.call("plan", budget, SEVEN)
         checks.refuses("plan " + budget, called, b"refused\t2\t1\n", "a budget is a number of 0 to 8: ", words)
     called = checks.call("plan", "1", BARE)
-    checks.refuses("no cover", called, b"refused\t11\t0\n", "no addition within the budget, 1 unit at most")
-    called = checks.call("plan", os.path.join(TOP, "cases", "ieee57.case"))
-    checks.refuses("no cover of 8", called, b"refused\t11\t0\n", "budget, 8 units at most, makes every bus observed")
+    checks.refuses("no cover", called, TOO_SMALL, "no addition within the budget, 1 unit at most")
+    called = checks.call("plan", "8", os.path.join(TOP, "cases", "ieee57.case"))
+    checks.refuses("no cover of 8", called, TOO_SMALL, "budget, 8 units at most, makes every bus observed\n")
+
+
+def check_default(checks):
+    """`plan` alone means 3. If that is too small, what is said has the budget and how to ask for more."""
+    more = "; the budget was 3, since none was given: 'wozgrzyt plan 8' asks for up to 8 units\n"
+    for name in ("ieee30", "source000-fig4", "source000-theorem34"):
+        case = os.path.join(TOP, "cases", name + ".case")
+        called, words = checks.call("plan", case), case + ": no addition within the budget, 3 units at most"
+        checks.refuses(name, called, TOO_SMALL, words, more)
+        called, words = checks.call("plan", "3", case), "3 units at most, makes every bus observed\n"
+        checks.refuses(name + ", asked for 3", called, TOO_SMALL, words)
+    called = checks.call("plan", "-", text=stored("cases", "ieee30.case"))
+    checks.refuses("ieee30, from standard input", called, TOO_SMALL, more)
+    # any other refusal says nothing of the budget
+    called = checks.call("plan", text=b"grid\t0\n")
+    checks.that("no budget and a bad case", called.status == 1 and b"budget" not in called.err, called)
+
+
+def check_former_default(checks):
+    """What `plan` alone replied while it meant 8, `plan 8` replies: `plan` alone says the same, or refusal 11."""
+    for case in sorted(glob.glob(os.path.join(TOP, "cases", "*.case"))):
+        reply, former = case[:-len(".case")] + ".plan", case[:-len(".case")] + ".plan.8"
+        if os.path.exists(former):
+            checks.that("%s is refusal 11" % reply, stored(reply) == TOO_SMALL)
+        else:
+            called = checks.call("plan", "8", case)
+            checks.that("plan 8 %s" % case, called.out == stored(reply), called)
 
 
 # Wrong calls, and what is said of them.
@@ -80,4 +108,6 @@ def check_wrong_calls(checks):
     checks.stops("a budget of another script", checks.call("plan", "\u00b2"), "there is no file '\u00b2'")
 
 
-CHECKS = [check_stored, check_standard_input, check_budgets, check_wrong_calls]
+CHECKS = [
+    check_stored, check_standard_input, check_budgets, check_default, check_former_default, check_wrong_calls,
+]

@@ -5,7 +5,7 @@ import re
 import damaged_texts
 import texts
 from cases_support import stored
-from command import limits, programs
+from command import helping, limits, programs
 from command.explaining import explain
 from command.refusals import C_CALLS, CALLS, PROGRAMS, REFUSALS
 from reference import Refused
@@ -103,6 +103,12 @@ def check_limits(checks):
         checks.that("%s is %s" % (ours, theirs), getattr(limits, ours) == known.get(theirs))
     defined = stored("crates", "grid", "specs", "Limits.antt").decode()
     checks.that("LEAST_SEVERAL is leastSeveral", "\nleastSeveral = %d\n" % limits.LEAST_SEVERAL in defined)
+    defined = stored("crates", "plan_input", "specs", "Asking.antt").decode()
+    checks.that("DEFAULT_BUDGET is defaultBudget", "\ndefaultBudget = %d\n" % limits.DEFAULT_BUDGET in defined)
+    given = "0 to %d, and %d if none is given" % (limits.MOST_BUDGET, limits.DEFAULT_BUDGET)
+    checks.that("the help on 'plan' says both", given in helping.PLAN)
+    checks.that("the manual page says both", given in stored("docs", "wozgrzyt.1").decode())
+    checks.that("README says the default", "the budget is %d" % limits.DEFAULT_BUDGET in stored("README.md").decode())
 
 
 def check_refusal(checks):

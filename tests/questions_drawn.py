@@ -201,7 +201,7 @@ class Dice(random.Random):
         order, units = self.sample(range(1, case.n + 1), case.n), []
         while len(observed(case, units)) < case.n:
             units.append(order.pop())
-        taken = self.randint(0, min(len(units), 3))
+        taken = self.randint(0, min(len(units), 8))
         most = min(most, {0: 64, 1: 64, 2: 18, 3: 9}.get(budget, 7))
         case.site = set((units[:taken] + order + units[taken:])[:most])
         case.units = set(units[taken:])
@@ -259,12 +259,12 @@ def of_rounds(dice, asker, name):
 
 
 def of_plans(dice, asker, name):
-    """The fewest, and the planning program's reply."""
+    """The fewest, and the planning program's reply, also to `plan` alone."""
     # damage to the text may change the budget
     case, budget = dice.to_cover(12)
-    line = b"plan\n" if budget == 8 and dice.chance(50) else b"plan\t%d\n" % budget
+    line = b"plan\n" if budget >= reports.DEFAULT_BUDGET and dice.chance(30) else b"plan\t%d\n" % budget
     text = dice.text(line + write_case(case, 8192), CASE_LIMIT)
-    asker.of_text(name + "L", "plan_report", text, dice.room(dice.choice((12, 20, 30)), 16400))
+    asker.of_text(name + "L", "plan_report", text, dice.room(len(reports.plan(text)), 16400))
     case, budget = dice.to_cover(64)
     case = dice.wrong(case) if dice.chance(25) else case
     asker.of_case(name + "p", "place_fewest", case, budget if dice.chance(95) else HUGE)

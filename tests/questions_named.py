@@ -407,6 +407,13 @@ def circuit_texts(asker):
     asker.of_text("plan with circuits", "plan_report", b"plan\t2\n" + text["parallel"], 16400)
 
 
+def plan_alone(asker):
+    """Four buses with no line, which need four units: `plan` alone means 3, and the limit is 8."""
+    text = write_case(Case(4), 8192)
+    for line in (b"plan", b"plan\t3", b"plan\t4", b"plan\t8", b"plan\t9", b"plan\t"):
+        asker.of_text("%s of four apart" % line.decode().replace("\t", "."), "plan_report", line + b"\n" + text, 16400)
+
+
 def in_rounds(asker):
     """Each round is of the set as it stood when the round began, and only rounds that add a bus are listed."""
     star = Case(64).drawn(lines=[(1, b) for b in range(2, 65)], units=[1])
@@ -465,6 +472,6 @@ def ask_all(asker):
     for questions in (
         observed_sets, figures, tests, case_values, derivations, lists, long_lists, record_rooms, shuffles,
         verdicts, greedy, fewest, out_of_reach, byte_rooms, text_questions, parallel_circuits, miscounted,
-        circuit_texts, in_rounds, rooms_for_rounds, rounds_reports,
+        circuit_texts, plan_alone, in_rounds, rooms_for_rounds, rounds_reports,
     ):
         questions(asker)

@@ -15,6 +15,9 @@ from reference import Refused, derivation, observed_set
 from reference_sites import MOST_BUDGET, fewest, unconfirmed
 from reference_texts import CASE_LIMIT, lines, number, read_case
 
+# document 02, 3/13: what `plan` alone means
+DEFAULT_BUDGET = 3
+
 
 def refused(no):
     return lines([("refused",) + no.args])
@@ -48,7 +51,7 @@ def read_plan(text):
         raise Refused(1, 0)
     line, feed, rest = text.partition(b"\n")
     word, *fields = line.split(b"\t")
-    budget = number(fields[0]) if fields else MOST_BUDGET
+    budget = number(fields[0]) if fields else DEFAULT_BUDGET
     if not feed or word != b"plan" or len(fields) > 1 or budget is None:
         raise Refused(2, 1)
     return budget, read_case(rest, 2)

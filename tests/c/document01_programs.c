@@ -100,7 +100,7 @@ size_t print_rounds(const uint8_t *input, size_t length, char printed[MOST_PRINT
 /* The first line, without its line feed: `plan`, or `plan` and a budget. */
 static bool read_plan_line(const uint8_t *line, size_t length, unsigned *budget)
 {
-    *budget = MOST_BUDGET;
+    *budget = DEFAULT_BUDGET;
     if (length < 4 || memcmp(line, "plan", 4) != 0)
         return false;
     if (length == 4)

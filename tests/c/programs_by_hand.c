@@ -13,6 +13,8 @@
 #define THREE "grid\t3\nbus\t1\tI\tY\nbus\t2\tZ\tY\nbus\t3\tI\tY\nline\t1\t2\nline\t2\t3\t2\n"
 #define SEVEN_ROUNDS "round\t1\t2\t3\t4\t7\nround\t2\t1\nend\n"
 #define FOUR "grid\t4\nbus\t1\tI\tY\nbus\t2\tZ\tY\nbus\t3\tZ\tY\nbus\t4\tI\tY\nline\t1\t2\nline\t2\t3\nline\t3\t4\n"
+/* No line: each bus needs a unit of its own. */
+#define FOUR_APART "grid\t4\nbus\t1\tI\tY\nbus\t2\tI\tY\nbus\t3\tI\tY\nbus\t4\tI\tY\n"
 #define SEVEN_COVERED SEVEN "pmu\t1\npmu\t4\nend\n"
 #define SEVEN_EMPTY SEVEN "end\n"
 
@@ -68,10 +70,23 @@ static void check_plan_lines(void)
     expect_output("no plan line", PLAN, SEVEN_EMPTY, "refused\t2\t1\n");
 }
 
+/* `plan` alone means 3, and the limit is 8. */
+static void check_default(void)
+{
+    static const char all_four[] = "fewest\t4\npmu\t1\npmu\t2\npmu\t3\npmu\t4\nend\n";
+    static const char last_three[] = "fewest\t3\npmu\t2\npmu\t3\npmu\t4\nend\n";
+    expect_output("three are within the default", PLAN, "plan\n" FOUR_APART "pmu\t1\nend\n", last_three);
+    expect_output("four are not", PLAN, "plan\n" FOUR_APART "end\n", "refused\t11\t0\n");
+    expect_output("nor within 3", PLAN, "plan\t3\n" FOUR_APART "end\n", "refused\t11\t0\n");
+    expect_output("four are within 4", PLAN, "plan\t4\n" FOUR_APART "end\n", all_four);
+    expect_output("and within 8", PLAN, "plan\t8\n" FOUR_APART "end\n", all_four);
+}
+
 void check_plan_by_hand(void)
 {
     check_plan_lines();
     expect_output("plan alone", PLAN, "plan\n" SEVEN_EMPTY, "fewest\t2\npmu\t1\npmu\t4\nend\n");
+    check_default();
     expect_output("budget 2", PLAN, "plan\t2\n" SEVEN_EMPTY, "fewest\t2\npmu\t1\npmu\t4\nend\n");
     expect_output("budget 8", PLAN, "plan\t8\n" SEVEN_EMPTY, "fewest\t2\npmu\t1\npmu\t4\nend\n");
     expect_output("only the added sites", PLAN, "plan\n" SEVEN_UNIT_3, "fewest\t1\npmu\t4\nend\n");

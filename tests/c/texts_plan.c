@@ -22,7 +22,7 @@ void draw_plan_line(struct dice *dice, struct text *text, size_t *budget)
     if (percent(dice, 15)) {
         add_bad_plan_line(dice, text);
     } else if (percent(dice, 25)) {
-        *budget = MOST_BUDGET;
+        *budget = DEFAULT_BUDGET;
         add_line(text, "plan\n");
     } else {
         static const size_t above[] = {9, 10, 64, 256, 264, 999, 9999};

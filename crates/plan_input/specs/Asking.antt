@@ -17,7 +17,7 @@ use Rattle.plan_input.specs.declared.Asked.{Asked}
 
 -- the budget of `plan` alone
 abbrev pub defaultBudget : ℕ
-defaultBudget = 8
+defaultBudget = 3
 
 -- the budget in what follows the word `plan`
 unfoldable pub planFields : List (List ℕ) → Numeral

@@ -9,7 +9,7 @@ use text_field::Numeral;
 use text_field::piece_end;
 
 // The budget of `plan` alone.
-pub const DEFAULT_BUDGET: usize = 8;
+pub const DEFAULT_BUDGET: usize = 3;
 
 // What an input asks: the fewest of a case within a budget, which is 0 where the input is refused.
 pub struct Asked {

@@ -33,7 +33,7 @@ limitTable =
     ∷ (mostBudget 7, 8)
     ∷ (mostGreedyBudget, 64)
     ∷ (setLength, 8)
-    ∷ (defaultBudget, 8)
+    ∷ (defaultBudget, 3)
     ∷ []
 
 -- every row is right
