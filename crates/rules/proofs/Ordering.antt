@@ -1,9 +1,11 @@
 -- The order of additions, and that the fewest is one alone.
 use mathlib.Core.Path.{_≡_, refl, sym, ap, ap₂, _∙_}
-use mathlib.Core.Logic.{inl, inr}
+use mathlib.Core.Logic.{inl, inr, ⊎-elim}
 use mathlib.Core.List.{List, [], _∷_}
-use Prim.Native.Nat.{ℕ}
+use Prim.Native.Nat.{ℕ, _≤_, _<_}
 use native.Mathlib.Omega.{arith}
+use lib.ListN.{length}
+use Rattle.basics.proofs.Tests.{below-or}
 use Rattle.busset.specs.Sets.{empty}
 use Rattle.rules.specs.Grids.{Grid}
 use Rattle.rules.specs.Placing.{placed, Before, Earlier, FewestSites, SomeAddition}
@@ -32,3 +34,15 @@ fewest-set-unique p q =
 -- where there is a fewest, some addition within the budget covers
 pub fewest-some : {g : Grid} {budget m : ℕ} → FewestSites g budget m → SomeAddition g budget
 fewest-some f = record { list = f .list; addition = f .addition }
+
+-- a larger budget leaves the fewest as it is: an addition that only the larger one allows has more sites
+pub fewest-more : {g : Grid} {budget more m : ℕ} → budget ≤ more → FewestSites g budget m → FewestSites g more m
+fewest-more {g} {budget} {more} l f = record {
+  list = f .list;
+  set = f .set;
+  addition =
+      record { within = omega (arith, f .addition .within); rising = f .addition .rising; covers = f .addition .covers };
+  first = λ ys a. ⊎-elim (λ (k : budget < length ys). inl (omega (arith, f .addition .within)))
+      (λ (k : length ys ≤ budget). f .first ys (record { within = k; rising = a .rising; covers = a .covers }))
+      (below-or budget (length ys));
+}

@@ -22,7 +22,7 @@ use Rattle.tables.proofs.Sought.{Sought, PlanIs}
 use Rattle.tables.proofs.Sought.{noBetter, bestTest, noneTest, greedyTest, greedy-passes, none, some}
 use Rattle.tables.proofs.Sought.{soughtFrom, judge, orElse, choose, seek, firstOf, smallest, fewest-passes}
 use Rattle.grid.specs.declared.Case.{Case}
-use Rattle.grid.specs.Limits.{mostBudget}
+use Rattle.grid.specs.Limits.{largestBudget, mostBudget}
 use Rattle.grid.specs.Rows.{setAt, neighbours}
 use Rattle.grid.specs.Cases.{gridOf}
 use Rattle.tables.proofs.Drawn.{writtenRow, rowTest, linesTest, validTest, filled-passes}
@@ -30,7 +30,8 @@ use Rattle.tables.specs.Starred.{filled, shortCase, seven}
 use Rattle.tables.proofs.Rows.{_&_}
 use Rattle.tables.proofs.Computed.{known}
 use Rattle.tables.specs.Tables.{AllRight}
-use Rattle.tables.specs.Drawings.{set, drawnGrid, sevenGrid, shortValue, apart, barred, trio, hub}
+use Rattle.plan_input.specs.Asking.{defaultBudget}
+use Rattle.tables.specs.Drawings.{set, drawnGrid, sevenGrid, shortValue, apart, fourApart, barred, trio, hub}
 use Rattle.tables.specs.Placing as tables
 use Rattle.tables.proofs.Deriving.{holdsTest, acceptedTest, leastTest, pick, reasonFor, reasonAt, stepFor, passFrom, extended}
 use Rattle.tables.proofs.Deriving.{derive}
@@ -163,6 +164,8 @@ pub record Placed : Type 0 where
   pub beside14 : FewestSites (sevenGrid (1 ∷ 4 ∷ [])) 0 (set [])
   pub beside4 : FewestSites (sevenGrid (4 ∷ [])) 1 (set (1 ∷ []))
   pub barred2 : FewestSites (barred []) 1 (set (2 ∷ []))
+  pub apart3 : SomeAddition (drawnGrid fourApart) defaultBudget → ⊥
+  pub apart8 : FewestSites (drawnGrid fourApart) largestBudget (set (1 ∷ 2 ∷ 3 ∷ 4 ∷ []))
   pub greedy2 : GreedyList (sevenGrid []) 2 (3 ∷ 4 ∷ [])
   pub greedy3 : GreedyList (sevenGrid []) 3 (3 ∷ 4 ∷ [])
   pub covered : NoneAdds (sevenGrid (1 ∷ 4 ∷ []))
@@ -182,6 +185,8 @@ known-places = record {
   beside14 = found (shortCase (seven (1 ∷ 4 ∷ []))) 0 (some (set [])) refl refl;
   beside4 = found (shortCase (seven (4 ∷ []))) 1 (some (set (1 ∷ []))) refl refl;
   barred2 = found (shortValue 2 ((2 ∷ []) ∷ (1 ∷ []) ∷ []) [] (2 ∷ []) []) 1 (some (set (2 ∷ []))) refl refl;
+  apart3 = found (shortCase fourApart) defaultBudget none refl refl;
+  apart8 = found (shortCase fourApart) largestBudget (some (set (1 ∷ 2 ∷ 3 ∷ 4 ∷ []))) refl refl;
   greedy2 = adds (shortCase (seven [])) 2 (3 ∷ 4 ∷ []) refl refl;
   greedy3 = adds (shortCase (seven [])) 3 (3 ∷ 4 ∷ []) refl refl;
   covered = adds (shortCase (seven (1 ∷ 4 ∷ []))) 1 [] refl refl;
@@ -208,6 +213,8 @@ fewest-right =
     & known-places .beside4
     & known-places .barred2
     & (λ h. omega (arith, fewest-set-unique (known-places .barred2) h))
+    & known-places .apart3
+    & known-places .apart8
     & tt
 
 -- ---- greedy

@@ -80,6 +80,10 @@ ring units = record { n = 4; lines = (1, 2) ∷ (1, 3) ∷ (2, 4) ∷ (3, 4) ∷
 abbrev pub apart : List ℕ → Drawing
 apart units = record { n = 3; lines = (1, 2) ∷ []; zeros = []; units = units }
 
+-- four buses with no line: each needs a unit of its own
+abbrev pub fourApart : Drawing
+fourApart = record { n = 4; lines = []; zeros = []; units = [] }
+
 -- two buses, joined, of which 1 has site N, with these units
 abbrev pub barred : List ℕ → Grid
 barred units = gridOf (value 2 ((2 ∷ []) ∷ (1 ∷ []) ∷ []) [] (2 ∷ []) units)

@@ -1,11 +1,12 @@
 -- Placing units: additions that cover, which comes first, the fewest, and greedy.
 use mathlib.Core.List.{List, [], _∷_}
 use Prim.Native.Nat.{ℕ, _≤_}
-use Rattle.grid.specs.Limits.{mostBudget, mostGreedyBudget}
+use Rattle.grid.specs.Limits.{largestBudget, mostBudget, mostGreedyBudget}
 use Rattle.rules.specs.Placing.{Full, Covers, Free, Rising, placed, Addition, Before, Earlier, FewestSites, SomeAddition}
 use Rattle.rules.specs.Choosing.{WithSite, Best, NoneAdds, GreedyList}
+use Rattle.plan_input.specs.Asking.{defaultBudget}
 use Rattle.tables.specs.Tables.{Right, Row, holds, fails}
-use Rattle.tables.specs.Drawings.{set, drawnGrid, sevenGrid, apart, barred, trio, hub}
+use Rattle.tables.specs.Drawings.{set, drawnGrid, sevenGrid, apart, fourApart, barred, trio, hub}
 
 -- ---- additions
 
@@ -122,6 +123,9 @@ fewestSitesTable =
     -- bus 1 would come first, and has site N
     ∷ holds (FewestSites (barred []) 1 (set (2 ∷ [])))
     ∷ fails (FewestSites (barred []) 1 (set (1 ∷ [])))
+    -- four units are over the default, and within the limit
+    ∷ fails (SomeAddition (drawnGrid fourApart) defaultBudget)
+    ∷ holds (FewestSites (drawnGrid fourApart) largestBudget (set (1 ∷ 2 ∷ 3 ∷ 4 ∷ [])))
     ∷ []
 
 -- ---- greedy
