@@ -1,4 +1,4 @@
-"""The limits of documents 01 and 02 on a case text and a budget, and the default. docs/CALLS.md has them all."""
+"""The limits of documents 01 and 02 on a case text and a budget, and the default budget. docs/CALLS.md has all."""
 
 MOST_BUSES = 64
 MOST_LINES = 256

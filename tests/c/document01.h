@@ -1,6 +1,6 @@
-/* Document 01 in C, with document 02's parallel circuits and rounds, written from their words alone and for plainness.
- * The library and the programs are compared with it. Sets are arrays of truth values. Buses count from 1 and are their
- * own index. */
+/* Document 01 in C, with document 02's parallel circuits, rounds and default budget, written from their words alone and
+ * for plainness. The library and the programs are compared with it. Sets are arrays of truth values. Buses count from 1
+ * and are their own index. */
 #ifndef DOCUMENT01_H
 #define DOCUMENT01_H
 
