@@ -75,11 +75,11 @@ static void check_default(void)
 {
     static const char all_four[] = "fewest\t4\npmu\t1\npmu\t2\npmu\t3\npmu\t4\nend\n";
     static const char last_three[] = "fewest\t3\npmu\t2\npmu\t3\npmu\t4\nend\n";
-    expect_output("three are within the default", PLAN, "plan\n" FOUR_APART "pmu\t1\nend\n", last_three);
-    expect_output("four are not", PLAN, "plan\n" FOUR_APART "end\n", "refused\t11\t0\n");
-    expect_output("nor within 3", PLAN, "plan\t3\n" FOUR_APART "end\n", "refused\t11\t0\n");
-    expect_output("four are within 4", PLAN, "plan\t4\n" FOUR_APART "end\n", all_four);
-    expect_output("and within 8", PLAN, "plan\t8\n" FOUR_APART "end\n", all_four);
+    expect_output("plan alone, three needed", PLAN, "plan\n" FOUR_APART "pmu\t1\nend\n", last_three);
+    expect_output("plan alone, four needed", PLAN, "plan\n" FOUR_APART "end\n", "refused\t11\t0\n");
+    expect_output("budget 3, four needed", PLAN, "plan\t3\n" FOUR_APART "end\n", "refused\t11\t0\n");
+    expect_output("budget 4, four needed", PLAN, "plan\t4\n" FOUR_APART "end\n", all_four);
+    expect_output("budget 8, four needed", PLAN, "plan\t8\n" FOUR_APART "end\n", all_four);
 }
 
 void check_plan_by_hand(void)

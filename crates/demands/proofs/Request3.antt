@@ -1,8 +1,9 @@
 -- Request 3, over the planning program's promise: both inputs ask for one case, and the fewest within the default is the fewest within 8.
-use mathlib.Core.Path.{_≡_, refl, sym, ap, _∙_, subst}
+use mathlib.Core.Path.{_≡_, sym, ap, _∙_, subst}
 use mathlib.Core.Logic.{_⊎_, inl, inr}
 use mathlib.Core.List.{List, _++_}
 use Prim.Native.Nat.{ℕ, _≤_}
+use Prim.Native.String.{String}
 use native.Mathlib.Omega.{arith}
 use borrow.Author.Tests.{le-ltb}
 use lib.ListN.{length}
@@ -26,22 +27,22 @@ use Rattle.demands.specs.Request3.{BesidePlanAlone, Request3}
 
 -- ---- one case within two budgets
 
--- within a smaller budget: the same, or refusal 11
-smaller : (c : Case) (budget more : ℕ) (t less : List ℕ) → budget ≤ more → more ≤ mostBudget (c .n) → PlanReport c more t
-    → PlanReport c budget less → (less ≡ t) ⊎ IsRefusedText NoCover less
-smaller c budget more t less l m (found j p f i) (found k q g e) =
-    inl (e ∙ ap (planText (c .n)) (fewest-set-unique (fewest-more l g) f) ∙ sym i)
-smaller c budget more t less l m (none r p i) (found k q g e) =
-    absurd (failed-or-passed (planChecks c more) r p (m, (fewest-some (fewest-more l g), tt)))
-smaller c budget more t less l m p (none q (inl f) e) = absurd (f .0 (omega arith))
-smaller c budget more t less l m p (none q (inr (h, inl f)) e) = inr (e ∙ ap refusedText (refusal-unique (f .1) (itself NoCover)))
-smaller c budget more t less l m p (none q (inr (h, inr f)) e) = absurd (f .1)
+-- within the smaller budget the same is printed, or refusal 11
+smaller : (c : Case) (budget more : ℕ) (s t : List ℕ) → budget ≤ more → more ≤ mostBudget (c .n) → PlanReport c budget s
+    → PlanReport c more t → (s ≡ t) ⊎ IsRefusedText NoCover s
+smaller c budget more s t l m (found j p f i) (found k q g e) =
+    inl (i ∙ ap (planText (c .n)) (fewest-set-unique (fewest-more l f) g) ∙ sym e)
+smaller c budget more s t l m (found j p f i) (none r q e) =
+    absurd (failed-or-passed (planChecks c more) r q (m, (fewest-some (fewest-more l f), tt)))
+smaller c budget more s t l m (none r (inl p) i) q = absurd (p .0 (omega arith))
+smaller c budget more s t l m (none r (inr (h, inl p)) i) q = inr (i ∙ ap refusedText (refusal-unique (p .1) (itself NoCover)))
+smaller c budget more s t l m (none r (inr (h, inr p)) i) q = absurd (p .1)
 
 -- by what reading says: a refusal of the text is the same
-by-answer : (a : ReadAnswer) (c : Case) (budget more : ℕ) (t less : List ℕ) → budget ≤ more → more ≤ mostBudget (c .n) → PlanFor a c more t
-    → PlanFor a c budget less → (less ≡ t) ⊎ IsRefusedText NoCover less
-by-answer Read c budget more t less l m p e = smaller c budget more t less l m p e
-by-answer (Refused q) c budget more t less l m p e = inl (e ∙ sym p)
+by-answer : (a : ReadAnswer) (c : Case) (budget more : ℕ) (s t : List ℕ) → budget ≤ more → more ≤ mostBudget (c .n)
+    → PlanFor a c budget s → PlanFor a c more t → (s ≡ t) ⊎ IsRefusedText NoCover s
+by-answer Read c budget more s t l m p q = smaller c budget more s t l m p q
+by-answer (Refused r) c budget more s t l m p q = inl (p ∙ sym q)
 
 -- ---- the plan line
 
@@ -49,41 +50,44 @@ by-answer (Refused q) c budget more t less l m p e = inl (e ∙ sym p)
 abbrev asking : ℕ → List ℕ → Asked
 asking budget text = record { budget = budget; read = readText 2 text }
 
--- what is printed for an input that asks for this
-abbrev PrintedFor : Asked → List ℕ → Type 0
-PrintedFor a t = PlanFor (a .read .answer) (a .read .case) (a .budget) t
+-- this plan line asks for that, before every text that it leaves room for
+abbrev Asks : String → ℕ → Type 0
+Asks line budget = (text : List ℕ) → length (bytes line ++ text) ≤ mostBytes → readPlan (bytes line ++ text) ≡ asking budget text
 
-asks : (input : List ℕ) (a : Asked) → length input ≤ mostBytes → planLines (split lineFeed input .first) (split lineFeed input .rest) ≡ a
-    → readPlan input ≡ a
+-- an input within the byte limit asks for what its lines say
+reads-lines : (input : List ℕ) → length input ≤ mostBytes
+    → readPlan input ≡ planLines (split lineFeed input .first) (split lineFeed input .rest)
 unfolding readPlan
-asks input a l e = rw (le-ltb _ _ l) e
+reads-lines input l = rw (le-ltb _ _ l)
 
-module _ (text : List ℕ) where
-  alone-asks : length (bytes "plan\n" ++ text) ≤ mostBytes → readPlan (bytes "plan\n" ++ text) ≡ asking defaultBudget text
-  unfolding split same budgetOf planFields planLines readText
-  alone-asks l = asks (bytes "plan\n" ++ text) (asking defaultBudget text) l refl
+alone-asks : Asks "plan\n" defaultBudget
+unfolding split same budgetOf planFields planLines readText
+alone-asks text l = reads-lines (bytes "plan\n" ++ text) l
 
-  three-asks : length (bytes "plan\t3\n" ++ text) ≤ mostBytes → readPlan (bytes "plan\t3\n" ++ text) ≡ asking defaultBudget text
-  unfolding split same budgetOf planFields planLines readText isDigit numberFrom numeralOf
-  three-asks l = asks (bytes "plan\t3\n" ++ text) (asking defaultBudget text) l refl
+three-asks : Asks "plan\t3\n" defaultBudget
+unfolding split same budgetOf planFields planLines readText isDigit numberFrom numeralOf
+three-asks text l = reads-lines (bytes "plan\t3\n" ++ text) l
 
-  eight-asks : length (bytes "plan\t8\n" ++ text) ≤ mostBytes → readPlan (bytes "plan\t8\n" ++ text) ≡ asking largestBudget text
-  unfolding split same budgetOf planFields planLines readText isDigit numberFrom numeralOf
-  eight-asks l = asks (bytes "plan\t8\n" ++ text) (asking largestBudget text) l refl
+eight-asks : Asks "plan\t8\n" largestBudget
+unfolding split same budgetOf planFields planLines readText isDigit numberFrom numeralOf
+eight-asks text l = reads-lines (bytes "plan\t8\n" ++ text) l
 
 -- ---- what is printed
+
+-- what is printed for an input that asks for this
+abbrev PrintedFor : List ℕ → Asked → Type 0
+PrintedFor t a = PlanFor (a .read .answer) (a .read .case) (a .budget) t
 
 means : BesidePlanAlone "plan\t3\n" (λ t alone. alone ≡ t)
 means text t alone l p q =
     plan-unique (bytes "plan\n" ++ text) alone t q
-    (subst (λ (a : Asked). PrintedFor a t) (three-asks text l ∙ sym (alone-asks text (omega arith))) p)
+    (subst (PrintedFor t) (three-asks text l ∙ sym (alone-asks text (omega arith))) p)
 
 former : BesidePlanAlone "plan\t8\n" (λ t alone. (alone ≡ t) ⊎ IsRefusedText NoCover alone)
 former text t alone l p q =
     let read = readText 2 text in
-    by-answer (read .answer) (read .case) defaultBudget largestBudget t alone (omega arith) (omega arith)
-    (subst (λ (a : Asked). PrintedFor a t) (eight-asks text l) p)
-    (subst (λ (a : Asked). PrintedFor a alone) (alone-asks text (omega arith)) q)
+    by-answer (read .answer) (read .case) defaultBudget largestBudget alone t (omega arith) (omega arith)
+    (subst (PrintedFor alone) (alone-asks text (omega arith)) q) (subst (PrintedFor t) (eight-asks text l) p)
 
 pub request-3 : Request3
 request-3 = record { means = means; former = former }

@@ -11,7 +11,7 @@ use Rattle.refusals.specs.declared.Refusal.the-variants.{NoCover}
 use Rattle.report_lines.specs.Printing.{IsRefusedText}
 use Rattle.report_plan.specs.Plan.{PlanPrinted}
 
--- P holds of what is printed for a case text after this plan line, if that input is within the byte limit, and after `plan` alone
+-- for every case text, if the byte limit leaves room for this line, P holds of what is printed after it and after `plan` alone
 abbrev pub BesidePlanAlone : String → (List ℕ → List ℕ → Type 0) → Type 0
 BesidePlanAlone line P =
     (text t alone : List ℕ) → length (bytes line ++ text) ≤ mostBytes → PlanPrinted (bytes line ++ text) t
