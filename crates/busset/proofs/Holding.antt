@@ -4,7 +4,7 @@ use mathlib.Core.Bool.{Bool, true, false, cond}
 use Prim.Native.Nat.{ℕ, ◌≤◌}
 use native.Mathlib.Omega.{arith}
 use Rattle.busset.specs.Sets.{bit, In, Out, add, set_of, With}
-use Rattle.busset.specs.Held.{SetWord, word_of, IsWord, hold, holdIf}
+use Rattle.busset.specs.Held.{SetWord, word_of, IsWord, hold, hold_if}
 use Rattle.busset.proofs.Digits.{bit-low}
 use Rattle.busset.proofs.Members.{add-here, add-there, with-add}
 use Rattle.busset.proofs.Words.{set-zero, set_inj}
@@ -45,10 +45,10 @@ with-is v s b l e w = hold-is v b l w ∙ ap (λ (x : ℕ). word_of (add x b)) e
 
 -- ---- with the bus, or as it was
 
-pub if_here : (t : Bool) (w b : ℕ) → 1 ≤ b → Out (set_of w) b → bit (set_of (holdIf t w b)) b ≡ cond t 1 0
+pub if_here : (t : Bool) (w b : ℕ) → 1 ≤ b → Out (set_of w) b → bit (set_of (hold_if t w b)) b ≡ cond t 1 0
 if_here true w b l o = hold-here w b l
 if_here false w b l o = o
 
-pub if_there : (t : Bool) (w b a : ℕ) → 1 ≤ b → (a ≡ b → ⊥) → bit (set_of (holdIf t w b)) a ≡ bit (set_of w) a
+pub if_there : (t : Bool) (w b a : ℕ) → 1 ≤ b → (a ≡ b → ⊥) → bit (set_of (hold_if t w b)) a ≡ bit (set_of w) a
 if_there true w b a l ne = hold-there w b a l ne
 if_there false w b a l ne = refl

@@ -7,7 +7,7 @@ use lib.Bits.{bit_and, and_mask}
 use lib.ListN.{get_or, length}
 use lib.Pow.{pow-add, shr-shr}
 use Rattle.busset.specs.Sets.{bit, set_of}
-use Rattle.busset.specs.Bytes.{byte_of, bytes_from, setLength, set_bytes}
+use Rattle.busset.specs.Bytes.{byte_of, bytes_from, set_length, set_bytes}
 use Rattle.busset.proofs.Digits.{bit_mod}
 use Rattle.busset.proofs.Words.{set_suc}
 
@@ -38,13 +38,13 @@ bytes-at (suc k) j w zero l = ap (byte_of w) (omega arith)
 bytes-at (suc k) j w (suc i) l = bytes-at k (suc j) w i (omega arith) ∙ ap (byte_of w) (omega arith)
 
 -- the byte that stands at i
-pub byte_at : (w i : ℕ) → i < setLength → get_or (set_bytes w) i 0 ≡ byte_of w i
-byte_at w i l = bytes-at setLength 0 w i l ∙ ap (byte_of w) (omega arith)
+pub byte_at : (w i : ℕ) → i < set_length → get_or (set_bytes w) i 0 ≡ byte_of w i
+byte_at w i l = bytes-at set_length 0 w i l ∙ ap (byte_of w) (omega arith)
 
 bytes_length : (k j w : ℕ) → length (bytes_from j k w) ≡ k
 unfolding bytes_from
 bytes_length zero j w = refl
 bytes_length (suc k) j w = ap suc (bytes_length k (suc j) w)
 
-pub set-length : (w : ℕ) → length (set_bytes w) ≡ setLength
-set-length w = bytes_length setLength 0 w
+pub set-length : (w : ℕ) → length (set_bytes w) ≡ set_length
+set-length w = bytes_length set_length 0 w

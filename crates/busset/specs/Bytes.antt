@@ -8,8 +8,8 @@ unfoldable pub byte_of : SetWord → ℕ → ℕ
 byte_of w i = w / 256 ^ i % 256
 
 -- how many bytes hold a set: eight buses in each
-abbrev pub setLength : ℕ
-setLength = width / 8
+abbrev pub set_length : ℕ
+set_length = width / 8
 
 -- k bytes of the word, from byte i on
 unfoldable pub bytes_from : ℕ → ℕ → SetWord → List ℕ
@@ -18,4 +18,4 @@ bytes_from i (suc k) w = byte_of w i ∷ bytes_from (suc i) k w
 
 -- all its bytes, the lowest first
 abbrev pub set_bytes : SetWord → List ℕ
-set_bytes w = bytes_from 0 setLength w
+set_bytes w = bytes_from 0 set_length w

@@ -23,5 +23,5 @@ unfoldable pub hold : SetWord → ℕ → SetWord
 hold w b = word_of (add (set_of w) b)
 
 -- with bus b where t, and w itself otherwise
-abbrev pub holdIf : Bool → SetWord → ℕ → SetWord
-holdIf t w b = cond t (hold w b) w
+abbrev pub hold_if : Bool → SetWord → ℕ → SetWord
+hold_if t w b = cond t (hold w b) w

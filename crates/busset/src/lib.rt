@@ -1,7 +1,7 @@
 // Sets of buses, held in a word: bus 1 in the lowest bit. The only shifts and masks stand here.
 ghost use Rattle.std.specs.Prelude.{◌≡◌, ◌≤◌, ◌<◌};
 ghost use Rattle.busset.specs.Held.{empty_word};
-ghost use Rattle.busset.specs.Bytes.{byte_of, setLength};
+ghost use Rattle.busset.specs.Bytes.{byte_of, set_length};
 ghost use Rattle.basics.specs.Deciding.{Decides};
 ghost use Rattle.busset.specs.Sets.{Bus, In, Sub, Within, empty, up_to, width, set_of};
 ghost use Rattle.busset.specs.Sets.{Union, Both, Minus, With, Without, Lowest, Highest, Counted, All};
@@ -135,7 +135,7 @@ pub fn is_within(s: BusSet, n: usize) -> bool
 
 // Byte i of the word, counted from 0 at the lowest.
 pub fn byte_of(s: BusSet, i: usize) -> u8
-    requires { i < setLength }
+    requires { i < set_length }
     ensures { result ≡ byte_of s i }
 {
     ((s >> (8 * i)) & 255) as u8

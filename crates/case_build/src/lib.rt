@@ -1,8 +1,8 @@
 // The case, built up record by record.
 ghost use Rattle.std.specs.Prelude.{◌≡◌};
 ghost use Rattle.busset.specs.Sets.{Bus, width};
-ghost use Rattle.busset.specs.Held.{holdIf};
-ghost use Rattle.case_build.specs.Building.{next_rows, next_marks, noMarks, no_case};
+ghost use Rattle.busset.specs.Held.{hold_if};
+ghost use Rattle.case_build.specs.Building.{next_rows, next_marks, no_marks, no_case};
 ghost use Rattle.case_judge.specs.Judging.{Fit};
 
 use busset::BusSet;
@@ -20,7 +20,7 @@ pub struct Marks {
 
 // No class Z, site Y or unit.
 pub fn no_marks() -> Marks
-    ensures { result ≡ noMarks }
+    ensures { result ≡ no_marks }
 {
     let none = busset::none();
     Marks {
@@ -47,7 +47,7 @@ pub fn no_case() -> Case
 
 fn hold_if(t: bool, w: BusSet, b: usize) -> BusSet
     requires { Bus width b }
-    ensures { result ≡ holdIf t w b }
+    ensures { result ≡ hold_if t w b }
 {
     if t {
         return busset::with(w, b);

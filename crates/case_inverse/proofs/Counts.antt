@@ -16,7 +16,7 @@ use Rattle.busset.proofs.Sums.{sum, sum_ap, ones_sum}
 use Rattle.case_line.specs.declared.Record.{Record}
 use Rattle.rules.specs.Grids.{total, line_count}
 use Rattle.grid.specs.Cases.{Lines}
-use Rattle.case_line.specs.CaseText.{has, members, line_from, lineRecords}
+use Rattle.case_line.specs.CaseText.{has, members, line_from, line_records}
 
 -- ---- one bus more at the top
 
@@ -63,16 +63,16 @@ column nbr t a zero = 0
 column nbr t a (suc m) = bit (nbr a) t + column nbr t (a + 1) m
 
 rows_top : (nbr : ℕ → ℕ) (counts : ℕ → ℕ → ℕ) (a m : ℕ)
-    → length (lineRecords nbr counts a (suc m)) ≡ length (lineRecords nbr counts a m) + column nbr (a + m) a m
-unfolding lineRecords members column
+    → length (line_records nbr counts a (suc m)) ≡ length (line_records nbr counts a m) + column nbr (a + m) a m
+unfolding line_records members column
 rows_top nbr counts a zero = refl
 rows_top nbr counts a (suc m) =
     let e : a + 1 + m ≡ a + suc m = omega arith in
     let row : ℕ → List Record = members (line_from counts a) (nbr a) (a + 1) in
     omega (
       arith,
-      length-append (row (suc m)) (lineRecords nbr counts (a + 1) (suc m)),
-      length-append (row m) (lineRecords nbr counts (a + 1) m),
+      length-append (row (suc m)) (line_records nbr counts (a + 1) (suc m)),
+      length-append (row m) (line_records nbr counts (a + 1) m),
       members_top (line_from counts a) (nbr a) (a + 1) m,
       rows_top nbr counts (a + 1) m,
       ap (bit (nbr a)) e,
@@ -114,8 +114,8 @@ module _ (n : ℕ) (nbr : ℕ → ℕ) (lines : Lines n nbr) where
   higher m = let t = suc m in omega (arith, column_sum t m, not_self t, up_to-sum t (nbr t))
 
   -- one record for each line
-  pub line-records : (counts : ℕ → ℕ → ℕ) (m : ℕ) → length (lineRecords nbr counts 1 m) ≡ line_count m nbr
-  unfolding total lineRecords
+  pub line-records : (counts : ℕ → ℕ → ℕ) (m : ℕ) → length (line_records nbr counts 1 m) ≡ line_count m nbr
+  unfolding total line_records
   line-records counts zero = refl
   line-records counts (suc m) =
       let e : 1 + m ≡ suc m = omega arith in

@@ -17,14 +17,14 @@ use Rattle.case_judge.specs.Judging.{judged}
 use Rattle.case_read.specs.Reading.{case_so_far, Reader, next_reader, start}
 use Rattle.case_inverse.specs.Grammar.{ReadsAs}
 use Rattle.case_inverse.specs.Grammar.ReadsAs.{ends, goes}
-use Rattle.case_line.specs.CaseText.{has, members, lineRecord, line_from, lineRecords}
+use Rattle.case_line.specs.CaseText.{has, members, line_record, line_from, line_records}
 use Rattle.grid.specs.declared.Case.{Case}
 use Rattle.case_judge.specs.declared.Judgement.TheVariants.{Next}
 use Rattle.case_judge.proofs.Judged.{fit_of}
 use Rattle.grid.proofs.Joined.{joined, Pair}
 use Rattle.case_inverse.proofs.Spots.{bus_place, line_place, line-rises, row-rises, bus-line}
 use Rattle.case_inverse.proofs.Places.{Ask, AskInRange, place, record_place, answer, unchanged, pair-unit}
-use Rattle.case_inverse.proofs.Places.{LineBy, line-place, line_read, line-room}
+use Rattle.case_inverse.proofs.Places.{LineBy, line-place, line_read_lem, line-room}
 use Rattle.case_inverse.proofs.Places.LineBy.{single, multiple}
 use Rattle.case_inverse.proofs.Places.Ask.{line_at}
 use Rattle.case_inverse.proofs.Unique.{Stand, Stepped, stepped, not_end, Settled, settled}
@@ -49,7 +49,7 @@ Rising c p (End ∷ L) = ⊥
 Rising c p (Wrong ∷ L) = ⊥
 
 rising-line : (c : Case) (p a b k : ℕ) (L : List Record) → LineBeyond c p a b → Rising c (line_place a b) L
-    → Rising c p (lineRecord a b k ∷ L)
+    → Rising c p (line_record a b k ∷ L)
 rising-line c p a b k L y f = go (ltb k least_several)
   where
     go : (t : Bool) → Rising c p (cond t (Line a b) (Circuits a b k) ∷ L)
@@ -80,7 +80,7 @@ row_from c a (suc m) b L h l k f =
     (row_from c a m (b + 1) L h (omega arith) (omega arith) f))
 
 lines_from : (c : Case) (m a : ℕ) → 1 ≤ a → a + m ≤ suc most_buses → From c (line_place a 0) (lines_of c a m)
-unfolding lineRecords
+unfolding line_records
 lines_from c zero a h k p q = tt
 lines_from c (suc m) a h k p q =
     row_from c a m (a + 1) (lines_of c (a + 1) m) h (omega arith) (omega arith)
@@ -105,7 +105,7 @@ few-line : {s : Reader} {p : ℕ} {x : List ℕ} {c : Case} {r : Record} {i j k 
     → FewAfter s c r → s.place.lines + suc (length L) ≤ most_lines
 few-line {s} {p} {x} {c} {r} {i} {j} t y e d a b L g f u on =
     let n = line-room s.place y (fit_of s.place r t.at.small e) in
-    let after : (next_reader s r).place.lines ≡ s.place.lines + 1 = ap (λ (z : Reader). z.place.lines) (line_read s y) in
+    let after : (next_reader s r).place.lines ≡ s.place.lines + 1 = ap (λ (z : Reader). z.place.lines) (line_read_lem s y) in
     let at = line-place y in
     ⊎_elim
     (λ (l : line_place a b < record_place r).

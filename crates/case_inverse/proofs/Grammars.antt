@@ -7,11 +7,11 @@ use native.Mathlib.Omega.{arith}
 use Rattle.text_field.specs.Split.{line_feed, split, join}
 use Rattle.text_field.specs.Number.{most_read}
 use Rattle.text_field.proofs.Cutting.{split-cut}
-use Rattle.case_line.specs.Record.{recordOf, record_text, Formed}
+use Rattle.case_line.specs.Record.{record_of, record_text, Formed}
 use Rattle.case_line.specs.declared.Record.{Record}
 use Rattle.case_line.specs.declared.Record.TheVariants.{Grid, Bus, Line, Circuits, Pmu, End, Wrong}
 use Rattle.case_line.proofs.Texts.{read_record, text-free, spelt}
-use Rattle.case_judge.specs.Judging.{isBus, inPlace, in_range, next_or_last, judged}
+use Rattle.case_judge.specs.Judging.{is_bus, in_place, in_range, next_or_last, judged}
 use Rattle.case_read.specs.Reading.{case_so_far, Reader, next_reader, refused, case_ended, record_said, got, read_lines}
 use Rattle.case_inverse.specs.Grammar.{ReadsAs}
 use Rattle.case_inverse.specs.Grammar.ReadsAs.{ends, goes}
@@ -25,10 +25,10 @@ use Rattle.case_read.specs.declared.ReadAnswer.TheVariants.{Read, Refused}
 use Rattle.case_judge.proofs.Judged.{accepted_of, last_of, small_of, bounded, line-ends, circuits_range, not_one}
 use Rattle.case_judge.specs.declared.Place.{Place}
 
-small-number : (n k : ℕ) → n ≤ most_buses → isBus n k ≡ true → k < most_read
+small-number : (n k : ℕ) → n ≤ most_buses → is_bus n k ≡ true → k < most_read
 small-number n k h e = let b = bounded n k h e in omega (arith, b.most)
 
-formed : (s : Place) (r : Record) → s.n ≤ most_buses → inPlace s r ≡ true → in_range s r ≡ true → Formed r
+formed : (s : Place) (r : Record) → s.n ≤ most_buses → in_place s r ≡ true → in_range s r ≡ true → Formed r
 formed s (Grid n) h p e = small-number most_buses n (omega arith) e
 formed s (Bus k z o) h p e = small-number s.n k h e
 formed s (Line a b) h p e = let t = line-ends s a b e in (omega (arith, t.from.most), omega (arith, t.to.most))
@@ -77,17 +77,17 @@ closed-got d c k (b ∷ l) ms e = absurd (not_got c e)
 
 -- one line that is read
 turn : (s : Reader) (k : ℕ) (l m : List ℕ) (ms : List (List ℕ)) (c : Case) (v : Judgement) (on : CaseRead)
-    → judged s.place (recordOf l) ≡ v
+    → judged s.place (record_of l) ≡ v
     → record_said v k on (case_ended (case_so_far s) (k + 1) m ms) ≡ got c
-    → (on ≡ got c → ReadsAs (next_reader s (recordOf l)) (join line_feed m ms) c)
+    → (on ≡ got c → ReadsAs (next_reader s (record_of l)) (join line_feed m ms) c)
     → ReadsAs s (l ++ line_feed ∷ join line_feed m ms) c
 turn s k l m ms c Next on vi e ih =
     subst (λ (x : List ℕ). ReadsAs s (x ++ line_feed ∷ join line_feed m ms) c)
     (spelt l (λ w. not_one (cc (ap (judged s.place) w, refuses s.place)))).text
-    (goes (recordOf l) vi (ih e))
+    (goes (record_of l) vi (ih e))
 turn s k l m ms c Last on vi e ih =
     let g = closed-got (case_so_far s) c (k + 1) m ms e in
-    let r : recordOf l ≡ End = last_end (recordOf l) (last_of s.place (recordOf l) vi) in
+    let r : record_of l ≡ End = last_end (record_of l) (last_of s.place (record_of l) vi) in
     let t : record_text End ≡ l = ap record_text (sym r) ∙ (spelt l (λ w. not_one (cc))).text in
     subst₂ (λ (x : List ℕ) (d : Case). ReadsAs s x d) (cc (t, g.0)) g.1 (ends (ap (judged s.place) (sym r) ∙ vi))
 turn s k l m ms c Form on vi e ih = absurd (not_got c e)
@@ -99,5 +99,5 @@ pub read-reads : (ps : List (List ℕ)) (s : Reader) (k : ℕ) (l : List ℕ) (c
 unfolding read_lines join
 read-reads [] s k l c e = absurd (not_got c e)
 read-reads (m ∷ ms) s k l c e =
-    turn s k l m ms c (judged s.place (recordOf l)) (read_lines (next_reader s (recordOf l)) (k + 1) m ms) refl e
-    (read-reads ms (next_reader s (recordOf l)) (k + 1) m c)
+    turn s k l m ms c (judged s.place (record_of l)) (read_lines (next_reader s (record_of l)) (k + 1) m ms) refl e
+    (read-reads ms (next_reader s (record_of l)) (k + 1) m c)

@@ -14,13 +14,13 @@ use Rattle.case_line.specs.Record.{record_text}
 use Rattle.case_line.specs.declared.Record.{Record}
 use Rattle.case_line.specs.declared.Record.TheVariants.{Line, Circuits}
 use Rattle.case_read.proofs.Lengths.{lines_append}
-use Rattle.case_line.specs.CaseText.{has, members, lineRecord, line_from, lineRecords, lines_text}
+use Rattle.case_line.specs.CaseText.{has, members, line_record, line_from, line_records, lines_text}
 
 -- no line is longer than this: `line`, three tabs, two numbers and two digits
 abbrev short_room : ℕ
 short_room = 9 + 2 * most_digits
 
-line-short : (a b k : ℕ) → k < 100 → length (record_text (lineRecord a b k)) ≤ short_room
+line-short : (a b k : ℕ) → k < 100 → length (record_text (line_record a b k)) ≤ short_room
 unfolding record_text join
 line-short a b k l = go (ltb k least_several)
   where
@@ -58,9 +58,9 @@ members-short f s k (suc m) l = turn (has s k) (members-short f s (k + 1) m l)
     turn true q = short-more (f k) (members f s (k + 1) m) (l k) q
     turn false q = q
 
-pub lines-short : (nbr : ℕ → ℕ) (counts : ℕ → ℕ → ℕ) (a m : ℕ) → ((i j : ℕ) → counts i j < 100) → Short (lineRecords nbr counts a m)
-unfolding lineRecords
+pub lines-short : (nbr : ℕ → ℕ) (counts : ℕ → ℕ → ℕ) (a m : ℕ) → ((i j : ℕ) → counts i j < 100) → Short (line_records nbr counts a m)
+unfolding line_records
 lines-short nbr counts a zero l = short_none
 lines-short nbr counts a (suc m) l =
-    short_append (members (line_from counts a) (nbr a) (a + 1) m) (lineRecords nbr counts (a + 1) m)
+    short_append (members (line_from counts a) (nbr a) (a + 1) m) (line_records nbr counts (a + 1) m)
     (members-short (line_from counts a) (nbr a) (a + 1) m (λ b. line-short a b (counts a b) (l a b))) (lines-short nbr counts (a + 1) m l)

@@ -18,16 +18,16 @@ use Rattle.text_field.proofs.Tested.{both}
 use Rattle.case_line.specs.declared.Record.{Record}
 use Rattle.case_line.specs.declared.Record.TheVariants.{Grid, Bus, Line, Circuits, Pmu, End, Wrong}
 use Rattle.grid.specs.Limits.{most_buses, most_lines}
-use Rattle.grid.specs.Rows.{Rows, circuits, withLine}
+use Rattle.grid.specs.Rows.{Rows, circuits, with_line}
 use Rattle.grid.specs.Cases.{Sized, CircuitCount}
 use Rattle.grid.specs.declared.Case.{Case}
 use Rattle.grid.proofs.Joined.{joined, SameSeen, same-joined, same-circuits, Pair}
 use Rattle.grid.proofs.Joined.{line_here, count_here, line_there, line_rows}
-use Rattle.case_judge.specs.Judging.{isAfter, past_buses, place_after_line, Fit}
+use Rattle.case_judge.specs.Judging.{is_after, past_buses, place_after_line, Fit}
 use Rattle.case_read.specs.Reading.{Reader, case_so_far, next_reader}
 use Rattle.case_judge.specs.declared.Place.{Place}
 use Rattle.case_judge.proofs.Judged.{TestsPassed, Several, inside, line-ends, circuits_range, circuits_passed, not_one}
-use Rattle.case_inverse.proofs.Spots.{bus_place, line_place, unit_place, lastPlace, bus-rises, line-rises, row-rises, unit-rises}
+use Rattle.case_inverse.proofs.Spots.{bus_place, line_place, unit_place, last_place, bus-rises, line-rises, row-rises, unit-rises}
 use Rattle.case_inverse.proofs.Spots.{bus-line, bus-unit, line-unit, unit-last, bus-same, line_same, unit-same}
 
 -- ---- questions and places
@@ -69,8 +69,8 @@ record_place (Bus k z o) = bus_place k
 record_place (Line a b) = line_place a b
 record_place (Circuits a b k) = line_place a b
 record_place (Pmu p) = unit_place p
-record_place End = lastPlace
-record_place Wrong = lastPlace
+record_place End = last_place
+record_place Wrong = last_place
 
 -- ---- the two records of a line
 
@@ -80,16 +80,16 @@ pub data LineBy : Record → ℕ → ℕ → ℕ → Type 0 where
   multiple : {a b k : ℕ} → Several k → LineBy (Circuits a b k) a b k
 
 -- where the reader stands after it
-abbrev pub lineRead : Reader → ℕ → ℕ → ℕ → Reader
-lineRead s a b k = record { place = place_after_line s.place a b; rows = withLine s.rows a b k; marks = s.marks }
+abbrev pub line_read : Reader → ℕ → ℕ → ℕ → Reader
+line_read s a b k = record { place = place_after_line s.place a b; rows = with_line s.rows a b k; marks = s.marks }
 
 pub line-place : {r : Record} {a b k : ℕ} → LineBy r a b k → record_place r ≡ line_place a b
 line-place single = refl
 line-place (multiple v) = refl
 
-pub line_read : (s : Reader) {r : Record} {a b k : ℕ} → LineBy r a b k → next_reader s r ≡ lineRead s a b k
-line_read s single = refl
-line_read s (multiple v) = refl
+pub line_read_lem : (s : Reader) {r : Record} {a b k : ℕ} → LineBy r a b k → next_reader s r ≡ line_read s a b k
+line_read_lem s single = refl
+line_read_lem s (multiple v) = refl
 
 -- its circuits are 1 to the most
 pub line-count : {r : Record} {a b k : ℕ} → LineBy r a b k → CircuitCount k
@@ -115,7 +115,7 @@ pub pair-unit : (a b k : ℕ) → Pair a b → line_place a b < unit_place k
 pair-unit a b k y = line-unit a b k (omega arith) (omega arith)
 
 -- all places are before the end
-pub all-below : (q : Ask) → AskInRange q → place q < lastPlace
+pub all-below : (q : Ask) → AskInRange q → place q < last_place
 all-below (zero_at k) h = let m = h.most in omega (arith, bus-unit k 0 (omega arith), unit-last 0 (omega arith))
 all-below (siteAt k) h = let m = h.most in omega (arith, bus-unit k 0 (omega arith), unit-last 0 (omega arith))
 all-below (unit_at k) h = let m = h.most in unit-last k (omega arith)
@@ -177,7 +177,7 @@ line-pair s (multiple v) f = f.0.pair
 
 -- what is answered of it then
 pub line-tie : (s : Reader) (a b k : ℕ) → Sized (case_so_far s) → Pair a b → CircuitCount k
-    → answer (case_so_far (lineRead s a b k)) (line_at a b) ≡ 1 + 2 * k
+    → answer (case_so_far (line_read s a b k)) (line_at a b) ≡ 1 + 2 * k
 line-tie s a b k l y c =
     omega (arith, line_here s.rows a b k l.rows y, count_here s.rows a b k l.rows y (omega (arith, c.most)))
 
@@ -185,8 +185,8 @@ pub past-buses : (s : Place) → past_buses s ≡ true → s.n ≤ s.bus
 unfolding past_buses
 past-buses s e = let p = both (ltb 0 s.n) (leb s.n s.bus) e in leb-true s.n s.bus p.1
 
-risen : (a b c d : ℕ) → b ≤ most_buses → isAfter a b c d ≡ true → line_place a b < line_place c d
-unfolding isAfter
+risen : (a b c d : ℕ) → b ≤ most_buses → is_after a b c d ≡ true → line_place a b < line_place c d
+unfolding is_after
 risen a b c d h e = go (ltb a c) refl e
   where
     go : (t : Bool) → ltb a c ≡ t → (t || (eqb a c && ltb b d)) ≡ true → line_place a b < line_place c d
@@ -199,7 +199,7 @@ line-facts : (s : Place) (x y : ℕ) → s.n ≤ most_buses → s.b ≤ most_bus
 line-facts s x y h k a =
     let p = both (past_buses s) (eqb s.unit 0) a.place in
     let t = line-ends s x y a.range in
-    let o = both (ltb x y) (isAfter s.a s.b x y) a.order in
+    let o = both (ltb x y) (is_after s.a s.b x y) a.order in
     record {
       past = past-buses s p.0;
       none = eqb-true s.unit 0 p.1;
@@ -253,7 +253,7 @@ beyond s p Wrong t g e f = absurd f
 
 -- it changes no answer but those at its own place
 line-unchanged : (s : Reader) (a b k : ℕ) (q : Ask) → Sized (case_so_far s) → Pair a b → AskInRange q → (place q ≡ line_place a b → ⊥)
-    → answer (case_so_far (lineRead s a b k)) q ≡ answer (case_so_far s) q
+    → answer (case_so_far (line_read s a b k)) q ≡ answer (case_so_far s) q
 line-unchanged s a b k (zero_at j) l y h d = refl
 line-unchanged s a b k (siteAt j) l y h d = refl
 line-unchanged s a b k (unit_at j) l y h d = refl
@@ -296,8 +296,8 @@ stands s p r t g e f =
     stood s r t g e f new (same_size s r f t.sized)
   where
     stood_line : (s : Reader) (a b k : ℕ) → At s p → NextLine s.place a b →
-        ((q : Ask) → AskInRange q → line_place a b < place q → answer (case_so_far (lineRead s a b k)) q ≡ 0)
-        → Sized (case_so_far (lineRead s a b k)) → At (lineRead s a b k) (line_place a b)
+        ((q : Ask) → AskInRange q → line_place a b < place q → answer (case_so_far (line_read s a b k)) q ≡ 0)
+        → Sized (case_so_far (line_read s a b k)) → At (line_read s a b k) (line_place a b)
     stood_line s a b k t f new l =
         let i = f.past in
         let j = f.pair in

@@ -8,7 +8,7 @@ use native.Mathlib.Omega.{arith}
 use lib.ListN.{length, get_or}
 use lib.Seq.{ext_get_or}
 use Rattle.busset.specs.Sets.{bit, In, Out, Within, set_of, width, Bus as IsBus}
-use Rattle.busset.specs.Held.{empty_word, hold, holdIf}
+use Rattle.busset.specs.Held.{empty_word, hold, hold_if}
 use Rattle.basics.proofs.Tests.{below_or, same_or}
 use Rattle.busset.proofs.Digits.{ext}
 use Rattle.busset.proofs.Members.{bus-more, in_or, out_of}
@@ -18,8 +18,8 @@ use Rattle.case_line.specs.declared.Record.{Record}
 use Rattle.case_line.specs.declared.Record.TheVariants.{Grid, Bus, Line, Circuits, Pmu, End, Wrong}
 use Rattle.rules.specs.Grids.{Proper as ProperGrid, Line as HasLine}
 use Rattle.grid.specs.Limits.{most_buses}
-use Rattle.grid.specs.Rows.{bus_sets, rowsLength, Rows, set_at, neighbours, circuits, withLine}
-use Rattle.grid.specs.Cases.{gridOf, Lines, Sized, JoinedCounted, OthersUncounted, CountedAlike, CircuitCount}
+use Rattle.grid.specs.Rows.{bus_sets, rows_length, Rows, set_at, neighbours, circuits, with_line}
+use Rattle.grid.specs.Cases.{grid_of, Lines, Sized, JoinedCounted, OthersUncounted, CountedAlike, CircuitCount}
 use Rattle.grid.specs.declared.Case.{Case}
 use Rattle.case_judge.specs.Judging.{in_range}
 use Rattle.case_read.specs.Reading.{Reader, case_so_far, next_reader, start}
@@ -28,7 +28,7 @@ use Rattle.case_inverse.specs.Grammar.ReadsAs.{ends, goes}
 use Rattle.case_judge.proofs.Judged.{accepted_of, inside, line-ends, circuits_range}
 use Rattle.grid.proofs.Rows.{set-at}
 use Rattle.grid.proofs.Joined.{joined, same-joined, same-circuits, Pair, line_here, line_back, line_other, count_here, count_back}
-use Rattle.case_inverse.proofs.Places.{Ask, AskInRange, answer, Facts, tie, lineRead, line-count}
+use Rattle.case_inverse.proofs.Places.{Ask, AskInRange, answer, Facts, tie, line_read, line-count}
 use Rattle.case_inverse.proofs.Places.LineBy.{single, multiple}
 use Rattle.case_inverse.proofs.Places.Ask.{zero_at, siteAt, unit_at, line_at}
 use Rattle.case_inverse.proofs.Unique.{Stand, stepped}
@@ -41,7 +41,7 @@ hold-within : (n w k : ℕ) → IsBus n k → Within n (set_of w) → Within n (
 hold-within n w k b h i p =
     ⊎_elim (λ (e : i ≡ k). subst⁻¹ (IsBus n) e b) (λ (d : i ≡ k → ⊥). h i (sym (hold-there w k i b.some d) ∙ p)) (same_or i k)
 
-if_within : (t : Bool) (n w k : ℕ) → IsBus n k → Within n (set_of w) → Within n (set_of (holdIf t w k))
+if_within : (t : Bool) (n w k : ℕ) → IsBus n k → Within n (set_of w) → Within n (set_of (hold_if t w k))
 if_within true n w k b h = hold-within n w k b h
 if_within false n w k b h = h
 
@@ -69,9 +69,9 @@ pub record CountedRows (rows : Rows) : Type 0 where
   pub others : (a : ℕ) → OthersUncounted rows a
   pub alike : (a : ℕ) → CountedAlike rows a
 
-module _ (rows : Rows) (a b k : ℕ) (l : length rows ≡ rowsLength) (p : Pair a b) where
+module _ (rows : Rows) (a b k : ℕ) (l : length rows ≡ rows_length) (p : Pair a b) where
   abbrev new : Rows
-  new = withLine rows a b k
+  new = with_line rows a b k
 
   with_lines : (n : ℕ) → IsBus n a → IsBus n b → Lines n (neighbours rows) → Lines n (neighbours new)
   with_lines n from to lines =
@@ -109,11 +109,11 @@ module _ (rows : Rows) (a b k : ℕ) (l : length rows ≡ rowsLength) (p : Pair 
 
 -- the grid that has been read is proper, and its circuits are counted
 pub record ProperAt (s : Reader) : Type 0 where
-  pub proper : ProperGrid (gridOf (case_so_far s))
+  pub proper : ProperGrid (grid_of (case_so_far s))
   pub counts : CountedRows s.rows
 
 line-proper : (s : Reader) (a b k : ℕ) → Sized (case_so_far s) → Pair a b → in_range s.place (Line a b) ≡ true → CircuitCount k
-    → ProperAt s → ProperAt (lineRead s a b k)
+    → ProperAt s → ProperAt (line_read s a b k)
 line-proper s a b k l y e n c =
     let t = line-ends s.place a b e in
     record {
@@ -162,7 +162,7 @@ proper-next s Wrong l g f e c = absurd f
 
 pub record Sound (c : Case) : Type 0 where
   pub sized : Sized c
-  pub proper : ProperGrid (gridOf c)
+  pub proper : ProperGrid (grid_of c)
   pub counts : CountedRows c.nbr
 
 sound-reads : {s : Reader} {p : ℕ} {x : List ℕ} {c : Case} → Stand s p → ProperAt s → ReadsAs s x c → Sound c

@@ -68,8 +68,8 @@ abbrev pub unit_place : ℕ → ℕ
 unit_place k = spot 2 0 k
 
 -- after all of them
-abbrev pub lastPlace : ℕ
-lastPlace = spot 3 0 0
+abbrev pub last_place : ℕ
+last_place = spot 3 0 0
 
 -- ---- rising
 
@@ -96,7 +96,7 @@ bus-unit k j h = kind_rises 0 0 k 2 0 j (omega arith) (omega arith) h
 pub line-unit : (a b k : ℕ) → a < base → b < base → line_place a b < unit_place k
 line-unit a b k h i = kind_rises 1 a b 2 0 k (omega arith) h i
 
-pub unit-last : (k : ℕ) → k < base → unit_place k < lastPlace
+pub unit-last : (k : ℕ) → k < base → unit_place k < last_place
 unit-last k h = kind_rises 2 0 k 3 0 0 (omega arith) (omega arith) h
 
 -- ---- known by its numbers

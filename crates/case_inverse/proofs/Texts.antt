@@ -22,7 +22,7 @@ use Rattle.case_line.specs.Record.{record_text}
 use Rattle.case_line.specs.declared.Record.{Record}
 use Rattle.case_line.specs.declared.Record.TheVariants.{Grid, Bus, Line, Circuits, Pmu, End, Wrong}
 use Rattle.case_judge.specs.Judging.{judged, past_buses}
-use Rattle.case_read.specs.Reading.{case_so_far, Reader, next_reader, start, refused, got, read_lines, readText, readCase}
+use Rattle.case_read.specs.Reading.{case_so_far, Reader, next_reader, start, refused, got, read_lines, read_text, read_case}
 use Rattle.case_inverse.specs.Grammar.{ReadsAs}
 use Rattle.case_inverse.specs.Grammar.ReadsAs.{ends, goes}
 use Rattle.grid.specs.declared.Case.{Case}
@@ -38,8 +38,8 @@ use Rattle.case_inverse.proofs.Unique.{Stand, stepped, unique}
 -- ---- the whole text
 
 -- a text is read as c exactly when the grammar has it
-pub reads_of : (x : List ℕ) (c : Case) → readCase x ≡ got c → ReadsAs start x c
-unfolding readCase readText
+pub reads_of : (x : List ℕ) (c : Case) → read_case x ≡ got c → ReadsAs start x c
+unfolding read_case read_text
 reads_of x c e = go (ltb most_bytes (length x)) e
   where
     go : (b : Bool) → cond b (refused TextTooLong) (read_lines start 1 (split line_feed x).first (split line_feed x).rest) ≡ got c
@@ -49,8 +49,8 @@ reads_of x c e = go (ltb most_bytes (length x)) e
         subst (λ (y : List ℕ). ReadsAs start y c) (join-split line_feed x)
         (read-reads (split line_feed x).rest start 1 (split line_feed x).first c e)
 
-pub of-reads : (x : List ℕ) (c : Case) → length x ≤ most_bytes → ReadsAs start x c → readCase x ≡ got c
-unfolding readCase readText
+pub of-reads : (x : List ℕ) (c : Case) → length x ≤ most_bytes → ReadsAs start x c → read_case x ≡ got c
+unfolding read_case read_text
 of-reads x c h d = rw (le-ltb most_bytes (length x) h) (reads-read start x c 1 (omega arith) d)
 
 -- ---- the first line
@@ -131,7 +131,7 @@ begun (goes r {x = x} {c = c} e d) = first-grid r x c e d
 
 -- ---- two different texts never give the same case
 
-pub same_text : (x y : List ℕ) (c : Case) → readCase x ≡ got c → readCase y ≡ got c → x ≡ y
+pub same_text : (x y : List ℕ) (c : Case) → read_case x ≡ got c → read_case y ≡ got c → x ≡ y
 same_text x y c e f =
     let a = begun (reads_of x c e) in
     let b = begun (reads_of y c f) in

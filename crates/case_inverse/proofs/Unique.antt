@@ -21,7 +21,7 @@ use Rattle.case_judge.specs.declared.Place.{Place}
 use Rattle.case_judge.specs.declared.Judgement.TheVariants.{Next, Last}
 use Rattle.case_judge.proofs.Judged.{accepted_of, goes_of, last-place, not_one}
 use Rattle.case_inverse.proofs.Places.{Ask, AskInRange, place, record_place, answer, Facts, facts, At}
-use Rattle.case_inverse.proofs.Places.{NextLine, LineBy, line-place, line_read, line-count, line-by-same, line-pair, line-tie}
+use Rattle.case_inverse.proofs.Places.{NextLine, LineBy, line-place, line_read_lem, line-count, line-by-same, line-pair, line-tie}
 use Rattle.case_inverse.proofs.Places.LineBy.{single, multiple}
 use Rattle.case_inverse.proofs.Places.{pair-unit, beyond, unchanged, stands, more-buses, past-buses}
 use Rattle.case_inverse.proofs.Spots.{bus_place, line_same, unit-same}
@@ -91,7 +91,7 @@ not_apart {m} {n} f g =
 line-answered : {s : Reader} {p : ℕ} {r : Record} {a b k : ℕ} → Stand s p → LineBy r a b k → Stepped s p r
     → answer (case_so_far (next_reader s r)) (line_at a b) ≡ 1 + 2 * k
 line-answered {s} {p} {r} {a} {b} {k} t y u =
-    ap (λ (x : Reader). answer (case_so_far x) (line_at a b)) (line_read s y)
+    ap (λ (x : Reader). answer (case_so_far x) (line_at a b)) (line_read_lem s y)
     ∙ line-tie s a b k t.at.sized (line-pair s.place y u.fact) (line-count y)
 
 -- beside it only a line's record may stand

@@ -8,7 +8,7 @@ use native.Mathlib.Omega.{arith}
 use borrow.Author.Tests.{lt-ltb, le-ltb, le-leb, eq-eqb, eqb-true, eqb-false}
 use lib.ListN.{length}
 use Rattle.busset.specs.Sets.{bit, set_of, width, Bus as IsBus}
-use Rattle.busset.specs.Held.{holdIf}
+use Rattle.busset.specs.Held.{hold_if}
 use Rattle.basics.proofs.Tests.{below_or, same_or}
 use Rattle.busset.proofs.Holding.{hold-here, if_here}
 use Rattle.grid.specs.Limits.{most_buses, most_lines, least_several}
@@ -17,27 +17,27 @@ use Rattle.grid.specs.Cases.{Sized, JoinedCounted, OthersUncounted, CircuitCount
 use Rattle.case_judge.specs.declared.Place.{Place}
 use Rattle.case_line.specs.declared.Record.{Record}
 use Rattle.case_line.specs.declared.Record.TheVariants.{Grid, Line, Circuits, Pmu, End}
-use Rattle.case_judge.specs.Judging.{isBus, isAfter, past_buses, judged}
+use Rattle.case_judge.specs.Judging.{is_bus, is_after, past_buses, judged}
 use Rattle.case_read.specs.Reading.{case_so_far, Reader, next_reader, start}
 use Rattle.case_inverse.specs.Grammar.{ReadsAs}
 use Rattle.case_inverse.specs.Grammar.ReadsAs.{ends, goes}
-use Rattle.case_line.specs.CaseText.{has, bus_record, bus_records, members, lineRecord, line_from, lineRecords, lines_text, records}
+use Rattle.case_line.specs.CaseText.{has, bus_record, bus_records, members, line_record, line_from, line_records, lines_text, records}
 use Rattle.grid.specs.declared.Case.{Case}
 use Rattle.grid.proofs.Joined.{joined, Pair}
 use Rattle.case_judge.specs.declared.Judgement.TheVariants.{Next}
 use Rattle.case_judge.proofs.Judged.{TestsPassed, accept, accept_several}
-use Rattle.case_inverse.proofs.Spots.{next_spot, bus_place, line_place, unit_place, lastPlace, bus-rises, line-rises, row-rises}
+use Rattle.case_inverse.proofs.Spots.{next_spot, bus_place, line_place, unit_place, last_place, bus-rises, line-rises, row-rises}
 use Rattle.case_inverse.proofs.Spots.{unit-rises, bus-line, bus-unit, line-unit, unit-last, line-most, line-below}
 use Rattle.case_inverse.proofs.Spots.{bus-below, bus-past, unit-below, unit-past}
 use Rattle.case_inverse.proofs.Places.{Ask, AskInRange, place, record_place, answer, unchanged, pair-unit, all-below}
-use Rattle.case_inverse.proofs.Places.{at_bus, at_line, at_unit, LineBy, lineRead, line-tie}
+use Rattle.case_inverse.proofs.Places.{at_bus, at_line, at_unit, LineBy, line_read, line-tie}
 use Rattle.case_inverse.proofs.Places.LineBy.{single, multiple}
 use Rattle.case_inverse.proofs.Places.Ask.{zero_at, siteAt, unit_at, line_at}
 use Rattle.case_inverse.proofs.Unique.{Stand, stepped}
 use Rattle.case_inverse.proofs.Texts.{first-stand}
 
-inside : (n k : ℕ) → 1 ≤ k → k ≤ n → isBus n k ≡ true
-unfolding isBus
+inside : (n k : ℕ) → 1 ≤ k → k ≤ n → is_bus n k ≡ true
+unfolding is_bus
 inside n k h l = rw (le-leb 1 k h, le-leb k n l)
 
 past_is : (s : Place) → 0 < s.n → s.n ≤ s.bus → past_buses s ≡ true
@@ -97,7 +97,7 @@ read-on : {c : Case} {s : Reader} (r : Record) {rs : List Record} → judged s.p
 unfolding lines_text
 read-on r e t = record { case' = t.case'; reads = goes r e t.reads; size = t.size; agree = t.agree }
 
-read_end : {c : Case} {s : Reader} {p : ℕ} → Upto c s p lastPlace → s.place.n ≤ s.place.bus → Readable c s (End ∷ [])
+read_end : {c : Case} {s : Reader} {p : ℕ} → Upto c s p last_place → s.place.n ≤ s.place.bus → Readable c s (End ∷ [])
 unfolding lines_text
 read_end {c} {s} u l =
     record {
@@ -115,18 +115,18 @@ has-bit s k = go (has s k) refl
     go false e = omega (arith, eqb-false (bit s k) 1 e)
 
 -- the record of bus k
-abbrev busOf : Case → ℕ → Record
-busOf c k = bus_record (set_of c.zero) (set_of c.site) k
+abbrev bus_of : Case → ℕ → Record
+bus_of c k = bus_record (set_of c.zero) (set_of c.site) k
 
 -- the answers at a bus's place are its class and its site
 bus-answer : (c : Case) (s : Reader) (p k : ℕ) → Upto c s p (bus_place k) → IsBus width k → (q : Ask) → AskInRange q → place q ≡ bus_place k
-    → answer c q ≡ answer (case_so_far (next_reader s (busOf c k))) q
+    → answer c q ≡ answer (case_so_far (next_reader s (bus_of c k))) q
 bus-answer c s p k u b =
-    at_bus (λ (q : Ask). answer c q ≡ answer (case_so_far (next_reader s (busOf c k))) q) k b
+    at_bus (λ (q : Ask). answer c q ≡ answer (case_so_far (next_reader s (bus_of c k))) q) k b
     (marked s.marks.zero (set_of c.zero) (u.stand.at.fresh (zero_at k) b u.low))
     (marked s.marks.site (set_of c.site) (u.stand.at.fresh (siteAt k) b u.low))
   where
-    marked : (w v : ℕ) → bit (set_of w) k ≡ 0 → bit v k ≡ bit (set_of (holdIf (has v k) w k)) k
+    marked : (w v : ℕ) → bit (set_of w) k ≡ 0 → bit v k ≡ bit (set_of (hold_if (has v k) w k)) k
     marked w v e = sym (has-bit v k) ∙ sym (if_here (has v k) w k b.some e)
 
 -- no line and no unit has been read
@@ -146,7 +146,7 @@ read-buses c rs zero k s p u b l z on =
     let e : k ≡ c.n + 1 = omega arith in
     on s p (subst (λ (w : ℕ). Upto c s p (bus_place w)) e u) (omega arith) z
 read-buses c rs (suc m) k s p u b l z on =
-    let r = busOf c k in
+    let r = bus_of c k in
     let n = u.size in
     let h : 1 ≤ k = omega arith in
     let i : k ≤ s.place.n = omega arith in
@@ -206,8 +206,8 @@ read-units c rs (suc m) k s p u l z h e on =
 
 -- ---- lines
 
-above-is : (a b c d : ℕ) → d ≤ most_buses → line_place a b < line_place c d → isAfter a b c d ≡ true
-unfolding isAfter
+above-is : (a b c d : ℕ) → d ≤ most_buses → line_place a b < line_place c d → is_after a b c d ≡ true
+unfolding is_after
 above-is a b c d k l =
     let t = line-below a b c d (omega arith) l in
     ⊎_elim
@@ -227,7 +227,7 @@ line_of c = line_from (circuits c.nbr)
 abbrev count_of : Case → ℕ → ℕ → ℕ
 count_of c = circuits c.nbr
 
-line-by : (a b k : ℕ) → CircuitCount k → LineBy (lineRecord a b k) a b k
+line-by : (a b k : ℕ) → CircuitCount k → LineBy (line_record a b k) a b k
 line-by a b k n =
     ⊎_elim
     (λ (l : k < least_several). let e : k ≡ 1 = omega (arith, n.some) in
@@ -242,22 +242,22 @@ line-accepted s {a = a} {b = b} single t = accept s (Line a b) t.place t.range t
 line-accepted s {a = a} {b = b} {k = k} (multiple v) t = accept_several s a b k t v
 
 line_on : {c : Case} {s : Reader} {r : Record} {a b k : ℕ} {rs : List Record} → LineBy r a b k → judged s.place r ≡ Next
-    → Readable c (lineRead s a b k) rs → Readable c s (r ∷ rs)
+    → Readable c (line_read s a b k) rs → Readable c s (r ∷ rs)
 line_on {a = a} {b = b} single e t = read-on (Line a b) e t
 line_on {a = a} {b = b} {k = k} (multiple v) e t = read-on (Circuits a b k) e t
 
 line-upto : {c : Case} {s : Reader} {p : ℕ} {r : Record} {a b k : ℕ} → LineBy r a b k → Upto c s p (line_place a b)
     → judged s.place r ≡ Next
-    → ((q : Ask) → AskInRange q → place q ≡ line_place a b → answer c q ≡ answer (case_so_far (lineRead s a b k)) q)
-    → Upto c (lineRead s a b k) (line_place a b) (line_place a (b + 1))
+    → ((q : Ask) → AskInRange q → place q ≡ line_place a b → answer c q ≡ answer (case_so_far (line_read s a b k)) q)
+    → Upto c (line_read s a b k) (line_place a b) (line_place a (b + 1))
 line-upto {a = a} {b = b} single u e h = take_next (Line a b) (line_place a (b + 1)) (next_spot _ _ _) u e refl h
 line-upto {a = a} {b = b} {k = k} (multiple v) u e h = take_next (Circuits a b k) (line_place a (b + 1)) (next_spot _ _ _) u e refl h
 
 line-answer : (c : Case) (s : Reader) (a b : ℕ) → Sized (case_so_far s) → Pair a b → joined c.nbr a b ≡ 1
     → CircuitCount (count_of c a b)
-    → (q : Ask) → AskInRange q → place q ≡ line_place a b → answer c q ≡ answer (case_so_far (lineRead s a b (count_of c a b))) q
+    → (q : Ask) → AskInRange q → place q ≡ line_place a b → answer c q ≡ answer (case_so_far (line_read s a b (count_of c a b))) q
 line-answer c s a b l y t n =
-    at_line (λ (q : Ask). answer c q ≡ answer (case_so_far (lineRead s a b (count_of c a b))) q) a b y
+    at_line (λ (q : Ask). answer c q ≡ answer (case_so_far (line_read s a b (count_of c a b))) q) a b y
     (omega (arith, t, line-tie s a b (count_of c a b) l y n))
 
 line-none : (c : Case) (a b : ℕ) → CountsLines c → Pair a b → has (neighbours c.nbr a) b ≡ false → (q : Ask) → AskInRange q
@@ -297,7 +297,7 @@ line-turn c ls rs a b s p true v t y l g on =
       range = rw (inside s.place.n a yo i, inside s.place.n b hb j, lt-ltb s.place.lines most_lines (omega (arith, g.room)));
       order = rw (lt-ltb a b yl, above-is s.place.a s.place.b a b y.high g.below);
     }) in
-    line_on by e (on (lineRead s a b (count_of c a b)) (line_place a b)
+    line_on by e (on (line_read s a b (count_of c a b)) (line_place a b)
     (record {
       upto = line-upto by u e (line-answer c s a b u.stand.at.sized y is k);
       past = g.past;
@@ -352,7 +352,7 @@ Above n (line_at i j) = n < j
 
 -- the lines of c at the m buses from a on
 abbrev pub lines_of : Case → ℕ → ℕ → List Record
-lines_of c a m = lineRecords (neighbours c.nbr) (circuits c.nbr) a m
+lines_of c a m = line_records (neighbours c.nbr) (circuits c.nbr) a m
 
 -- 1 to the most buses, at most the most lines, counted as they must be, and nothing at a bus above n
 pub record Writable (c : Case) : Type 0 where
@@ -385,7 +385,7 @@ pub read-lines : (c : Case) (rs : List Record) → Writable c → (m a : ℕ) (s
     → Lining c s p a (a + 1) (length (lines_of c a m))
     → ((v : Reader) (o : ℕ) → Lining c v o (c.n + 1) (c.n + 1 + 1) 0 → Readable c v rs)
     → Readable c s (lines_of c a m ++ rs)
-unfolding lineRecords
+unfolding line_records
 read-lines c rs w zero a s p h e g on =
     let f : a ≡ c.n + 1 = omega arith in
     on s p (subst (λ (x : ℕ). Lining c s p x (x + 1) 0) f g)
@@ -424,7 +424,7 @@ line-gap c w (line_at i j) h x y =
     let l = h.less in
     w.above (line_at i j) h (omega (arith, (line-most (c.n + 1) (c.n + 1 + 1) i j (omega (arith, h.high)) x).0))
 
-unit-gap : (c : Case) → Writable c → (q : Ask) → AskInRange q → unit_place (c.n + 1) ≤ place q → place q < lastPlace → answer c q ≡ 0
+unit-gap : (c : Case) → Writable c → (q : Ask) → AskInRange q → unit_place (c.n + 1) ≤ place q → place q < last_place → answer c q ≡ 0
 unit-gap c w (zero_at k) h x y = absurd (omega (arith, bus-unit k (c.n + 1) (omega (arith, h.most))))
 unit-gap c w (siteAt k) h x y = absurd (omega (arith, bus-unit k (c.n + 1) (omega (arith, h.most))))
 unit-gap c w (unit_at k) h x y = w.above (unit_at k) h (unit-past c.n k (omega (arith, h.most)) x)
@@ -460,4 +460,4 @@ readable c w =
     let last = unit-last (c.n + 1) (omega arith) in
     read-units c _ c.n 1 t o (skip (unit_place 1) (omega arith) g.upto (line-gap c w)) g.past (omega (arith, g.none))
     (omega arith) (omega arith)
-    (λ v r x l. read_end (skip lastPlace (omega arith) x (unit-gap c w)) l))))
+    (λ v r x l. read_end (skip last_place (omega arith) x (unit-gap c w)) l))))

@@ -13,7 +13,7 @@ use Rattle.text_field.proofs.Tested.{both}
 use Rattle.case_line.specs.declared.Record.{Record}
 use Rattle.case_line.specs.declared.Record.TheVariants.{Grid, Bus, Line, Circuits, Pmu, End, Wrong}
 use Rattle.grid.specs.Limits.{most_buses, most_lines, most_circuits, least_several}
-use Rattle.case_judge.specs.Judging.{isBus, isSeveral, inPlace, in_range, inOrder, next_or_last, judged, nextPlace, Fit}
+use Rattle.case_judge.specs.Judging.{is_bus, is_several, in_place, in_range, in_order, next_or_last, judged, next_place, Fit}
 use Rattle.case_judge.specs.declared.Place.{Place}
 use Rattle.case_judge.specs.declared.Judgement.{Judgement}
 use Rattle.case_judge.specs.declared.Judgement.TheVariants.{Next, Last, Form, Range, Order}
@@ -33,9 +33,9 @@ next-some k last n = go (eqb (k - 1) last) refl
 -- ---- three tests passed
 
 pub record TestsPassed (s : Place) (r : Record) : Type 0 where
-  pub place : inPlace s r ≡ true
+  pub place : in_place s r ≡ true
   pub range : in_range s r ≡ true
-  pub order : inOrder s r ≡ true
+  pub order : in_order s r ≡ true
 
 -- a judgement that is none of the refusals comes of three tests passed
 passed : (p q o : Bool) {v w : Judgement} → cond p (cond q (cond o v Order) Range) Form ≡ w →
@@ -52,43 +52,43 @@ module _ (s : Place) (r : Record) where
   pub last_of : judged s r ≡ Last → next_or_last r ≡ Last
   unfolding judged
   last_of e =
-      (passed (inPlace s r) (in_range s r) (inOrder s r) {v = next_or_last r} e (λ z. not_one (cc)) (λ z. not_one (cc)) (λ z. not_one (cc))).3
+      (passed (in_place s r) (in_range s r) (in_order s r) {v = next_or_last r} e (λ z. not_one (cc)) (λ z. not_one (cc)) (λ z. not_one (cc))).3
 
-  pub last-place : judged s r ≡ Last → inPlace s r ≡ true
+  pub last-place : judged s r ≡ Last → in_place s r ≡ true
   unfolding judged
   last-place e =
-      (passed (inPlace s r) (in_range s r) (inOrder s r) {v = next_or_last r} e (λ z. not_one (cc)) (λ z. not_one (cc)) (λ z. not_one (cc))).0
+      (passed (in_place s r) (in_range s r) (in_order s r) {v = next_or_last r} e (λ z. not_one (cc)) (λ z. not_one (cc)) (λ z. not_one (cc))).0
 
   pub goes_of : judged s r ≡ Next → next_or_last r ≡ Next
   unfolding judged
   goes_of e =
-      (passed (inPlace s r) (in_range s r) (inOrder s r) {v = next_or_last r} e (λ z. not_one (cc)) (λ z. not_one (cc)) (λ z. not_one (cc))).3
+      (passed (in_place s r) (in_range s r) (in_order s r) {v = next_or_last r} e (λ z. not_one (cc)) (λ z. not_one (cc)) (λ z. not_one (cc))).3
 
   pub accepted_of : judged s r ≡ Next → TestsPassed s r
   unfolding judged
   accepted_of e =
       let p =
-      passed (inPlace s r) (in_range s r) (inOrder s r) {v = next_or_last r} e (λ z. not_one (cc)) (λ z. not_one (cc))
+      passed (in_place s r) (in_range s r) (in_order s r) {v = next_or_last r} e (λ z. not_one (cc)) (λ z. not_one (cc))
       (λ z. not_one (cc)) in
       record { place = p.0; range = p.1; order = p.2 }
 
-  pub accept : inPlace s r ≡ true → in_range s r ≡ true → inOrder s r ≡ true → judged s r ≡ next_or_last r
+  pub accept : in_place s r ≡ true → in_range s r ≡ true → in_order s r ≡ true → judged s r ≡ next_or_last r
   unfolding judged
   accept p q o = rw (p, q, o)
 
 -- ---- the numbers of an accepted record
 
-pub inside : (n k : ℕ) → isBus n k ≡ true → IsBus n k
-unfolding isBus
+pub inside : (n k : ℕ) → is_bus n k ≡ true → IsBus n k
+unfolding is_bus
 inside n k e = let p = both (leb 1 k) (leb k n) e in record { some = leb-true 1 k p.0; most = leb-true k n p.1 }
 
--- what decides whether k is a bus number is the test isBus
-pub is-bus-by : {n k : ℕ} {r : Bool} → Decides (IsBus n k) r → r ≡ isBus n k
-unfolding isBus
+-- what decides whether k is a bus number is the test is_bus
+pub is-bus-by : {n k : ℕ} {r : Bool} → Decides (IsBus n k) r → r ≡ is_bus n k
+unfolding is_bus
 is-bus-by {n} {k} d =
     decides-same d (record { yes = inside n k; no = λ b. rw (le-leb 1 k b.some, le-leb k n b.most) })
 
-pub bounded : (n k : ℕ) → n ≤ most_buses → isBus n k ≡ true → IsBus width k
+pub bounded : (n k : ℕ) → n ≤ most_buses → is_bus n k ≡ true → IsBus width k
 bounded n k h e = bus-more (inside n k e) h
 
 -- the two buses of a line, and room for it
@@ -99,8 +99,8 @@ pub record Ends (s : Place) (a b : ℕ) : Type 0 where
 
 pub line-ends : (s : Place) (a b : ℕ) → in_range s (Line a b) ≡ true → Ends s a b
 line-ends s a b e =
-    let u = both (isBus s.n a && isBus s.n b) (ltb s.lines most_lines) e in
-    let v = both (isBus s.n a) (isBus s.n b) u.0 in
+    let u = both (is_bus s.n a && is_bus s.n b) (ltb s.lines most_lines) e in
+    let v = both (is_bus s.n a) (is_bus s.n b) u.0 in
     record { from = inside s.n a v.0; to = inside s.n b v.1; room = ltb-true s.lines most_lines u.1 }
 
 -- circuits that a text says
@@ -108,20 +108,20 @@ pub record Several (k : ℕ) : Type 0 where
   pub least : least_several ≤ k
   pub most : k ≤ most_circuits
 
-pub several-of : (k : ℕ) → isSeveral k ≡ true → Several k
-unfolding isSeveral
+pub several-of : (k : ℕ) → is_several k ≡ true → Several k
+unfolding is_several
 several-of k e =
     let p = both (leb least_several k) (leb k most_circuits) e in
     record { least = leb-true least_several k p.0; most = leb-true k most_circuits p.1 }
 
-pub is-several : {k : ℕ} → Several k → isSeveral k ≡ true
-unfolding isSeveral
+pub is-several : {k : ℕ} → Several k → is_several k ≡ true
+unfolding is_several
 is-several {k} v = rw (le-leb least_several k v.least, le-leb k most_circuits v.most)
 
 -- a line that says its circuits is accepted exactly if it passes the tests without them and they are several
 module _ (s : Place) (a b k : ℕ) where
   pub circuits_range : in_range s (Circuits a b k) ≡ true → (in_range s (Line a b) ≡ true) × Several k
-  circuits_range e = let p = both (in_range s (Line a b)) (isSeveral k) e in (p.0, several-of k p.1)
+  circuits_range e = let p = both (in_range s (Line a b)) (is_several k) e in (p.0, several-of k p.1)
 
   pub circuits_passed : TestsPassed s (Circuits a b k) → TestsPassed s (Line a b)
   circuits_passed t = record { place = t.place; range = (circuits_range t.range).0; order = t.order }
@@ -161,7 +161,7 @@ module _ (s : Place) {r : Record} where
   pub circuits_fit : {a b k : ℕ} → r ≡ Circuits a b k → Fit s r → Fit s (Line a b) × (k ≤ most_circuits)
   circuits_fit e f = rw e at f
 
-small : (s : Place) (r : Record) → s.n ≤ most_buses → in_range s r ≡ true → (nextPlace s r).n ≤ most_buses
+small : (s : Place) (r : Record) → s.n ≤ most_buses → in_range s r ≡ true → (next_place s r).n ≤ most_buses
 small s (Grid n) h e = (inside most_buses n e).most
 small s (Bus k z o) h e = h
 small s (Line a b) h e = h
@@ -170,5 +170,5 @@ small s (Pmu p) h e = h
 small s End h e = h
 small s Wrong h e = h
 
-pub small_of : (s : Place) (r : Record) → s.n ≤ most_buses → judged s r ≡ Next → (nextPlace s r).n ≤ most_buses
+pub small_of : (s : Place) (r : Record) → s.n ≤ most_buses → judged s r ≡ Next → (next_place s r).n ≤ most_buses
 small_of s r h e = small s r h (accepted_of s r e).range

@@ -9,16 +9,16 @@ use Rattle.case_judge.specs.declared.Judgement.{Judgement}
 use Rattle.case_judge.specs.declared.Judgement.TheVariants.{Next, Last, Form, Range, Order}
 
 -- k is a number from 1 to n
-unfoldable pub isBus : ℕ → ℕ → Bool
-isBus n k = leb 1 k && leb k n
+unfoldable pub is_bus : ℕ → ℕ → Bool
+is_bus n k = leb 1 k && leb k n
 
 -- circuits that a text says are from 2 to the most
-unfoldable pub isSeveral : ℕ → Bool
-isSeveral k = leb least_several k && leb k most_circuits
+unfoldable pub is_several : ℕ → Bool
+is_several k = leb least_several k && leb k most_circuits
 
 -- line c d stands after line a b
-unfoldable pub isAfter : ℕ → ℕ → ℕ → ℕ → Bool
-isAfter a b c d = ltb a c || (eqb a c && ltb b d)
+unfoldable pub is_after : ℕ → ℕ → ℕ → ℕ → Bool
+is_after a b c d = ltb a c || (eqb a c && ltb b d)
 
 -- `grid` has been read, and every `bus`
 unfoldable pub past_buses : Place → Bool
@@ -32,11 +32,11 @@ line_in_place s = past_buses s && eqb s.unit 0
 
 -- its ends are buses, and it is no 257th
 abbrev pub line_in_range : Place → ℕ → ℕ → Bool
-line_in_range s a b = isBus s.n a && isBus s.n b && ltb s.lines most_lines
+line_in_range s a b = is_bus s.n a && is_bus s.n b && ltb s.lines most_lines
 
 -- a is below b, and it stands after the last
 abbrev pub line_in_order : Place → ℕ → ℕ → Bool
-line_in_order s a b = ltb a b && isAfter s.a s.b a b
+line_in_order s a b = ltb a b && is_after s.a s.b a b
 
 -- where the reader stands after it: one line more, however many circuits
 abbrev pub place_after_line : Place → ℕ → ℕ → Place
@@ -49,34 +49,34 @@ LineFits s a b = IsBus width a × IsBus width b × (s.lines < most_lines)
 -- ---- what holds of each record
 
 -- a record of this kind may stand here; if not, refusal 2
-abbrev pub inPlace : Place → Record → Bool
-inPlace s (Grid n) = eqb s.n 0
-inPlace s (Bus k zero site) = ltb s.bus s.n
-inPlace s (Line a b) = line_in_place s
-inPlace s (Circuits a b k) = line_in_place s
-inPlace s (Pmu p) = past_buses s
-inPlace s End = past_buses s
-inPlace s Wrong = false
+abbrev pub in_place : Place → Record → Bool
+in_place s (Grid n) = eqb s.n 0
+in_place s (Bus k zero site) = ltb s.bus s.n
+in_place s (Line a b) = line_in_place s
+in_place s (Circuits a b k) = line_in_place s
+in_place s (Pmu p) = past_buses s
+in_place s End = past_buses s
+in_place s Wrong = false
 
 -- its numbers are in range, and it is no 257th `line`; if not, refusal 3
 abbrev pub in_range : Place → Record → Bool
-in_range s (Grid n) = isBus most_buses n
-in_range s (Bus k zero site) = isBus s.n k
+in_range s (Grid n) = is_bus most_buses n
+in_range s (Bus k zero site) = is_bus s.n k
 in_range s (Line a b) = line_in_range s a b
-in_range s (Circuits a b k) = line_in_range s a b && isSeveral k
-in_range s (Pmu p) = isBus s.n p
+in_range s (Circuits a b k) = line_in_range s a b && is_several k
+in_range s (Pmu p) = is_bus s.n p
 in_range s End = true
 in_range s Wrong = true
 
 -- the bus is the next, a is below b, and `line` and `pmu` rise; if not, refusal 4
-abbrev pub inOrder : Place → Record → Bool
-inOrder s (Grid n) = true
-inOrder s (Bus k zero site) = eqb k (s.bus + 1)
-inOrder s (Line a b) = line_in_order s a b
-inOrder s (Circuits a b k) = line_in_order s a b
-inOrder s (Pmu p) = ltb s.unit p
-inOrder s End = true
-inOrder s Wrong = true
+abbrev pub in_order : Place → Record → Bool
+in_order s (Grid n) = true
+in_order s (Bus k zero site) = eqb k (s.bus + 1)
+in_order s (Line a b) = line_in_order s a b
+in_order s (Circuits a b k) = line_in_order s a b
+in_order s (Pmu p) = ltb s.unit p
+in_order s End = true
+in_order s Wrong = true
 
 -- an accepted record is the next, or the last
 abbrev pub next_or_last : Record → Judgement
@@ -91,21 +91,21 @@ next_or_last Wrong = Next
 -- 2 before 3 before 4
 unfoldable pub judged : Place → Record → Judgement
 judged s r =
-    cond (inPlace s r)
+    cond (in_place s r)
     (cond (in_range s r)
-    (cond (inOrder s r) (next_or_last r) Order)
+    (cond (in_order s r) (next_or_last r) Order)
     Range)
     Form
 
 -- where the reader stands after a record
-abbrev pub nextPlace : Place → Record → Place
-nextPlace s (Grid n) = record { n = n; bus = 0; a = 0; b = 0; lines = 0; unit = 0 }
-nextPlace s (Bus k zero site) = record { n = s.n; bus = k; a = s.a; b = s.b; lines = s.lines; unit = s.unit }
-nextPlace s (Line a b) = place_after_line s a b
-nextPlace s (Circuits a b k) = place_after_line s a b
-nextPlace s (Pmu p) = record { n = s.n; bus = s.bus; a = s.a; b = s.b; lines = s.lines; unit = p }
-nextPlace s End = s
-nextPlace s Wrong = s
+abbrev pub next_place : Place → Record → Place
+next_place s (Grid n) = record { n = n; bus = 0; a = 0; b = 0; lines = 0; unit = 0 }
+next_place s (Bus k zero site) = record { n = s.n; bus = k; a = s.a; b = s.b; lines = s.lines; unit = s.unit }
+next_place s (Line a b) = place_after_line s a b
+next_place s (Circuits a b k) = place_after_line s a b
+next_place s (Pmu p) = record { n = s.n; bus = s.bus; a = s.a; b = s.b; lines = s.lines; unit = p }
+next_place s End = s
+next_place s Wrong = s
 
 -- what the judgement `Next` gives: a record's numbers are buses, one line more is not too many, nor are its circuits
 abbrev pub Fit : Place → Record → Type 0

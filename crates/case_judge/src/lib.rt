@@ -1,9 +1,9 @@
 // What a record is where the reader stands.
 ghost use Rattle.std.specs.Prelude.{◌≡◌, ◌&&◌, ◌+◌, ◌<◌, eqb, ltb};
 ghost use Rattle.grid.specs.Limits.{most_lines};
-ghost use Rattle.case_judge.specs.Judging.{isSeveral, isAfter, past_buses, inPlace, in_range, inOrder};
+ghost use Rattle.case_judge.specs.Judging.{is_several, is_after, past_buses, in_place, in_range, in_order};
 ghost use Rattle.case_judge.specs.Judging.{line_in_place, line_in_range, line_in_order, place_after_line};
-ghost use Rattle.case_judge.specs.Judging.{next_or_last, judged, nextPlace, Fit};
+ghost use Rattle.case_judge.specs.Judging.{next_or_last, judged, next_place, Fit};
 
 use busset::is_bus;
 use case_line::Record;
@@ -32,7 +32,7 @@ pub enum Judgement {
 
 // Whether line c d stands after line a b.
 fn is_after(a: usize, b: usize, c: usize, d: usize) -> bool
-    ensures { result ≡ isAfter a b c d }
+    ensures { result ≡ is_after a b c d }
 {
     if a < c {
         return true;
@@ -76,7 +76,7 @@ fn is_past_buses(s: Place) -> bool
 
 // Whether a text may say k circuits: more than one, and not too many.
 fn is_several(k: usize) -> bool
-    ensures { result ≡ isSeveral k }
+    ensures { result ≡ is_several k }
 {
     LEAST_SEVERAL <= k && k <= MOST_CIRCUITS
 }
@@ -105,7 +105,7 @@ fn is_line_order(s: Place, a: usize, b: usize) -> bool
 
 // Whether a record of this kind may stand here.
 fn in_place(s: Place, r: Record) -> bool
-    ensures { result ≡ inPlace s r }
+    ensures { result ≡ in_place s r }
 {
     match r {
         Record::Grid(_) => s.n == 0,
@@ -141,7 +141,7 @@ fn in_range(s: Place, r: Record) -> bool
 }
 
 fn in_order(s: Place, r: Record) -> bool
-    ensures { result ≡ inOrder s r }
+    ensures { result ≡ in_order s r }
 {
     match r {
         Record::Grid(_) => true,
@@ -209,7 +209,7 @@ fn after_line(s: Place, a: usize, b: usize) -> Place
 // Where the reader stands after a record.
 pub fn next_place(s: Place, r: Record) -> Place
     requires { Fit s r }
-    ensures { result ≡ nextPlace s r }
+    ensures { result ≡ next_place s r }
 {
     match r {
         Record::Grid(n) => Place {

@@ -11,8 +11,8 @@ use Rattle.text_field.specs.Number.{numeral_of}
 use Rattle.text_field.specs.declared.Numeral.{Numeral}
 use Rattle.text_field.specs.declared.Numeral.TheVariants.{Is, Wrong as NoNumber}
 use Rattle.text_field.proofs.Cutting.{after_none, after-some, after_next}
-use Rattle.case_line.specs.Fields.{mark_of, class_of, if_one_field, if_no_field, oneNumber, oneSite}
-use Rattle.case_line.specs.Record.{line_record_of, circuits_record_of, bus_record_of, lineFields, busFields}
+use Rattle.case_line.specs.Fields.{mark_of, class_of, if_one_field, if_no_field, one_number, one_site}
+use Rattle.case_line.specs.Record.{line_record_of, circuits_record_of, bus_record_of, line_fields, bus_fields}
 use Rattle.case_line.specs.declared.Record.{Record}
 use Rattle.case_line.specs.declared.Record.TheVariants.{Wrong}
 use Rattle.case_line.specs.declared.Mark.{Mark}
@@ -86,9 +86,9 @@ module _ {A : Type 0} (w v : A) where
 
 pub bus-is : {s : List ℕ} {a e d : ℕ} {n : Numeral} {x y : Mark} {r : Record} → a < length s → PieceEnd 9 s (a + 1) e → e < length s
     → PieceEnd 9 s (e + 1) d
-    → n ≡ numeral_of (part s (a + 1) e) → x ≡ class_of (part s (e + 1) d) → y ≡ oneSite (after 9 s d) → r ≡ bus_record_of n x y
-    → r ≡ busFields (after 9 s a)
-unfolding busFields
+    → n ≡ numeral_of (part s (a + 1) e) → x ≡ class_of (part s (e + 1) d) → y ≡ one_site (after 9 s d) → r ≡ bus_record_of n x y
+    → r ≡ bus_fields (after 9 s a)
+unfolding bus_fields
 bus-is h p l q i j k m = rw (after_next h p, after_next l q, ← i, ← j, ← k) m
 
 -- ---- the fields of `line`
@@ -96,8 +96,8 @@ bus-is h p l q i j k m = rw (after_next h p, after_next l q, ← i, ← j, ← k
 pub line-two : {s : List ℕ} {a e d : ℕ} {x y : Numeral} {r : Record} → a < length s → PieceEnd 9 s (a + 1) e → e < length s
     → PieceEnd 9 s (e + 1) d → length s ≤ d
     → x ≡ numeral_of (part s (a + 1) e) → y ≡ numeral_of (part s (e + 1) d) → r ≡ line_record_of x y
-    → r ≡ lineFields (after 9 s a)
-unfolding lineFields
+    → r ≡ line_fields (after 9 s a)
+unfolding line_fields
 line-two {s} {d = d} h p l q m i j k = rw (after_next h p, after_next l q, after_none 9 s d m, ← i, ← j) k
 
 circuits_neither : (x y : Numeral) → circuits_record_of x y NoNumber ≡ Wrong
@@ -107,14 +107,14 @@ circuits_neither NoNumber y = refl
 
 -- a third field makes the record of its number; with a fourth there is no such number
 line-some : (f g h : List ℕ) (fs : List (List ℕ))
-    → circuits_record_of (numeral_of f) (numeral_of g) (oneNumber (h ∷ fs)) ≡ lineFields (f ∷ g ∷ h ∷ fs)
-unfolding lineFields if_one_field
+    → circuits_record_of (numeral_of f) (numeral_of g) (one_number (h ∷ fs)) ≡ line_fields (f ∷ g ∷ h ∷ fs)
+unfolding line_fields if_one_field
 line-some f g h [] = refl
 line-some f g h (i ∷ fs) = circuits_neither (numeral_of f) (numeral_of g)
 
 pub line_three : {s : List ℕ} {a e d : ℕ} {x y z : Numeral} {r : Record} → a < length s → PieceEnd 9 s (a + 1) e → e < length s
     → PieceEnd 9 s (e + 1) d → d < length s
-    → x ≡ numeral_of (part s (a + 1) e) → y ≡ numeral_of (part s (e + 1) d) → z ≡ oneNumber (after 9 s d) → r ≡ circuits_record_of x y z
-    → r ≡ lineFields (after 9 s a)
+    → x ≡ numeral_of (part s (a + 1) e) → y ≡ numeral_of (part s (e + 1) d) → z ≡ one_number (after 9 s d) → r ≡ circuits_record_of x y z
+    → r ≡ line_fields (after 9 s a)
 line_three {s} {d = d} h p l q m i j k n =
     rw (after_next h p, after_next l q, after-some 9 s d m, ← line-some, ← after-some 9 s d m, ← i, ← j, ← k) n

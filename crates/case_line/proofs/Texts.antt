@@ -15,8 +15,8 @@ use Rattle.text_field.proofs.Cutting.{FreeOf, AllFree, same-is, split-join, join
 use Rattle.text_field.proofs.Digits.{read_number, written-number, number-free}
 use Rattle.case_line.specs.Fields.{mark_of, class_of, site_of, if_one_field, if_no_field}
 use Rattle.case_line.specs.Record.{record_word_of, grid_record_of, pmu_record_of, line_record_of, circuits_record_of, bus_record_of}
-use Rattle.case_line.specs.Record.{lineFields, busFields, by_word}
-use Rattle.case_line.specs.Record.{recordOf, letter_if, word_text, field_texts, record_text, Formed}
+use Rattle.case_line.specs.Record.{line_fields, bus_fields, by_word}
+use Rattle.case_line.specs.Record.{record_of, letter_if, word_text, field_texts, record_text, Formed}
 use Rattle.case_line.specs.declared.Record.{Record}
 use Rattle.case_line.specs.declared.Record.TheVariants.{Grid, Bus, Line, Circuits, Pmu, End, Wrong}
 use Rattle.case_line.specs.declared.Word.{Word}
@@ -63,7 +63,7 @@ fields_free c End h f = tt
 fields_free c Wrong h f = tt
 
 read_fields : (r : Record) → Formed r → by_word (record_word_of (word_text r)) (field_texts r) ≡ r
-unfolding record_word_of same if_one_field if_no_field lineFields busFields mark_of
+unfolding record_word_of same if_one_field if_no_field line_fields bus_fields mark_of
 read_fields (Grid n) f = rw (read_number n f)
 read_fields (Bus n true true) f = rw (read_number n f)
 read_fields (Bus n true false) f = rw (read_number n f)
@@ -75,8 +75,8 @@ read_fields (Pmu n) f = rw (read_number n f)
 read_fields End f = refl
 read_fields Wrong f = absurd f
 
-pub read_record : (r : Record) → Formed r → recordOf (record_text r) ≡ r
-unfolding recordOf record_text
+pub read_record : (r : Record) → Formed r → record_of (record_text r) ≡ r
+unfolding record_of record_text
 read_record r f =
     rw (split-join 9 (word_text r) (field_texts r) (word_free 9 r (omega arith)) (fields_free 9 r (omega arith) f)) (read_fields r f)
 
@@ -164,7 +164,7 @@ bus_neither (Is n) Neither = refl
 bus_neither NoNumber c = refl
 
 spells : (w : List ℕ) (v : Word) (fs : List (List ℕ)) → word_spelt w v → Spells (by_word v fs) w fs
-unfolding word_spelt if_one_field if_no_field lineFields busFields
+unfolding word_spelt if_one_field if_no_field line_fields bus_fields
 spells w GridWord [] e = inl refl
 spells w GridWord (f ∷ []) e = grid-spells w f (numeral_of f) e refl
 spells w GridWord (f ∷ g ∷ fs) e = inl refl
@@ -190,8 +190,8 @@ pub record Spelt (l : List ℕ) (r : Record) : Type 0 where
   pub formed : Formed r
   pub text : record_text r ≡ l
 
-pub spelt : (l : List ℕ) → (recordOf l ≡ Wrong → ⊥) → Spelt l (recordOf l)
-unfolding recordOf record_text
+pub spelt : (l : List ℕ) → (record_of l ≡ Wrong → ⊥) → Spelt l (record_of l)
+unfolding record_of record_text
 spelt l n =
     let w = (split 9 l).first in
     let fs = (split 9 l).rest in

@@ -30,24 +30,24 @@ members f s k zero = []
 members f s k (suc m) = cond (has s k) (f k ∷ members f s (k + 1) m) (members f s (k + 1) m)
 
 -- the line from a to b, by k circuits: a text says them if they are several
-abbrev pub lineRecord : ℕ → ℕ → ℕ → Record
-lineRecord a b k = cond (ltb k least_several) (Line a b) (Circuits a b k)
+abbrev pub line_record : ℕ → ℕ → ℕ → Record
+line_record a b k = cond (ltb k least_several) (Line a b) (Circuits a b k)
 
 -- the line from a to b, of these circuits
 abbrev pub line_from : (ℕ → ℕ → ℕ) → ℕ → ℕ → Record
-line_from counts a b = lineRecord a b (counts a b)
+line_from counts a b = line_record a b (counts a b)
 
 -- the lines of the m buses from a on, each at its lower bus
-unfoldable pub lineRecords : (ℕ → ℕ) → (ℕ → ℕ → ℕ) → ℕ → ℕ → List Record
-lineRecords nbr counts a zero = []
-lineRecords nbr counts a (suc m) = members (line_from counts a) (nbr a) (a + 1) m ++ lineRecords nbr counts (a + 1) m
+unfoldable pub line_records : (ℕ → ℕ) → (ℕ → ℕ → ℕ) → ℕ → ℕ → List Record
+line_records nbr counts a zero = []
+line_records nbr counts a (suc m) = members (line_from counts a) (nbr a) (a + 1) m ++ line_records nbr counts (a + 1) m
 
 -- all in order, of n buses with these rows, Z buses, Y sites and units
 abbrev pub records_with : ℕ → Rows → SetWord → SetWord → SetWord → List Record
 records_with n rows zeros sites units =
     Grid n
     ∷ (bus_records (set_of zeros) (set_of sites) 1 n
-    ++ (lineRecords (neighbours rows) (circuits rows) 1 n
+    ++ (line_records (neighbours rows) (circuits rows) 1 n
     ++ (members Pmu (set_of units) 1 n
     ++ End ∷ [])))
 

@@ -45,9 +45,9 @@ if_no_field w v [] = v
 if_no_field w v (f ∷ fs) = w
 
 -- one field, a number
-abbrev pub oneNumber : List (List ℕ) → Numeral
-oneNumber = if_one_field NoNumber numeral_of
+abbrev pub one_number : List (List ℕ) → Numeral
+one_number = if_one_field NoNumber numeral_of
 
 -- one field, a site
-abbrev pub oneSite : List (List ℕ) → Mark
-oneSite = if_one_field Neither site_of
+abbrev pub one_site : List (List ℕ) → Mark
+one_site = if_one_field Neither site_of

@@ -5,7 +5,7 @@ use Rattle.text_field.specs.Split.{split, join, same, bytes, tab}
 use Rattle.text_field.specs.Number.{most_read, numeral_of, number_text}
 use Rattle.text_field.specs.declared.Numeral.{Numeral}
 use Rattle.text_field.specs.declared.Numeral.TheVariants.{Is, Wrong as NoNumber}
-use Rattle.case_line.specs.Fields.{letter_z, letter_i, letter_y, letter_n, class_of, if_no_field, oneNumber, oneSite}
+use Rattle.case_line.specs.Fields.{letter_z, letter_i, letter_y, letter_n, class_of, if_no_field, one_number, one_site}
 use Rattle.case_line.specs.declared.Record.{Record}
 use Rattle.case_line.specs.declared.Record.TheVariants.{Grid, Bus, Line, Circuits, Pmu, End, Wrong}
 use Rattle.case_line.specs.declared.Word.{Word}
@@ -57,35 +57,35 @@ bus_record_of (Is n) Neither site = Wrong
 bus_record_of NoNumber class site = Wrong
 
 -- the two or three fields of `line`
-unfoldable pub lineFields : List (List ℕ) → Record
-lineFields [] = Wrong
-lineFields (a ∷ []) = Wrong
-lineFields (a ∷ b ∷ []) = line_record_of (numeral_of a) (numeral_of b)
-lineFields (a ∷ b ∷ k ∷ []) = circuits_record_of (numeral_of a) (numeral_of b) (numeral_of k)
-lineFields (a ∷ b ∷ k ∷ f ∷ fs) = Wrong
+unfoldable pub line_fields : List (List ℕ) → Record
+line_fields [] = Wrong
+line_fields (a ∷ []) = Wrong
+line_fields (a ∷ b ∷ []) = line_record_of (numeral_of a) (numeral_of b)
+line_fields (a ∷ b ∷ k ∷ []) = circuits_record_of (numeral_of a) (numeral_of b) (numeral_of k)
+line_fields (a ∷ b ∷ k ∷ f ∷ fs) = Wrong
 
 -- the three fields of `bus`
-unfoldable pub busFields : List (List ℕ) → Record
-busFields [] = Wrong
-busFields (n ∷ []) = Wrong
-busFields (n ∷ class ∷ fs) = bus_record_of (numeral_of n) (class_of class) (oneSite fs)
+unfoldable pub bus_fields : List (List ℕ) → Record
+bus_fields [] = Wrong
+bus_fields (n ∷ []) = Wrong
+bus_fields (n ∷ class ∷ fs) = bus_record_of (numeral_of n) (class_of class) (one_site fs)
 
 -- `end`, which no field follows
-abbrev pub noFields : List (List ℕ) → Record
-noFields = if_no_field Wrong End
+abbrev pub no_fields : List (List ℕ) → Record
+no_fields = if_no_field Wrong End
 
 -- the word, and the fields after it
 abbrev pub by_word : Word → List (List ℕ) → Record
-by_word GridWord fs = grid_record_of (oneNumber fs)
-by_word BusWord fs = busFields fs
-by_word LineWord fs = lineFields fs
-by_word PmuWord fs = pmu_record_of (oneNumber fs)
-by_word EndWord fs = noFields fs
+by_word GridWord fs = grid_record_of (one_number fs)
+by_word BusWord fs = bus_fields fs
+by_word LineWord fs = line_fields fs
+by_word PmuWord fs = pmu_record_of (one_number fs)
+by_word EndWord fs = no_fields fs
 by_word Other fs = Wrong
 
 -- the record that a line is
-unfoldable pub recordOf : List ℕ → Record
-recordOf l = by_word (record_word_of (split tab l).first) (split tab l).rest
+unfoldable pub record_of : List ℕ → Record
+record_of l = by_word (record_word_of (split tab l).first) (split tab l).rest
 
 -- ---- a record's text
 

@@ -1,10 +1,10 @@
 // One line of a case text, read as a record.
 ghost use Rattle.std.specs.Prelude.{◌≡◌};
 ghost use Rattle.text_field.specs.Split.{after};
-ghost use Rattle.case_line.specs.Fields.{mark_of, oneNumber, oneSite};
+ghost use Rattle.case_line.specs.Fields.{mark_of, one_number, one_site};
 ghost use Rattle.case_line.specs.Record.{record_word_of, grid_record_of, bus_record_of, line_record_of};
-ghost use Rattle.case_line.specs.Record.{circuits_record_of, pmu_record_of, busFields, lineFields};
-ghost use Rattle.case_line.specs.Record.{noFields, recordOf};
+ghost use Rattle.case_line.specs.Record.{circuits_record_of, pmu_record_of, bus_fields, line_fields};
+ghost use Rattle.case_line.specs.Record.{no_fields, record_of};
 
 use text_field::Numeral;
 
@@ -141,7 +141,7 @@ fn bus_of(n: Numeral, class: Mark, site: Mark) -> Record
 
 // Whether no field follows the one that ends at `at`.
 fn no_fields(line: &[u8], at: usize) -> Record
-    ensures { result ≡ noFields (after 9 line.now at) }
+    ensures { result ≡ no_fields (after 9 line.now at) }
 {
     if at < line.len() {
         return Record::Wrong;
@@ -151,7 +151,7 @@ fn no_fields(line: &[u8], at: usize) -> Record
 
 // The number in the one field that follows the one that ends at `at`.
 pub fn one_number(line: &[u8], at: usize) -> Numeral
-    ensures { result ≡ oneNumber (after 9 line.now at) }
+    ensures { result ≡ one_number (after 9 line.now at) }
 {
     if line.len() <= at {
         return Numeral::Wrong;
@@ -166,7 +166,7 @@ pub fn one_number(line: &[u8], at: usize) -> Numeral
 
 // A `line` with the two or three fields that follow the one that ends at `at`.
 fn line_fields(line: &[u8], at: usize) -> Record
-    ensures { result ≡ lineFields (after 9 line.now at) }
+    ensures { result ≡ line_fields (after 9 line.now at) }
 {
     if line.len() <= at {
         return Record::Wrong;
@@ -187,7 +187,7 @@ fn line_fields(line: &[u8], at: usize) -> Record
 }
 
 fn one_site(line: &[u8], at: usize) -> Mark
-    ensures { result ≡ oneSite (after 9 line.now at) }
+    ensures { result ≡ one_site (after 9 line.now at) }
 {
     if line.len() <= at {
         return Mark::Neither;
@@ -201,7 +201,7 @@ fn one_site(line: &[u8], at: usize) -> Mark
 }
 
 fn bus_fields(line: &[u8], at: usize) -> Record
-    ensures { result ≡ busFields (after 9 line.now at) }
+    ensures { result ≡ bus_fields (after 9 line.now at) }
 {
     if line.len() <= at {
         return Record::Wrong;
@@ -222,7 +222,7 @@ fn bus_fields(line: &[u8], at: usize) -> Record
 
 // The record that a line of a case text is.
 pub fn record_of(line: &[u8]) -> Record
-    ensures { result ≡ recordOf line.now }
+    ensures { result ≡ record_of line.now }
 {
     let e = text_field::piece_end(line, 0, b'\t');
     match word_of(&line[0..e]) {

@@ -4,22 +4,22 @@ use mathlib.Core.Bool.{Bool, true, false, cond, true≢false}
 use mathlib.Core.List.{List, [], ◌∷◌}
 use Prim.Native.Nat.{ℕ, ◌+◌}
 use Rattle.text_field.specs.Split.{split, line_feed}
-use Rattle.case_line.specs.Record.{recordOf}
+use Rattle.case_line.specs.Record.{record_of}
 use Rattle.case_line.specs.declared.Record.{Record}
 use Rattle.case_line.specs.declared.Record.TheVariants.{Grid, Bus, Line, Circuits, Pmu, End, Wrong}
 use Rattle.grid.specs.declared.Case.{Case}
 use Rattle.refusals.specs.declared.Refusal.TheVariants.{WrongForm, OutOfRange, OutOfOrder}
 use Rattle.refusals.specs.Refusals.{Check, check_that}
 use Rattle.refusals.proofs.Orders.{itself}
-use Rattle.case_judge.specs.Judging.{inPlace, in_range, inOrder, next_or_last, judged}
+use Rattle.case_judge.specs.Judging.{in_place, in_range, in_order, next_or_last, judged}
 use Rattle.grid.specs.Limits.{most_bytes}
-use Rattle.case_read.specs.Reading.{Reader, start, next_reader, case_so_far, got, refused, case_ended, record_said, read_lines, readText}
-use Rattle.case_read.specs.Reading.{readCase}
+use Rattle.case_read.specs.Reading.{Reader, start, next_reader, case_so_far, got, refused, case_ended, record_said, read_lines, read_text}
+use Rattle.case_read.specs.Reading.{read_case}
 use Rattle.case_read.specs.declared.CaseRead.{CaseRead}
 use Rattle.case_judge.specs.declared.Judgement.{Judgement}
 use Rattle.case_judge.specs.declared.Judgement.TheVariants.{Form, Range, Order}
 use Rattle.refusals.proofs.Judging.{SaidBy, good, passing, failing, within_limit}
-use Rattle.case_read.specs.Checks.{NothingFollows, afterRecord, line_checks, lines_from, case_checks}
+use Rattle.case_read.specs.Checks.{NothingFollows, after_record, line_checks, lines_from, case_checks}
 
 -- a case
 abbrev pub IsCase : CaseRead → Type 0
@@ -50,7 +50,7 @@ line-judged true true true v k on end later h =
 
 -- and then the lines after it, or after `end` nothing
 record_judged : (x : Record) (k : ℕ) (on end : CaseRead) (ons ends : List Check) → ReadBy ons on → ReadBy ends end
-    → ReadBy (afterRecord x ends ons) (record_said (next_or_last x) k on end)
+    → ReadBy (after_record x ends ons) (record_said (next_or_last x) k on end)
 record_judged (Grid n) k on end ons ends p q = p
 record_judged (Bus b zero site) k on end ons ends p q = p
 record_judged (Line a b) k on end ons ends p q = p
@@ -63,16 +63,16 @@ pub lines-judged : (s : Reader) (k : ℕ) (l : List ℕ) (ms : List (List ℕ)) 
 unfolding read_lines judged
 lines-judged s k l [] = failing ⊥ 2 k (WrongForm k) (λ h. h) (itself (WrongForm k))
 lines-judged s k l (m ∷ ms) =
-    let x = recordOf l in
-    line-judged (inPlace s.place x) (in_range s.place x) (inOrder s.place x) (next_or_last x) k
+    let x = record_of l in
+    line-judged (in_place s.place x) (in_range s.place x) (in_order s.place x) (next_or_last x) k
     (read_lines (next_reader s x) (k + 1) m ms) (case_ended (case_so_far s) (k + 1) m ms)
-    (afterRecord x (check_that (NothingFollows m ms) 2 (k + 1) ∷ []) (line_checks (next_reader s x) (k + 1) m ms))
+    (after_record x (check_that (NothingFollows m ms) 2 (k + 1) ∷ []) (line_checks (next_reader s x) (k + 1) m ms))
     (record_judged x k (read_lines (next_reader s x) (k + 1) m ms) (case_ended (case_so_far s) (k + 1) m ms)
     (line_checks (next_reader s x) (k + 1) m ms) (check_that (NothingFollows m ms) 2 (k + 1) ∷ [])
     (lines-judged (next_reader s x) (k + 1) m ms) (end_judged (case_so_far s) (k + 1) m ms))
 
-pub case-judged : (text : List ℕ) → ReadBy (case_checks text) (readCase text)
-unfolding readCase readText
+pub case-judged : (text : List ℕ) → ReadBy (case_checks text) (read_case text)
+unfolding read_case read_text
 case-judged text =
-    within_limit refused IsCase most_bytes text (lines_from 1 text) (readText 1 text)
+    within_limit refused IsCase most_bytes text (lines_from 1 text) (read_text 1 text)
     (lines-judged start 1 (split line_feed text).first (split line_feed text).rest)

@@ -10,7 +10,7 @@ use Rattle.text_field.specs.Split.{line_feed}
 use Rattle.case_line.specs.Record.{record_text}
 use Rattle.case_line.specs.declared.Record.{Record}
 use Rattle.case_line.proofs.Lengths.{record_room, record_length}
-use Rattle.case_line.specs.CaseText.{has, bus_records, members, line_from, lineRecords, lines_text}
+use Rattle.case_line.specs.CaseText.{has, bus_records, members, line_from, line_records, lines_text}
 
 -- no record is longer than this, with its line feed
 abbrev pub line_room : ℕ
@@ -46,8 +46,8 @@ members_length f s k (suc m) = shorter (has s k) (f k) (members f s (k + 1) m) (
     shorter true x xs h = omega arith
     shorter false x xs h = omega arith
 
-rows-length : (nbr : ℕ → ℕ) (counts : ℕ → ℕ → ℕ) (a m : ℕ) → m ≤ most_buses → length (lineRecords nbr counts a m) ≤ most_buses * m
-unfolding lineRecords
+rows-length : (nbr : ℕ → ℕ) (counts : ℕ → ℕ → ℕ) (a m : ℕ) → m ≤ most_buses → length (line_records nbr counts a m) ≤ most_buses * m
+unfolding line_records
 rows-length nbr counts a zero h = omega arith
 rows-length nbr counts a (suc m) h =
     simp length-append (omega (arith, members_length (line_from counts a) (nbr a) (a + 1) m, rows-length nbr counts (a + 1) m (omega arith)))
@@ -58,8 +58,8 @@ module _ (n : ℕ) (h : n ≤ most_buses) where
   pub buses_most : (zeros sites : ℕ) → length (lines_text (bus_records zeros sites 1 n)) ≤ row_room
   buses_most zeros sites = omega (arith, lines_length (bus_records zeros sites 1 n), buses_length zeros sites 1 n)
 
-  pub rows_most : (nbr : ℕ → ℕ) (counts : ℕ → ℕ → ℕ) → length (lines_text (lineRecords nbr counts 1 n)) ≤ row_room * most_buses
-  rows_most nbr counts = omega (arith, lines_length (lineRecords nbr counts 1 n), rows-length nbr counts 1 n h)
+  pub rows_most : (nbr : ℕ → ℕ) (counts : ℕ → ℕ → ℕ) → length (lines_text (line_records nbr counts 1 n)) ≤ row_room * most_buses
+  rows_most nbr counts = omega (arith, lines_length (line_records nbr counts 1 n), rows-length nbr counts 1 n h)
 
   pub members_most : (f : ℕ → Record) (s : ℕ) → length (lines_text (members f s 1 n)) ≤ row_room
   members_most f s = omega (arith, lines_length (members f s 1 n), members_length f s 1 n)

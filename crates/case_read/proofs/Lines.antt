@@ -12,14 +12,14 @@ use lib.Seq.{drop-cons}
 use Rattle.grid.specs.Rows.{Rows, no_rows}
 use Rattle.text_field.specs.Split.{split, part, PieceEnd}
 use Rattle.text_field.proofs.Cutting.{after_none, after-some}
-use Rattle.case_line.specs.Record.{recordOf}
+use Rattle.case_line.specs.Record.{record_of}
 use Rattle.case_line.specs.declared.Record.{Record}
 use Rattle.grid.specs.Limits.{most_buses, most_bytes}
 use Rattle.grid.specs.declared.Case.{Case}
 use Rattle.refusals.specs.declared.Refusal.TheVariants.{TextTooLong, WrongForm}
-use Rattle.case_build.specs.Building.{next_rows, next_marks, noMarks}
-use Rattle.case_judge.specs.Judging.{judged, nextPlace}
-use Rattle.case_read.specs.Reading.{Reader, start, case_so_far, refused, case_ended, record_said, read_lines, readText, readCase}
+use Rattle.case_build.specs.Building.{next_rows, next_marks, no_marks}
+use Rattle.case_judge.specs.Judging.{judged, next_place}
+use Rattle.case_read.specs.Reading.{Reader, start, case_so_far, refused, case_ended, record_said, read_lines, read_text, read_case}
 use Rattle.case_build.specs.declared.Marks.{Marks}
 use Rattle.case_judge.specs.declared.Place.{Place}
 use Rattle.case_read.specs.declared.CaseRead.{CaseRead}
@@ -63,11 +63,11 @@ pub record Going (text : List ℕ) (from' first : ℕ) (s : Place) (rows : Rows)
   pub long : length text ≤ most_bytes
   pub soon : first ≤ most_bytes
   pub small : s.n ≤ most_buses
-  pub is : readText first (drop from' text) ≡ from (record { place = s; rows = rows; marks = m }) k (drop at text)
+  pub is : read_text first (drop from' text) ≡ from (record { place = s; rows = rows; marks = m }) k (drop at text)
 
 pub going-first : {text : List ℕ} {from' first : ℕ} {rows : Rows} {m : Marks} → from' ≤ length text → length text ≤ most_bytes
-    → first ≤ most_bytes → rows ≡ no_rows → m ≡ noMarks → Going text from' first start.place rows m first from'
-unfolding readText
+    → first ≤ most_bytes → rows ≡ no_rows → m ≡ no_marks → Going text from' first start.place rows m first from'
+unfolding read_text
 going-first {text} {from'} {first} h l f r e = record {
   high = h;
   few = omega arith;
@@ -79,22 +79,22 @@ going-first {text} {from'} {first} h l f r e = record {
 
 module _ {text : List ℕ} {f₀ k₀ : ℕ} {s : Place} {rows : List ℕ} {m : Marks} {k at e : ℕ} (g : Going text f₀ k₀ s rows m k at)
     (p : PieceEnd 10 text at e) where
-  pub no_feed : {x : CaseRead} → length text ≤ e → x ≡ refused (WrongForm k) → x ≡ readText k₀ (drop f₀ text)
+  pub no_feed : {x : CaseRead} → length text ≤ e → x ≡ refused (WrongForm k) → x ≡ read_text k₀ (drop f₀ text)
   unfolding read_lines
   no_feed h xi = xi ∙ sym (g.is ∙ rw (p.cut, after_none 10 text e h))
 
-  module _ {r : Record} {v w : Judgement} (h : e < length text) (ri : r ≡ recordOf (part text at e))
+  module _ {r : Record} {v w : Judgement} (h : e < length text) (ri : r ≡ record_of (part text at e))
       (vi : v ≡ judged s r) (told : v ≡ w) where
     pub line-said : {x : CaseRead} →
         x ≡ record_said w k
-        (from (record { place = nextPlace s r; rows = next_rows rows r; marks = next_marks m r }) (k + 1) (drop (e + 1) text))
-        (ending (case_so_far (record { place = s; rows = rows; marks = m })) (k + 1) (drop (e + 1) text)) → x ≡ readText k₀ (drop f₀ text)
+        (from (record { place = next_place s r; rows = next_rows rows r; marks = next_marks m r }) (k + 1) (drop (e + 1) text))
+        (ending (case_so_far (record { place = s; rows = rows; marks = m })) (k + 1) (drop (e + 1) text)) → x ≡ read_text k₀ (drop f₀ text)
     unfolding read_lines
     line-said xi = xi ∙ sym (g.is ∙ rw (p.cut, after-some 10 text e h, ← ri, ← vi, told, add-one e))
 
-  pub going_on : {r : Record} {v : Judgement} {t : Place} {rows' : List ℕ} {m' : Marks} → e < length text → r ≡ recordOf (part text at e)
+  pub going_on : {r : Record} {v : Judgement} {t : Place} {rows' : List ℕ} {m' : Marks} → e < length text → r ≡ record_of (part text at e)
       → v ≡ judged s r → v ≡ Next
-      → t ≡ nextPlace s r → rows' ≡ next_rows rows r → m' ≡ next_marks m r → Going text f₀ k₀ t rows' m' (k + 1) (e + 1)
+      → t ≡ next_place s r → rows' ≡ next_rows rows r → m' ≡ next_marks m r → Going text f₀ k₀ t rows' m' (k + 1) (e + 1)
   going_on {r} {v} {t} {rows'} {m'} h ri vi told ti wi mi =
       let l = p.low in
       record {
@@ -108,10 +108,10 @@ module _ {text : List ℕ} {f₀ k₀ : ℕ} {s : Place} {rows : List ℕ} {m : 
 
 -- ---- the whole text
 
-pub too_long : (text : List ℕ) → most_bytes < length text → refused TextTooLong ≡ readCase text
-unfolding readCase
+pub too_long : (text : List ℕ) → most_bytes < length text → refused TextTooLong ≡ read_case text
+unfolding read_case
 too_long text h = rw (lt-ltb _ _ h)
 
-pub short-read : (text : List ℕ) → length text ≤ most_bytes → readText 1 text ≡ readCase text
-unfolding readCase
+pub short-read : (text : List ℕ) → length text ≤ most_bytes → read_text 1 text ≡ read_case text
+unfolding read_case
 short-read text h = rw (le-ltb _ _ h)

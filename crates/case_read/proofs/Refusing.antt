@@ -9,14 +9,14 @@ use lib.Dec.{ltb}
 use lib.ListN.{length}
 use Rattle.text_field.specs.Split.{split, line_feed}
 use Rattle.text_field.proofs.Cutting.{rest-few}
-use Rattle.case_line.specs.Record.{recordOf}
+use Rattle.case_line.specs.Record.{record_of}
 use Rattle.grid.specs.declared.Case.{Case}
 use Rattle.refusals.specs.declared.Refusal.{Refusal}
 use Rattle.refusals.specs.declared.Refusal.TheVariants.{TextTooLong}
 use Rattle.refusals.specs.Refusals.{place_of}
 use Rattle.case_judge.specs.Judging.{judged}
-use Rattle.case_read.specs.Reading.{Reader, next_reader, start, case_so_far, refused, case_ended, record_said, read_lines, readText}
-use Rattle.case_read.specs.Reading.{readCase}
+use Rattle.case_read.specs.Reading.{Reader, next_reader, start, case_so_far, refused, case_ended, record_said, read_lines, read_text}
+use Rattle.case_read.specs.Reading.{read_case}
 use Rattle.grid.specs.Limits.{most_bytes}
 use Rattle.case_judge.specs.declared.Judgement.{Judgement}
 use Rattle.case_judge.specs.declared.Judgement.TheVariants.{Next, Last, Form, Range, Order}
@@ -48,22 +48,22 @@ pub lines-placed : (m : ℕ) (ms : List (List ℕ)) (s : Reader) (k : ℕ) (l : 
 unfolding read_lines
 lines-placed m [] s k l h = omega arith
 lines-placed m (n ∷ ms) s k l h =
-    said-placed m k (judged s.place (recordOf l)) (read_lines (next_reader s (recordOf l)) (k + 1) n ms)
+    said-placed m k (judged s.place (record_of l)) (read_lines (next_reader s (record_of l)) (k + 1) n ms)
     (case_ended (case_so_far s) (k + 1) n ms) (omega arith)
-    (lines-placed m ms (next_reader s (recordOf l)) (k + 1) n (omega arith)) (closed-placed m (k + 1) (case_so_far s) n ms (omega arith))
+    (lines-placed m ms (next_reader s (record_of l)) (k + 1) n (omega arith)) (closed-placed m (k + 1) (case_so_far s) n ms (omega arith))
 
 -- a text whose first line is line k
-pub text-placed : (m k : ℕ) (text : List ℕ) → k + length text ≤ m → PlacedBy m (readText k text).answer
-unfolding readText
+pub text-placed : (m k : ℕ) (text : List ℕ) → k + length text ≤ m → PlacedBy m (read_text k text).answer
+unfolding read_text
 text-placed m k text h =
     lines-placed m (split line_feed text).rest start k (split line_feed text).first (omega (arith, rest-few line_feed text))
 
 -- a case text
-pub case-placed : (text : List ℕ) → PlacedBy (1 + most_bytes) (readCase text).answer
-unfolding readCase
+pub case-placed : (text : List ℕ) → PlacedBy (1 + most_bytes) (read_case text).answer
+unfolding read_case
 case-placed text = go (ltb most_bytes (length text)) refl
   where
-    go : (b : Bool) → ltb most_bytes (length text) ≡ b → PlacedBy (1 + most_bytes) (cond b (refused TextTooLong) (readText 1 text)).answer
+    go : (b : Bool) → ltb most_bytes (length text) ≡ b → PlacedBy (1 + most_bytes) (cond b (refused TextTooLong) (read_text 1 text)).answer
     go true e = omega arith
     go false e = text-placed (1 + most_bytes) 1 text (omega (arith, ltb-false most_bytes (length text) e))
 
@@ -72,5 +72,5 @@ case-placed text = go (ltb most_bytes (length text)) refl
 placed : (m : ℕ) {a : ReadAnswer} (q : Refusal) → PlacedBy m a → a ≡ Refused q → place_of q ≤ m
 placed m q p e = subst (PlacedBy m) e p
 
-pub read-place : (text : List ℕ) (q : Refusal) → (readCase text).answer ≡ Refused q → place_of q ≤ 1 + most_bytes
+pub read-place : (text : List ℕ) (q : Refusal) → (read_case text).answer ≡ Refused q → place_of q ≤ 1 + most_bytes
 read-place text q e = placed (1 + most_bytes) q (case-placed text) e

@@ -1,12 +1,12 @@
 -- What reading a case text checks, line after line.
 use Rattle.std.specs.Prelude.{◌≡◌, true, List, [], ◌∷◌, ℕ, ◌+◌, ◌≤◌, length}
 use Rattle.text_field.specs.Split.{split, line_feed}
-use Rattle.case_line.specs.Record.{recordOf}
+use Rattle.case_line.specs.Record.{record_of}
 use Rattle.case_line.specs.declared.Record.{Record}
 use Rattle.case_line.specs.declared.Record.TheVariants.{Grid, Bus, Line, Circuits, Pmu, End, Wrong}
 use Rattle.grid.specs.Limits.{most_bytes}
 use Rattle.refusals.specs.Refusals.{Check, check_that}
-use Rattle.case_judge.specs.Judging.{inPlace, in_range, inOrder}
+use Rattle.case_judge.specs.Judging.{in_place, in_range, in_order}
 use Rattle.case_read.specs.Reading.{Reader, start, next_reader}
 
 -- nothing follows `end`
@@ -16,24 +16,24 @@ NothingFollows [] (m ∷ ms) = ⊥
 NothingFollows (b ∷ l) ms = ⊥
 
 -- the checks after a record: `end` after `end`, `on` after another
-abbrev pub afterRecord : Record → List Check → List Check → List Check
-afterRecord (Grid n) end on = on
-afterRecord (Bus k zero site) end on = on
-afterRecord (Line a b) end on = on
-afterRecord (Circuits a b k) end on = on
-afterRecord (Pmu p) end on = on
-afterRecord End end on = end
-afterRecord Wrong end on = on
+abbrev pub after_record : Record → List Check → List Check → List Check
+after_record (Grid n) end on = on
+after_record (Bus k zero site) end on = on
+after_record (Line a b) end on = on
+after_record (Circuits a b k) end on = on
+after_record (Pmu p) end on = on
+after_record End end on = end
+after_record Wrong end on = on
 
 -- line k, where the reader stands so, and the pieces after its line feed: it has one, and its record may stand here, or 2; 3; 4;
 -- then the lines after it
 abbrev pub line_checks : Reader → ℕ → List ℕ → List (List ℕ) → List Check
 line_checks s k l [] = check_that ⊥ 2 k ∷ []
 line_checks s k l (m ∷ ms) =
-    check_that (inPlace s.place (recordOf l) ≡ true) 2 k
-    ∷ check_that (in_range s.place (recordOf l) ≡ true) 3 k
-    ∷ check_that (inOrder s.place (recordOf l) ≡ true) 4 k
-    ∷ afterRecord (recordOf l) (check_that (NothingFollows m ms) 2 (k + 1) ∷ []) (line_checks (next_reader s (recordOf l)) (k + 1) m ms)
+    check_that (in_place s.place (record_of l) ≡ true) 2 k
+    ∷ check_that (in_range s.place (record_of l) ≡ true) 3 k
+    ∷ check_that (in_order s.place (record_of l) ≡ true) 4 k
+    ∷ after_record (record_of l) (check_that (NothingFollows m ms) 2 (k + 1) ∷ []) (line_checks (next_reader s (record_of l)) (k + 1) m ms)
 
 -- a text whose first line is line k
 abbrev pub lines_from : ℕ → List ℕ → List Check

@@ -1,7 +1,7 @@
 // The case text, line after line.
 ghost use Rattle.std.specs.Prelude.{◌≡◌, ◌<◌, ◌≤◌, length, drop};
 ghost use Rattle.grid.specs.Limits.{most_bytes};
-ghost use Rattle.case_read.specs.Reading.{refused, case_ended_after, readText, readCase};
+ghost use Rattle.case_read.specs.Reading.{refused, case_ended_after, read_text, read_case};
 
 use case_build::Marks;
 use case_judge::{Judgement, Place};
@@ -59,7 +59,7 @@ fn at_end(text: &[u8], e: usize, s: Place, rows: &Rows, m: Marks, k: usize) -> C
 // The text from `from` on, whose first line is line `first`.
 pub fn read_text(text: &[u8], from: usize, first: usize) -> CaseRead
     requires { (from ≤ length text.now) × (length text.now ≤ most_bytes) × (first ≤ most_bytes) }
-    ensures { result ≡ readText first (drop from text.now) }
+    ensures { result ≡ read_text first (drop from text.now) }
 {
     let mut s = Place {
         n: 0,
@@ -105,7 +105,7 @@ pub fn read_text(text: &[u8], from: usize, first: usize) -> CaseRead
 
 // The case that a text says.
 pub fn read_case(text: &[u8]) -> CaseRead
-    ensures { result ≡ readCase text.now }
+    ensures { result ≡ read_case text.now }
 {
     if MOST_BYTES < text.len() {
         return refusal(Refusal::TextTooLong);

@@ -18,7 +18,7 @@ use Rattle.case_line.specs.Record.{record_text, Formed}
 use Rattle.case_line.specs.declared.Record.{Record}
 use Rattle.case_line.specs.declared.Record.TheVariants.{Line, Circuits}
 use Rattle.case_line.proofs.Lengths.{record_length}
-use Rattle.case_line.specs.CaseText.{has, bus_record, bus_records, members, line_from, lineRecords, lines_text}
+use Rattle.case_line.specs.CaseText.{has, bus_record, bus_records, members, line_from, line_records, lines_text}
 use Rattle.case_read.proofs.Lengths.{line_room, lines_length, lines_append, members_length, row_room}
 use Rattle.text_put.specs.Put.{Put}
 use Rattle.case_write.specs.Lines.{line_text}
@@ -111,10 +111,10 @@ module _ {first count n : ℕ} {l m o : List ℕ} {at end k b q : ℕ} where
       taken true rs = lines_cons _ _
       taken false rs = refl
 
-  pub turn_row : (nbr : ℕ → ℕ) (counts : ℕ → ℕ → ℕ) → Turn (lineRecords nbr counts) row_room first count n l at end m k b → b < end
+  pub turn_row : (nbr : ℕ → ℕ) (counts : ℕ → ℕ → ℕ) → Turn (line_records nbr counts) row_room first count n l at end m k b → b < end
       → n ≤ most_buses → Put m k (lines_text (members (line_from counts b) (nbr b) (b + 1) (n - b))) o q
-      → Turn (lineRecords nbr counts) row_room first count n l at end o q (b + 1)
-  unfolding lineRecords
+      → Turn (line_records nbr counts) row_room first count n l at end o q (b + 1)
+  unfolding line_records
   turn_row nbr counts w h c p =
       let f = line_from counts b in
       let rs = members f (nbr b) (b + 1) (n - b) in

@@ -5,7 +5,7 @@ ghost use Rattle.case_line.specs.Record.{Formed};
 ghost use Rattle.case_line.specs.declared.Record.TheVariants.{Pmu};
 ghost use Rattle.grid.specs.Rows.{neighbours, circuits};
 ghost use Rattle.case_line.specs.CaseText.{bus_record, bus_records, members};
-ghost use Rattle.case_line.specs.CaseText.{line_from, lineRecords, lines_text, records_with};
+ghost use Rattle.case_line.specs.CaseText.{line_from, line_records, lines_text, records_with};
 ghost use Rattle.text_put.specs.Put.{Put, far_line};
 ghost use Rattle.case_write.specs.Lines.{line_text, far_lines, far_rows};
 
@@ -88,7 +88,7 @@ fn put_row(out: &mut [u8], at: usize, n: usize, nbr: &Rows, a: usize) -> usize
 fn put_lines(out: &mut [u8], at: usize, n: usize, nbr: &Rows) -> usize
     requires { (at < far_rows) × (n ≤ width) }
     ensures { Put out.old at
-        (lines_text (lineRecords (neighbours nbr.now) (circuits nbr.now) 1 n))
+        (lines_text (line_records (neighbours nbr.now) (circuits nbr.now) 1 n))
         out.new result }
 {
     let mut k = at;

@@ -50,8 +50,8 @@ observed-set c before after = reply-meets (ObservedReply c) (observed_checks c) 
     cases (observed.Set s) p = inl p.0
     cases (observed.Refused q) p = inr (q, refl)
 
-pub firing-figure : AllByTable firing_figure_call
-firing-figure (c, s, i, j) before after =
+pub firing_figure : AllByTable firing_figure_call
+firing_figure (c, s, i, j) before after =
     reply-meets (FigureReply c s i j) (figure_checks c i j) figured.Refused
     (refl, inl (lit< tt), (refl, inl (lit< tt), refl)) (λ q p. (p, refl)) cases
   where
@@ -59,8 +59,8 @@ firing-figure (c, s, i, j) before after =
     cases (figured.Figure z) p = inl p.0
     cases (figured.Refused q) p = inr (q, refl)
 
-pub test-step : AllByTable test_step_call
-test-step (c, s, x) before after =
+pub test_step : AllByTable test_step_call
+test_step (c, s, x) before after =
     reply-meets (StepReply c s x) (step_checks c s x) tested.Refused
     (refl, inl (lit< tt), (refl, inr (refl, inr (refl, lit< tt)), (refl, inr (refl, inr (refl, lit< tt)), refl))) (λ q p. (p, refl)) cases
   where
@@ -98,8 +98,8 @@ weave (c, xs) before after =
 
 -- ---- placing units
 
-pub cross-validate : AllByTable cross_validate_call
-cross-validate c before after = reply-meets (VerdictReply c) (verdict_checks c) verdict.Refused refl (λ q p. (p, refl)) cases
+pub cross_validate : AllByTable cross_validate_call
+cross_validate c before after = reply-meets (VerdictReply c) (verdict_checks c) verdict.Refused refl (λ q p. (p, refl)) cases
   where
     cases : (r : Verdict) → VerdictReply c r → Passed (verdict_checks c) ⊎ ((q : Refusal) × (r ≡ verdict.Refused q))
     cases (verdict.Unconfirmed s) p = inl p.0

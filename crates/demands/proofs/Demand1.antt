@@ -33,12 +33,12 @@ pub demand_1 : {M : Type 1} → Demand1 M
 demand_1 = record {
   replies = record {
     observed-set = met-observed-set.met;
-    firing-figure = met-firing-figure.met;
-    test-step = met-test-step.met;
+    firing_figure = met-firing-figure.met;
+    test_step = met-test-step.met;
     derivation = met-derivation.met;
     replay = met-replay.met;
     weave = met-weave.met;
-    cross-validate = met-cross-validate.met;
+    cross_validate = met-cross-validate.met;
     place-greedy = met-place-greedy.met;
     place-fewest = met-place-fewest.met;
     read-case = met-read-case.met;
@@ -48,22 +48,22 @@ demand_1 = record {
     replay-text = met-replay-text.met;
     observed-rounds = met-observed-rounds.met;
     day-report = met-day-report.met;
-    plan-report = met-plan-report.met;
+    plan_report = met-plan-report.met;
     rounds-report = met-rounds-report.met;
-    wz-observed = met-wz-observed.met;
-    wz-unconfirmed = met-wz-unconfirmed.met;
-    wz-fewest = met-wz-fewest.met;
-    wz-replay = met-wz-replay.met;
+    wz_observed = met-wz-observed.met;
+    wz_unconfirmed = met-wz-unconfirmed.met;
+    wz_fewest = met-wz-fewest.met;
+    wz_replay = met-wz-replay.met;
   };
   promised = every-promise;
   by_table =
       calls.observed-set
-      also calls.firing-figure
-      also calls.test-step
+      also calls.firing_figure
+      also calls.test_step
       also calls.derivation
       also calls.replay
       also calls.weave
-      also calls.cross-validate
+      also calls.cross_validate
       also calls.place-greedy
       also calls.place-fewest
       also texts.read-case
@@ -73,12 +73,12 @@ demand_1 = record {
       also texts.replay-text
       also calls.observed-rounds
       also reports.day-report
-      also reports.plan-report
+      also reports.plan_report
       also reports.rounds-report
-      also estimator.wz-observed
-      also estimator.wz-unconfirmed
-      also estimator.wz-fewest
-      also estimator.wz-replay
+      also estimator.wz_observed
+      also estimator.wz_unconfirmed
+      also estimator.wz_fewest
+      also estimator.wz_replay
       also tt;
   day-printed = reports.day-printed;
   plan_printed = reports.plan_printed;

@@ -21,7 +21,7 @@ use Rattle.rules.proofs.Lists.{accepted-inside, accepted_length, finished_length
 use Rattle.grid.specs.declared.Case.{Case}
 use Rattle.refusals.specs.declared.Refusal.{Refusal}
 use Rattle.grid.specs.Limits.{most_steps, most_budget}
-use Rattle.grid.specs.Cases.{gridOf, Valid}
+use Rattle.grid.specs.Cases.{grid_of, Valid}
 use Rattle.refusals.specs.Refusals.{Is, Passed, Failed}
 use Rattle.refusals.proofs.Orders.{failed_or_passed}
 use Rattle.list_follow.specs.Following.{checks_from}
@@ -46,43 +46,43 @@ use Rattle.demands.specs.Demand2.{AcceptedExactly, TooSmallExactly, Demand2}
 -- ---- the observed set
 
 observed-least : (c : Case) (r : Observed) → Valid c → ObservedReply c r
-    → (set : ℕ) × (r ≡ observed.Set set) × ObservedSet (gridOf c) (set_of set)
+    → (set : ℕ) × (r ≡ observed.Set set) × ObservedSet (grid_of c) (set_of set)
 observed-least c (observed.Set s) v p = (s, refl, p.1)
 observed-least c (observed.Refused q) v p = absurd (failed_or_passed (observed_checks c) q p (v, tt))
 
 -- ---- a list is accepted exactly when each step is allowed where it stands
 
 -- steps that are allowed where they stand pass replay's checks, and those that pass are allowed
-pub accepted-checks : (c : Case) → Proper (gridOf c) → (k s : ℕ) (xs : List Step) → AcceptedFrom (gridOf c) s xs
+pub accepted-checks : (c : Case) → Proper (grid_of c) → (k s : ℕ) (xs : List Step) → AcceptedFrom (grid_of c) s xs
     → Passed (checks_from Replay c k s xs)
 accepted-checks c v k s [] a = tt
 accepted-checks c v k s (x ∷ xs) a =
     (allowed-names v a.0, (a.0.new, (a.0.holds, accepted-checks c v (suc k) (add s x.bus) xs a.1)))
 
-checks-accepted : (c : Case) (k s : ℕ) (xs : List Step) → Passed (checks_from Replay c k s xs) → AcceptedFrom (gridOf c) s xs
+checks-accepted : (c : Case) (k s : ℕ) (xs : List Step) → Passed (checks_from Replay c k s xs) → AcceptedFrom (grid_of c) s xs
 checks-accepted c k s [] p = tt
 checks-accepted c k s (x ∷ xs) p =
     (record { new = p.1.0; holds = p.1.1.0 }, checks-accepted c (suc k) (add s x.bus) xs p.1.1.1)
 
 -- it has at most n steps
-accepted-few : (c : Case) (xs : List Step) → Valid c → Accepted (gridOf c) xs → length xs ≤ most_steps
-accepted-few c xs v a = omega (arith, accepted_length (gridOf c) xs a, size-most c.n (reached xs) buses, v.buses.most)
+accepted-few : (c : Case) (xs : List Step) → Valid c → Accepted (grid_of c) xs → length xs ≤ most_steps
+accepted-few c xs v a = omega (arith, accepted_length (grid_of c) xs a, size-most c.n (reached xs) buses, v.buses.most)
   where
     buses : Within c.n (reached xs)
-    buses b h = (all_law c.n).only b (omega (arith, h, accepted-inside (gridOf c) _ xs (all_closed v.proper (all_law c.n)) a b))
+    buses b h = (all_law c.n).only b (omega (arith, h, accepted-inside (grid_of c) _ xs (all_closed v.proper (all_law c.n)) a b))
 
 -- what replay reaches is accepted
-replay-accepts : (c : Case) (xs : List Step) (s : ℕ) (f : Bool) → ReplayReply c xs (replayed.Reached s f) → Accepted (gridOf c) xs
+replay-accepts : (c : Case) (xs : List Step) (s : ℕ) (f : Bool) → ReplayReply c xs (replayed.Reached s f) → Accepted (grid_of c) xs
 replay-accepts c xs s f p = checks-accepted c 1 empty xs p.0.1.1
 
 -- and what is accepted, of a valid case, replay does not refuse
-accepted_replays : (c : Case) (xs : List Step) (r : Replayed) → Valid c → Accepted (gridOf c) xs → ReplayReply c xs r
+accepted_replays : (c : Case) (xs : List Step) (r : Replayed) → Valid c → Accepted (grid_of c) xs → ReplayReply c xs r
     → (s : ℕ) × (f : Bool) × (r ≡ replayed.Reached s f)
 accepted_replays c xs (replayed.Reached s f) v a p = (s, f, refl)
 accepted_replays c xs (replayed.Refused q) v a p =
     absurd (failed_or_passed (replay_checks c xs) q p (v, (accepted-few c xs v a, accepted-checks c v.proper 1 empty xs a)))
 
-replay_exact : (c : Case) (xs : List Step) (r : Replayed) → Valid c → ReplayReply c xs r → AcceptedExactly (gridOf c) xs r
+replay_exact : (c : Case) (xs : List Step) (r : Replayed) → Valid c → ReplayReply c xs r → AcceptedExactly (grid_of c) xs r
 replay_exact c xs r v p = record {
   taken = λ s f e. replay-accepts c xs s f (subst (ReplayReply c xs) e p);
   reaches = λ a. accepted_replays c xs r v a p;
@@ -91,19 +91,19 @@ replay_exact c xs r v p = record {
 -- ---- the fewest
 
 refused_none : (c : Case) (budget : ℕ) (q : Refusal) → Valid c → budget ≤ most_budget c.n → Failed (fewest_checks c budget) q
-    → Is 11 0 q × (placing.SomeAddition (gridOf c) budget → ⊥)
+    → Is 11 0 q × (placing.SomeAddition (grid_of c) budget → ⊥)
 refused_none c budget q v l (inl a) = absurd (a.0 v)
 refused_none c budget q v l (inr (_, inl a)) = absurd (a.0 l)
 refused_none c budget q v l (inr (_, inr (_, inl a))) = (a.1, a.0)
 refused_none c budget q v l (inr (_, inr (_, inr (_, a)))) = absurd a
 
 none-refused : (c : Case) (budget : ℕ) (r : Fewest) → Valid c → budget ≤ most_budget c.n → FewestReply c budget r
-    → (placing.SomeAddition (gridOf c) budget → ⊥) → Refuses fewest.Refused r 11 0
+    → (placing.SomeAddition (grid_of c) budget → ⊥) → Refuses fewest.Refused r 11 0
 none-refused c budget (fewest.Sites m) v l p n = absurd (n p.0.1.1.0)
 none-refused c budget (fewest.Refused q) v l p n = (q, refl, (refused_none c budget q v l p).0)
 
 too_small : (c : Case) (budget : ℕ) (r : Fewest) → Valid c → budget ≤ most_budget c.n → FewestReply c budget r
-    → TooSmallExactly (gridOf c) budget r
+    → TooSmallExactly (grid_of c) budget r
 too_small c budget r v l p =
     record { due = none-refused c budget r v l p; given = λ q e. refused_none c budget q v l (subst (FewestReply c budget) e p) }
 

@@ -13,7 +13,7 @@ use Rattle.rules.specs.Weaving.{WeavableFrom, woven}
 use Rattle.rules.proofs.Lists.{accepted-names}
 use Rattle.rules.proofs.Shuffles.{Woven, shuffle_each, weaving_shuffles}
 use Rattle.grid.specs.declared.Case.{Case}
-use Rattle.grid.specs.Cases.{gridOf}
+use Rattle.grid.specs.Cases.{grid_of}
 use Rattle.refusals.specs.Refusals.{Check, check_that, Passed}
 use Rattle.refusals.proofs.Orders.{failed_or_passed}
 use Rattle.list_follow.specs.Following.{checks_from}
@@ -23,12 +23,12 @@ use Rattle.list_follow.specs.declared.Wove.{Wove}
 use Rattle.list_follow.specs.declared.Wove.TheVariants as wove
 use Rattle.demands.specs.Demand3.{Received, Weaves, Demand3}
 
-weavable-checks : (c : Case) (k s : ℕ) (xs : List Step) (rest : List Check) → Each (Names c.n) xs → WeavableFrom (gridOf c) s xs
+weavable-checks : (c : Case) (k s : ℕ) (xs : List Step) (rest : List Check) → Each (Names c.n) xs → WeavableFrom (grid_of c) s xs
     → Passed rest → Passed (checks_from Weave c k s xs ++ rest)
 weavable-checks c k s [] rest n w p = p
 weavable-checks c k s (x ∷ xs) rest n w p = (n.0, (w.0, weavable-checks c (suc k) (add s x.bus) xs rest n.1 w.1 p))
 
-each-names : (c : Case) → Proper (gridOf c) → (desks : List (List Step)) → Each (Accepted (gridOf c)) desks
+each-names : (c : Case) → Proper (grid_of c) → (desks : List (List Step)) → Each (Accepted (grid_of c)) desks
     → Each (Each (Names c.n)) desks
 each-names c v [] a = tt
 each-names c v (xs ∷ desks) a = (accepted-names v empty xs a.0, each-names c v desks a.1)
@@ -38,8 +38,8 @@ weaves : (c : Case) (desks : List (List Step)) (received before after : List Ste
 weaves c desks received before after (wove.Refused q) i p =
     absurd (failed_or_passed (weave_checks c received (length before)) q p.0 (i.valid, (i.few, steps)))
   where
-    w : Woven (gridOf c) desks received
-    w = weaving_shuffles (gridOf c) desks received i.alone i.shuffled
+    w : Woven (grid_of c) desks received
+    w = weaving_shuffles (grid_of c) desks received i.alone i.shuffled
 
     last : List Check
     last = check_that (length (woven received) ≤ length before) 6 0 ∷ []
@@ -60,11 +60,11 @@ weaves c desks received before after (wove.Written count s) i p = record {
   all = λ b h. subst⁻¹ (λ (t : ℕ). In t b) same (w.all b h);
   only = λ b h. w.only b (subst (λ (t : ℕ). In t b) same h);
   each_once = p.1 ∙ w.each_once ∙ ap size (sym same);
-  least = λ f. subst⁻¹ (ObservedSet (gridOf c)) same (w.least f);
+  least = λ f. subst⁻¹ (ObservedSet (grid_of c)) same (w.least f);
 }
   where
-    w : Woven (gridOf c) desks received
-    w = weaving_shuffles (gridOf c) desks received i.alone i.shuffled
+    w : Woven (grid_of c) desks received
+    w = weaving_shuffles (grid_of c) desks received i.alone i.shuffled
 
     same : set_of s ≡ reached (woven received)
     same = p.2

@@ -12,12 +12,12 @@ use Rattle.demands.proofs.EstimatorUniqueness as estimator
 pub determined : Determined
 determined =
     grid.observed-set
-    also grid.firing-figure
-    also grid.test-step
+    also grid.firing_figure
+    also grid.test_step
     also lists.derivation
     also lists.replay
     also lists.weave
-    also sites.cross-validate
+    also sites.cross_validate
     also sites.place-greedy
     also sites.place-fewest
     also texts.read-case
@@ -27,10 +27,10 @@ determined =
     also lists.replay-text
     also rounds.observed-rounds
     also reports.day-report
-    also reports.plan-report
+    also reports.plan_report
     also reports.rounds-report
-    also estimator.wz-observed
-    also estimator.wz-unconfirmed
-    also estimator.wz-fewest
-    also estimator.wz-replay
+    also estimator.wz_observed
+    also estimator.wz_unconfirmed
+    also estimator.wz_fewest
+    also estimator.wz_replay
     also tt

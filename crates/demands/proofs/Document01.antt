@@ -5,7 +5,7 @@ use Rattle.grid.specs.Limits.{most_buses}
 use Rattle.rules.specs.Figures.{Runs}
 use Rattle.rules.proofs.Leasts.{least-empty}
 use Rattle.rules.proofs.Figures.{figure-runs, figure-one, one-figure}
-use Rattle.grid.specs.Cases.{gridOf}
+use Rattle.grid.specs.Cases.{grid_of}
 use Rattle.case_inverse.proofs.Inverse as inverse
 use Rattle.step_text.proofs.Found as found
 use Rattle.observe_calls.specs.Replies.{stated}
@@ -18,10 +18,10 @@ document_01 = record {
   least-empty = least-empty;
   figure_range = λ c s i j z p.
       subst⁻¹ (Runs (most_buses - 2)) p.1
-      (figure-runs (gridOf c) (most_buses - 2) (stated c s) i j p.0.0.proper p.0.0.buses.most p.0.1.1.0);
+      (figure-runs (grid_of c) (most_buses - 2) (stated c s) i j p.0.0.proper p.0.0.buses.most p.0.1.1.0);
   figure_usable = λ c s i j z p. record {
-    observed = λ e. one-figure (gridOf c).neighbours (stated c s) i j p.0.1.1.0 (sym p.1 ∙ e);
-    one = λ h b. p.1 ∙ figure-one (gridOf c).neighbours (stated c s) i j p.0.1.1.0 h b;
+    observed = λ e. one-figure (grid_of c).neighbours (stated c s) i j p.0.1.1.0 (sym p.1 ∙ e);
+    one = λ h b. p.1 ∙ figure-one (grid_of c).neighbours (stated c s) i j p.0.1.1.0 h b;
   };
   one-text = λ x y c p q. inverse.one-text x y c (sym p) (sym q);
   read-valid = λ text c e. (inverse.read-valid text c (sym e)).valid;
@@ -31,5 +31,5 @@ document_01 = record {
   steps_counted = λ text count e. found.steps-count text count (sym e);
   steps_few = λ text count e. (found.steps-found text count (sym e)).few;
   steps_named = λ text count e. (found.steps-found text count (sym e)).named;
-  estimator = results.wz-observed also results.wz-unconfirmed also results.wz-fewest also results.wz-replay also tt;
+  estimator = results.wz_observed also results.wz_unconfirmed also results.wz_fewest also results.wz_replay also tt;
 }

@@ -7,12 +7,12 @@ use Prim.Native.Nat.{ℕ, ◌+◌, ◌*◌, ◌≤◌}
 use native.Mathlib.Omega.{arith}
 use lib.Dec.{T, lit<, lit≤, ltb, ltb→lt, nltb→le}
 use lib.ListN.{length, drop}
-use Rattle.busset.specs.Bytes.{set_bytes, setLength}
+use Rattle.busset.specs.Bytes.{set_bytes, set_length}
 use Rattle.grid.specs.declared.Case.{Case}
 use Rattle.refusals.specs.declared.Refusal.{Refusal}
 use Rattle.refusals.specs.Refusals.{number_of, place_of, Is, Check, Failed}
 use Rattle.refusals.proofs.Orders.{itself, number-some, number-most}
-use Rattle.case_read.specs.Reading.{refused, readCase}
+use Rattle.case_read.specs.Reading.{refused, read_case}
 use Rattle.case_read.specs.declared.CaseRead.{CaseRead}
 use Rattle.list_follow.specs.Replies.{replay_checks}
 use Rattle.step_text.specs.Steps.{steps_of}
@@ -29,9 +29,9 @@ use Rattle.place_calls.specs.declared.Fewest.{Fewest}
 use Rattle.place_calls.specs.declared.Fewest.TheVariants as fewest
 use Rattle.estimator_reply.specs.declared.Answer.{Answer}
 use Rattle.estimator_reply.specs.declared.Answer.TheVariants.{Set, Refused, Unread}
-use Rattle.estimator.specs.Answers.{ofObserved, ofVerdict, ofFewest, ofReplay, Said, ObservedFor}
-use Rattle.estimator.specs.Answers.{UnconfirmedFor, FewestFor, ReplayFor, OfRead, OfText, estimatorChecks}
-use Rattle.estimator.specs.Answers.{wzObservedCall, wzUnconfirmedCall, wzFewestCall, wzReplayCall}
+use Rattle.estimator.specs.Answers.{of_observed, of_verdict, of_fewest, of_replay, Said, ObservedFor}
+use Rattle.estimator.specs.Answers.{UnconfirmedFor, FewestFor, ReplayFor, OfRead, OfText, estimator_checks}
+use Rattle.estimator.specs.Answers.{wz_observed_call, wz_unconfirmed_call, wz_fewest_call, wz_replay_call}
 use Rattle.estimator_reply.specs.Results.{Replied, Answered, room_for_set, Coded}
 use Rattle.case_read.specs.Checks.{case_checks}
 use Rattle.step_text.specs.Checks.{step_text_checks}
@@ -69,22 +69,22 @@ code-ends checks lent r n k f e s l =
     (λ m o h. coded-is r n k m o e l h)
 
 -- a set's: 0, or 6 where fewer than eight bytes are lent
-set-ends : (lent : List ℕ) (b : Bool) (r : ℕ) → ltb (length lent) setLength ≡ b → r ≡ cond b 6 0 → Ends (room_for_set lent) (Coded r)
+set-ends : (lent : List ℕ) (b : Bool) (r : ℕ) → ltb (length lent) set_length ≡ b → r ≡ cond b 6 0 → Ends (room_for_set lent) (Coded r)
 set-ends lent true r h e =
     inr (
       6,
       0,
-      inl (λ l. omega (arith, l, ltb→lt (length lent) setLength (subst⁻¹ T h tt)), refl, refl),
+      inl (λ l. omega (arith, l, ltb→lt (length lent) set_length (subst⁻¹ T h tt)), refl, refl),
       record { is = e; some = lit≤ tt; most = lit< tt },
       λ m o k. coded-is r 6 0 m o e (lit≤ tt) k,
     )
 set-ends lent false r h e =
-    inl ((nltb→le (length lent) setLength (subst⁻¹ (λ (b : Bool). T (not b)) h tt), tt), λ n k c. omega (arith, e, c.is, c.some))
+    inl ((nltb→le (length lent) set_length (subst⁻¹ (λ (b : Bool). T (not b)) h tt), tt), λ n k c. omega (arith, e, c.is, c.some))
 
 result-ends : (checks : List Check) (a : Answer) (lent left : List ℕ) (r : ℕ) → Ends checks (AnswerRefuses a) → Replied a lent left r
     → Ends (checks ++ room_for_set lent) (Coded r)
 result-ends checks (Set s) lent left r (inl h) p =
-    ends-later checks (room_for_set lent) (Coded r) h.0 (set-ends lent (ltb (length lent) setLength) r refl p.result)
+    ends-later checks (room_for_set lent) (Coded r) h.0 (set-ends lent (ltb (length lent) set_length) r refl p.result)
 result-ends checks (Refused q) lent left r (inl h) p = absurd (h.1 (number_of q) (place_of q) (itself q))
 result-ends checks (Unread q) lent left r (inl h) p =
     absurd (h.1 (number_of q + 50) (place_of q) (record { numbered = refl; placed = refl }))
@@ -98,9 +98,9 @@ result-ends checks (Unread q) lent left r (inr (n, k, f, h, one)) p =
 
 -- a result that is a refusal leaves every byte
 bytes-kept : (a : Answer) (lent left : List ℕ) (r : ℕ) → Replied a lent left r → (n k : ℕ) → Coded r n k → left ≡ lent
-bytes-kept (Set s) lent left r p n k c = p.bytes ∙ go (ltb (length lent) setLength) p.result
+bytes-kept (Set s) lent left r p n k c = p.bytes ∙ go (ltb (length lent) set_length) p.result
   where
-    go : (b : Bool) → r ≡ cond b 6 0 → cond b lent (set_bytes s ++ drop setLength lent) ≡ lent
+    go : (b : Bool) → r ≡ cond b 6 0 → cond b lent (set_bytes s ++ drop set_length lent) ≡ lent
     go true e = refl
     go false e = absurd (omega (arith, e, c.is, c.some))
 bytes-kept (Refused q) lent left r p n k c = p.bytes
@@ -110,20 +110,20 @@ bytes-kept (Unread q) lent left r p n k c = p.bytes
 
 of-text : (text : List ℕ) (P : Case → Answer → Type 0) (checks : Case → List Check)
     → ((c : Case) (a : Answer) → P c a → Ends (checks c) (AnswerRefuses a))
-    → (a : Answer) → OfText text P a → Ends (case_checks text ++ checks (readCase text).case) (AnswerRefuses a)
+    → (a : Answer) → OfText text P a → Ends (case_checks text ++ checks (read_case text).case) (AnswerRefuses a)
 of-text text P checks inner a p = go (case-judged text)
   where
     by : CaseRead → Type 0
     by x = OfRead x.answer x.case P a
 
-    go : SaidBy refused IsCase (case_checks text) (readCase text) → Ends (case_checks text ++ checks (readCase text).case) (AnswerRefuses a)
+    go : SaidBy refused IsCase (case_checks text) (read_case text) → Ends (case_checks text ++ checks (read_case text).case) (AnswerRefuses a)
     go (good h (c, e)) =
-        ends-later (case_checks text) (checks (readCase text).case) (AnswerRefuses a) h
+        ends-later (case_checks text) (checks (read_case text).case) (AnswerRefuses a) h
         (subst⁻¹ (λ (x : CaseRead). Ends (checks x.case) (AnswerRefuses a)) e (inner c a (subst by e p)))
     go (bad q f e) =
         let is : a ≡ Refused q = subst by e p in
-        subst⁻¹ (λ (x : Answer). Ends (case_checks text ++ checks (readCase text).case) (AnswerRefuses x)) is
-        (ends_sooner (case_checks text) (checks (readCase text).case) (AnswerRefuses (Refused q)) (number_of q) (place_of q)
+        subst⁻¹ (λ (x : Answer). Ends (case_checks text ++ checks (read_case text).case) (AnswerRefuses x)) is
+        (ends_sooner (case_checks text) (checks (read_case text).case) (AnswerRefuses (Refused q)) (number_of q) (place_of q)
         (failed-first (case_checks text) q f) (itself q) (λ m o h. (h.numbered, h.placed)))
 
 -- what a call's own checks come to
@@ -132,18 +132,18 @@ Fits checks = (c : Case) → ComesAfter 1 (checks c) × TurnsBy 8 (checks c)
 
 answered : (text : List ℕ) (P : Case → Answer → Type 0) (checks : Case → List Check) → Fits checks
     → ((c : Case) (a : Answer) → P c a → Ends (checks c) (AnswerRefuses a))
-    → (lent left : List ℕ) (r : ℕ) → Answered (OfText text P) lent left r → ByTable (estimatorChecks text checks lent) (Coded r) lent left
+    → (lent left : List ℕ) (r : ℕ) → Answered (OfText text P) lent left r → ByTable (estimator_checks text checks lent) (Coded r) lent left
 answered text P checks fits inner lent left r p =
-    met (estimatorChecks text checks lent) (Coded r) order (bytes-kept p.answer lent left r p.replied)
+    met (estimator_checks text checks lent) (Coded r) order (bytes-kept p.answer lent left r p.replied)
     (subst (λ (qs : List Check). Ends qs (Coded r)) (append_assoc (case_checks text) own (room_for_set lent))
     (result-ends (case_checks text ++ own) p.answer lent left r (of-text text P checks inner p.answer p.is) p.replied))
   where
     own : List Check
-    own = checks (readCase text).case
+    own = checks (read_case text).case
 
     order : InTableOrder (case_checks text ++ (own ++ room_for_set lent))
     order =
-        let f = fits (readCase text).case in
+        let f = fits (read_case text).case in
         then_ordered 1 (case_checks text) (own ++ room_for_set lent) (case_ordered text) (case-turn text)
         (then_follows 8 1 own (room_for_set lent) f.0 f.1 (lit≤ tt) (later-follows 8 (room_for_set lent) (lit≤ tt) (lit< tt) refl))
 
@@ -156,26 +156,26 @@ said : {R : Type 0} (promise : R → Type 0) (of : R → Answer) (checks : List 
 said promise of checks ends a p = subst⁻¹ (λ (x : Answer). Ends checks (AnswerRefuses x)) p.is (ends p.reply p.meets)
 
 observed-ends : (c : Case) (a : Answer) → ObservedFor c a → Ends (observed_checks c) (AnswerRefuses a)
-observed-ends c = said (ObservedReply c) ofObserved (observed_checks c) go
+observed-ends c = said (ObservedReply c) of_observed (observed_checks c) go
   where
-    go : (r : Observed) → ObservedReply c r → Ends (observed_checks c) (AnswerRefuses (ofObserved r))
+    go : (r : Observed) → ObservedReply c r → Ends (observed_checks c) (AnswerRefuses (of_observed r))
     go (observed.Set s) h = inl (h.0, λ n k x. x)
     go (observed.Refused q) h = refused-ends (observed_checks c) q h
 
-pub wz-observed : AllByTable wzObservedCall
-wz-observed text =
+pub wz_observed : AllByTable wz_observed_call
+wz_observed text =
     answered text ObservedFor observed_checks (λ c. (later-follows 1 (observed_checks c) (lit≤ tt) (lit< tt) refl, (lit≤ tt, tt)))
     observed-ends
 
 unconfirmed-ends : (c : Case) (a : Answer) → UnconfirmedFor c a → Ends (verdict_checks c) (AnswerRefuses a)
-unconfirmed-ends c = said (VerdictReply c) ofVerdict (verdict_checks c) go
+unconfirmed-ends c = said (VerdictReply c) of_verdict (verdict_checks c) go
   where
-    go : (r : Verdict) → VerdictReply c r → Ends (verdict_checks c) (AnswerRefuses (ofVerdict r))
+    go : (r : Verdict) → VerdictReply c r → Ends (verdict_checks c) (AnswerRefuses (of_verdict r))
     go (verdict.Unconfirmed s) h = inl (h.0, λ n k x. x)
     go (verdict.Refused q) h = refused-ends (verdict_checks c) q h
 
-pub wz-unconfirmed : AllByTable wzUnconfirmedCall
-wz-unconfirmed text =
+pub wz_unconfirmed : AllByTable wz_unconfirmed_call
+wz_unconfirmed text =
     answered text UnconfirmedFor verdict_checks (λ c. (later-follows 1 (verdict_checks c) (lit≤ tt) (lit< tt) refl, (lit≤ tt, tt)))
     unconfirmed-ends
 
@@ -184,14 +184,14 @@ abbrev fewest_at : ℕ → Case → List Check
 fewest_at budget c = fewest_checks c budget
 
 fewest-ends : (budget : ℕ) (c : Case) (a : Answer) → FewestFor budget c a → Ends (fewest_at budget c) (AnswerRefuses a)
-fewest-ends budget c = said (FewestReply c budget) ofFewest (fewest_at budget c) go
+fewest-ends budget c = said (FewestReply c budget) of_fewest (fewest_at budget c) go
   where
-    go : (r : Fewest) → FewestReply c budget r → Ends (fewest_at budget c) (AnswerRefuses (ofFewest r))
+    go : (r : Fewest) → FewestReply c budget r → Ends (fewest_at budget c) (AnswerRefuses (of_fewest r))
     go (fewest.Sites s) h = inl (h.0, λ n k x. x)
     go (fewest.Refused q) h = refused-ends (fewest_at budget c) q h
 
-pub wz-fewest : AllByTable wzFewestCall
-wz-fewest (text, budget) =
+pub wz_fewest : AllByTable wz_fewest_call
+wz_fewest (text, budget) =
     answered text (FewestFor budget) (fewest_at budget) (λ c. (o c, (lit≤ tt, (lit≤ tt, (lit≤ tt, tt))))) (fewest-ends budget)
   where
     o : (c : Case) → ComesAfter 1 (fewest_at budget c)
@@ -202,15 +202,15 @@ abbrev replay_of : List ℕ → Case → List Check
 replay_of steps c = text_replay_checks c steps
 
 replay-ends : (steps : List ℕ) (c : Case) (a : Answer) → ReplayFor steps c a → Ends (replay_of steps c) (AnswerRefuses a)
-replay-ends steps c = said (TextReplayReply c steps) ofReplay (replay_of steps c) (λ r h. go r (text-replay-ends c steps r h))
+replay-ends steps c = said (TextReplayReply c steps) of_replay (replay_of steps c) (λ r h. go r (text-replay-ends c steps r h))
   where
-    go : (r : TextReplayed) → Ends (replay_of steps c) (TextRefuses r) → Ends (replay_of steps c) (AnswerRefuses (ofReplay r))
+    go : (r : TextReplayed) → Ends (replay_of steps c) (TextRefuses r) → Ends (replay_of steps c) (AnswerRefuses (of_replay r))
     go (told.Reached s f) h = h
     go (told.Refused q) h = h
     go (told.Unread q) h = h
 
-pub wz-replay : AllByTable wzReplayCall
-wz-replay (text, steps) =
+pub wz_replay : AllByTable wz_replay_call
+wz_replay (text, steps) =
     answered text (ReplayFor steps) (replay_of steps)
     (λ c. (
       text-replay-follows c steps,

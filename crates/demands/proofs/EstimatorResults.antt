@@ -12,16 +12,16 @@ use Rattle.grid.specs.Cases.{Valid}
 use Rattle.refusals.specs.Refusals.{Check, check_that, Passed}
 use Rattle.refusals.specs.Calls.{Call}
 use Rattle.refusals.proofs.Orders.{failed_or_passed}
-use Rattle.case_read.specs.Reading.{refused, readCase}
+use Rattle.case_read.specs.Reading.{refused, read_case}
 use Rattle.case_read.specs.declared.CaseRead.{CaseRead}
 use Rattle.case_inverse.proofs.Inverse.{read-valid}
-use Rattle.step_text.specs.Steps.{steps_of, readSteps}
+use Rattle.step_text.specs.Steps.{steps_of, read_steps}
 use Rattle.step_text.specs.declared.StepsRead.TheVariants.{Refused}
 use Rattle.step_text.proofs.Found.{steps-count, steps-found}
 use Rattle.list_follow.specs.Replies.{replay_checks}
 use Rattle.observe_calls.specs.Replies.{observed_checks}
 use Rattle.place_calls.specs.Replies.{verdict_checks, fewest_checks}
-use Rattle.estimator.specs.Answers.{estimatorChecks, wzObservedCall, wzUnconfirmedCall, wzFewestCall, wzReplayCall}
+use Rattle.estimator.specs.Answers.{estimator_checks, wz_observed_call, wz_unconfirmed_call, wz_fewest_call, wz_replay_call}
 use Rattle.estimator_reply.specs.Results.{room_for_set}
 use Rattle.case_read.specs.Checks.{case_checks}
 use Rattle.step_text.specs.Checks.{step_text_checks}
@@ -74,17 +74,17 @@ never_after {k = k} (inr e) p =
 
 -- ---- a text that passes
 
-case-valid : (text : List ℕ) → Passed (case_checks text) → Valid (readCase text).case
+case-valid : (text : List ℕ) → Passed (case_checks text) → Valid (read_case text).case
 case-valid text p = go (case-judged text)
   where
-    go : SaidBy refused IsCase (case_checks text) (readCase text) → Valid (readCase text).case
+    go : SaidBy refused IsCase (case_checks text) (read_case text) → Valid (read_case text).case
     go (good h (c, e)) = subst⁻¹ (λ (x : CaseRead). Valid x.case) e (read-valid text c e).valid
     go (bad q f e) = absurd (failed_or_passed (case_checks text) q f p)
 
 steps-within : (text : List ℕ) → Passed (step_text_checks text) → length (steps_of text) ≤ most_steps
 steps-within text p = go (steps-judged text)
   where
-    go : SaidBy Refused IsCount (step_text_checks text) (readSteps text) → length (steps_of text) ≤ most_steps
+    go : SaidBy Refused IsCount (step_text_checks text) (read_steps text) → length (steps_of text) ≤ most_steps
     go (good h (n, e)) = omega (arith, steps-count text n e, (steps-found text n e).few)
     go (bad q f e) = absurd (failed_or_passed (step_text_checks text) q f p)
 
@@ -99,15 +99,15 @@ abbrev OwnNever : (Case → List Check) → Type 0
 OwnNever checks = (c : Case) (lent : List ℕ) (n k : ℕ) → Valid c → Never n k → FirstFails (checks c ++ room_for_set lent) n k → ⊥
 
 never_given : (text : List ℕ) (checks : Case → List Check) → OwnNever checks → (lent : List ℕ) (n k : ℕ) → Never n k
-    → FirstFails (estimatorChecks text checks lent) n k → ⊥
+    → FirstFails (estimator_checks text checks lent) n k → ⊥
 never_given text checks own lent n k h f = go (first_in (case_checks text) after n k f)
   where
     after : List Check
-    after = checks (readCase text).case ++ room_for_set lent
+    after = checks (read_case text).case ++ room_for_set lent
 
     go : FirstFails (case_checks text) n k ⊎ (Passed (case_checks text) × FirstFails after n k) → ⊥
     go (inl g) = omega (arith, first-turn 1 (case_checks text) n k (case-turn text) g, never_turn h)
-    go (inr g) = own (readCase text).case lent n k (case-valid text g.0) h g.1
+    go (inr g) = own (read_case text).case lent n k (case-valid text g.0) h g.1
 
 -- by the table, it is given only where its check is the first that fails
 no-five_or_twelve : (call : Call) → AllByTable call
@@ -125,11 +125,11 @@ valid_never : OwnNever observed_checks
 valid_never c lent n k v h (inl f) = f.0 v
 valid_never c lent n k v h (inr f) = never_room lent h f.1
 
-pub wz-observed : NoFiveOrTwelve wzObservedCall
-wz-observed = no-five_or_twelve wzObservedCall by_table.wz-observed (λ text. never_given text observed_checks valid_never)
+pub wz_observed : NoFiveOrTwelve wz_observed_call
+wz_observed = no-five_or_twelve wz_observed_call by_table.wz_observed (λ text. never_given text observed_checks valid_never)
 
-pub wz-unconfirmed : NoFiveOrTwelve wzUnconfirmedCall
-wz-unconfirmed = no-five_or_twelve wzUnconfirmedCall by_table.wz-unconfirmed (λ text. never_given text verdict_checks valid_never)
+pub wz_unconfirmed : NoFiveOrTwelve wz_unconfirmed_call
+wz_unconfirmed = no-five_or_twelve wz_unconfirmed_call by_table.wz_unconfirmed (λ text. never_given text verdict_checks valid_never)
 
 -- then 10, 11
 fewest_never : (budget : ℕ) → OwnNever (λ c. fewest_checks c budget)
@@ -138,9 +138,9 @@ fewest_never budget c lent n k v h (inr (_, inl f)) = never_not 10 (λ e. omega 
 fewest_never budget c lent n k v h (inr (_, inr (_, inl f))) = never_not 11 (λ e. omega (arith, e)) (λ e. omega (arith, e)) h f.1
 fewest_never budget c lent n k v h (inr (_, inr (_, inr f))) = never_room lent h f.1
 
-pub wz-fewest : NoFiveOrTwelve wzFewestCall
-wz-fewest =
-    no-five_or_twelve wzFewestCall by_table.wz-fewest
+pub wz_fewest : NoFiveOrTwelve wz_fewest_call
+wz_fewest =
+    no-five_or_twelve wz_fewest_call by_table.wz_fewest
     (λ (text, budget). never_given text (λ c. fewest_checks c budget) (fewest_never budget))
 
 -- the step text, with 50 added; then 5, 12, and the steps
@@ -168,7 +168,7 @@ replay_never steps c lent n k v h f = go (first_in (fifty ++ replay) (room_for_s
     go (inl g) = in_text (first_in fifty replay n k g)
     go (inr g) = never_room lent h g.1
 
-pub wz-replay : NoFiveOrTwelve wzReplayCall
-wz-replay =
-    no-five_or_twelve wzReplayCall by_table.wz-replay
+pub wz_replay : NoFiveOrTwelve wz_replay_call
+wz_replay =
+    no-five_or_twelve wz_replay_call by_table.wz_replay
     (λ (text, steps). never_given text (λ c. text_replay_checks c steps) (replay_never steps))

@@ -4,20 +4,20 @@ use mathlib.Core.List.{List}
 use Prim.Native.Nat.{ℕ}
 use lib.ListN.{length}
 use Rattle.grid.specs.declared.Case.{Case}
-use Rattle.case_read.specs.Reading.{readCase}
+use Rattle.case_read.specs.Reading.{read_case}
 use Rattle.case_read.specs.declared.ReadAnswer.{ReadAnswer}
 use Rattle.case_read.specs.declared.ReadAnswer.TheVariants as read
 use Rattle.step_replay.specs.Replying.{TextReplayReply}
 use Rattle.observe_calls.specs.Replies.{ObservedReply}
 use Rattle.place_calls.specs.Replies.{VerdictReply, FewestReply}
-use Rattle.estimator.specs.Answers.{ofObserved, ofVerdict, ofFewest, ofReplay, Said, ObservedFor}
+use Rattle.estimator.specs.Answers.{of_observed, of_verdict, of_fewest, of_replay, Said, ObservedFor}
 use Rattle.estimator.specs.Answers.{UnconfirmedFor, FewestFor, ReplayFor, OfRead, OfText}
-use Rattle.estimator.specs.Answers.{wzObservedCall, wzUnconfirmedCall, wzFewestCall, wzReplayCall}
+use Rattle.estimator.specs.Answers.{wz_observed_call, wz_unconfirmed_call, wz_fewest_call, wz_replay_call}
 use Rattle.estimator_reply.specs.Results.{result_of, left_by, Answered}
 use Rattle.estimator_reply.specs.declared.Answer.{Answer}
 use Rattle.demands.specs.Determined.{OneReply}
 use Rattle.demands.proofs.Uniqueness.{observed-set}
-use Rattle.demands.proofs.SitingUniqueness.{cross-validate, place-fewest}
+use Rattle.demands.proofs.SitingUniqueness.{cross_validate, place-fewest}
 use Rattle.demands.proofs.ListUniqueness.{replay-text}
 
 -- P says one answer
@@ -28,10 +28,10 @@ said-unique : {R : Type 0} (promise : R → Type 0) (of : R → Answer) → ((x 
 said-unique promise of u a b p q = p.is ∙ ap of (u p.reply q.reply p.meets q.meets) ∙ sym q.is
 
 text-unique : (text : List ℕ) (P : Case → Answer → Type 0) → ((c : Case) → Unique (P c)) → Unique (OfText text P)
-text-unique text P u a b p q = go (readCase text).answer p q
+text-unique text P u a b p q = go (read_case text).answer p q
   where
-    go : (r : ReadAnswer) → OfRead r (readCase text).case P a → OfRead r (readCase text).case P b → a ≡ b
-    go read.Read p q = u (readCase text).case a b p q
+    go : (r : ReadAnswer) → OfRead r (read_case text).case P a → OfRead r (read_case text).case P b → a ≡ b
+    go read.Read p q = u (read_case text).case a b p q
     go (read.Refused k) p q = p ∙ sym q
 
 -- where P says the answer, the result and every byte are fixed
@@ -45,24 +45,24 @@ fixed P u lent a b left right p q =
 
 -- ---- the four
 
-pub wz-observed : OneReply wzObservedCall
-wz-observed text =
+pub wz_observed : OneReply wz_observed_call
+wz_observed text =
     fixed (OfText text ObservedFor)
-    (text-unique text ObservedFor (λ c. said-unique (ObservedReply c) ofObserved (λ a b p q. (observed-set c tt a b tt tt p q).0)))
+    (text-unique text ObservedFor (λ c. said-unique (ObservedReply c) of_observed (λ a b p q. (observed-set c tt a b tt tt p q).0)))
 
-pub wz-unconfirmed : OneReply wzUnconfirmedCall
-wz-unconfirmed text =
+pub wz_unconfirmed : OneReply wz_unconfirmed_call
+wz_unconfirmed text =
     fixed (OfText text UnconfirmedFor)
-    (text-unique text UnconfirmedFor (λ c. said-unique (VerdictReply c) ofVerdict (λ a b p q. (cross-validate c tt a b tt tt p q).0)))
+    (text-unique text UnconfirmedFor (λ c. said-unique (VerdictReply c) of_verdict (λ a b p q. (cross_validate c tt a b tt tt p q).0)))
 
-pub wz-fewest : OneReply wzFewestCall
-wz-fewest (text, budget) =
+pub wz_fewest : OneReply wz_fewest_call
+wz_fewest (text, budget) =
     fixed (OfText text (FewestFor budget))
     (text-unique text (FewestFor budget)
-    (λ c. said-unique (FewestReply c budget) ofFewest (λ a b p q. (place-fewest (c, budget) tt a b tt tt p q).0)))
+    (λ c. said-unique (FewestReply c budget) of_fewest (λ a b p q. (place-fewest (c, budget) tt a b tt tt p q).0)))
 
-pub wz-replay : OneReply wzReplayCall
-wz-replay (text, steps) =
+pub wz_replay : OneReply wz_replay_call
+wz_replay (text, steps) =
     fixed (OfText text (ReplayFor steps))
     (text-unique text (ReplayFor steps)
-    (λ c. said-unique (TextReplayReply c steps) ofReplay (λ a b p q. (replay-text (c, steps) tt a b tt tt p q).0)))
+    (λ c. said-unique (TextReplayReply c steps) of_replay (λ a b p q. (replay-text (c, steps) tt a b tt tt p q).0)))

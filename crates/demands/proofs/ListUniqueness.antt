@@ -12,7 +12,7 @@ use Rattle.list_follow.specs.Replies.{replay_checks, replay_call, weave_checks, 
 use Rattle.list_value.specs.declared.StepList.{StepList}
 use Rattle.list_follow.specs.declared.Replayed.TheVariants as replayed
 use Rattle.list_follow.specs.declared.Wove.TheVariants as wove
-use Rattle.step_text.specs.Steps.{readSteps, steps_of}
+use Rattle.step_text.specs.Steps.{read_steps, steps_of}
 use Rattle.step_text.specs.declared.StepsRead.{StepsRead}
 use Rattle.step_text.specs.declared.StepsRead.TheVariants as read
 use Rattle.step_replay.specs.Replying.{text_answer, TextReplayAt, replay_text_call}
@@ -47,7 +47,7 @@ replay (c, xs) lent (replayed.Refused r) (replayed.Refused k) left right p q =
     (ap replayed.Refused (failed-unique (replay_checks c xs) r k p q), refl)
 
 pub replay-text : OneReply replay_text_call
-replay-text (c, text) lent a b left right p q = (go (readSteps text) p q, refl)
+replay-text (c, text) lent a b left right p q = (go (read_steps text) p q, refl)
   where
     go : (r : StepsRead) → TextReplayAt c text r a → TextReplayAt c text r b → a ≡ b
     go (read.Steps n) p q = p.2 ∙ ap text_answer (replay (c, steps_of text) tt p.0 q.0 tt tt p.1 q.1).0 ∙ sym q.2

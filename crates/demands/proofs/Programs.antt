@@ -4,9 +4,9 @@ use mathlib.Core.List.{List}
 use Prim.Native.Nat.{ℕ, ◌≤◌}
 use native.Mathlib.Omega.{arith}
 use lib.ListN.{length}
-use Rattle.report_plan.specs.Plan.{planRoom}
-use Rattle.report_day.specs.Day.{dayRoom}
-use Rattle.report_rounds.specs.Rounds.{roundsRoom}
+use Rattle.report_plan.specs.Plan.{plan_room}
+use Rattle.report_day.specs.Day.{day_room}
+use Rattle.report_rounds.specs.Rounds.{rounds_room}
 use Rattle.refusals.specs.declared.Written.{Written}
 use Rattle.refusals.specs.declared.Written.TheVariants.{Bytes, Refused}
 use Rattle.report_lines.specs.Printing.{PrintedReply}
@@ -19,10 +19,10 @@ use Rattle.report_rounds.proofs.program_report.Met as met-rounds
 use Rattle.demands.specs.Programs.{Prints, Programs}
 
 -- where every text that P asks for has at most `most` bytes, and no fewer are lent
-has_room : (P : List ℕ → Type 0) (most : ℕ) → ((t : List ℕ) → P t → length t ≤ most) → (lent left : List ℕ) (r : Written)
+has_room_lem : (P : List ℕ → Type 0) (most : ℕ) → ((t : List ℕ) → P t → length t ≤ most) → (lent left : List ℕ) (r : Written)
     → most ≤ length lent → PrintedReply P lent left r → Prints r
-has_room P most fits lent left (Bytes k) l p = (k, refl)
-has_room P most fits lent left (Refused q) l p = absurd (omega (arith, p.more, fits p.text p.asked, l))
+has_room_lem P most fits lent left (Bytes k) l p = (k, refl)
+has_room_lem P most fits lent left (Refused q) l p = absurd (omega (arith, p.more, fits p.text p.asked, l))
 
 pub programs : {M : Type 1} → Programs M
 programs = record {
@@ -32,7 +32,7 @@ programs = record {
   day_prints = λ κs text out. (tt, λ k left told. told);
   plan_prints = λ κs input out. (tt, λ k left told. told);
   rounds_prints = λ κs text out. (tt, λ k left told. told);
-  day-room = λ text lent left r e. has_room _ dayRoom (day-fits text) lent left r (omega (arith, e));
-  plan-room = λ input lent left r e. has_room _ planRoom (plan_fits input) lent left r (omega (arith, e));
-  rounds-room = λ text lent left r e. has_room _ roundsRoom (rounds-fits text) lent left r (omega (arith, e));
+  day-room = λ text lent left r e. has_room_lem _ day_room (day-fits text) lent left r (omega (arith, e));
+  plan-room = λ input lent left r e. has_room_lem _ plan_room (plan_fits input) lent left r (omega (arith, e));
+  rounds-room = λ text lent left r e. has_room_lem _ rounds_room (rounds-fits text) lent left r (omega (arith, e));
 }

@@ -16,12 +16,12 @@ use Rattle.estimator.proofs.Promised.{wz_observed-promised, wz_unconfirmed-promi
 pub every-promise : EveryPromise
 every-promise = record {
   observed-set = observed-set-promised;
-  firing-figure = firing_figure-promised;
-  test-step = test_step-promised;
+  firing_figure = firing_figure-promised;
+  test_step = test_step-promised;
   derivation = derivation-promised;
   replay = replay-promised;
   weave = weave-promised;
-  cross-validate = cross_validate-promised;
+  cross_validate = cross_validate-promised;
   place-greedy = place-greedy-promised;
   place-fewest = place-fewest-promised;
   read-case = read-case-promised;
@@ -31,10 +31,10 @@ every-promise = record {
   replay-text = replay-text-promised;
   observed-rounds = observed-rounds-promised;
   day-report = day-report-promised;
-  plan-report = plan_report-promised;
+  plan_report = plan_report-promised;
   rounds-report = rounds-report-promised;
-  wz-observed = wz_observed-promised;
-  wz-unconfirmed = wz_unconfirmed-promised;
-  wz-fewest = wz_fewest-promised;
-  wz-replay = wz_replay-promised;
+  wz_observed = wz_observed-promised;
+  wz_unconfirmed = wz_unconfirmed-promised;
+  wz_fewest = wz_fewest-promised;
+  wz_replay = wz_replay-promised;
 }

@@ -20,8 +20,8 @@ printed-one P one text lent a b left right p q =
 pub day-report : OneReply day_report_call
 day-report = printed-one _ day-unique
 
-pub plan-report : OneReply plan_report_call
-plan-report = printed-one _ plan_unique
+pub plan_report : OneReply plan_report_call
+plan_report = printed-one _ plan_unique
 
 pub rounds-report : OneReply rounds_report_call
 rounds-report = printed-one _ rounds-text-unique

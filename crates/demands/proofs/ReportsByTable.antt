@@ -16,7 +16,7 @@ use Rattle.refusals.specs.declared.Refusal.TheVariants.{TextTooLong, WrongForm}
 use Rattle.refusals.specs.Refusals.{Check, check_that, Passed, Failed}
 use Rattle.refusals.proofs.Orders.{itself, failed-unique, failed_or_passed, passed_then, failed_sooner, failed-later}
 use Rattle.grid.specs.Limits.{most_bytes}
-use Rattle.case_read.specs.Reading.{start, refused, read_lines, readCase}
+use Rattle.case_read.specs.Reading.{start, refused, read_lines, read_case}
 use Rattle.case_read.specs.declared.CaseRead.{CaseRead}
 use Rattle.case_read.specs.declared.ReadAnswer.{ReadAnswer}
 use Rattle.case_read.specs.declared.ReadAnswer.TheVariants.{Read, Refused}
@@ -27,7 +27,7 @@ use Rattle.report_day.specs.Day.{DayReport, DayFor, DayPrinted, day_report_call}
 use Rattle.report_day.proofs.Days.{day-unique}
 use Rattle.report_rounds.specs.Rounds.{RoundsReport, RoundsFor, RoundsPrinted, rounds_report_call}
 use Rattle.report_rounds.proofs.Reports.{rounds-text-unique}
-use Rattle.plan_input.specs.Asking.{budgetOf, unasked, asked_with, plan_lines, readPlan}
+use Rattle.plan_input.specs.Asking.{budget_of, unasked, asked_with, plan_lines, read_plan}
 use Rattle.report_plan.specs.Plan.{plan_checks, PlanReport, found, none, PlanFor, PlanPrinted, plan_report_call}
 use Rattle.report_plan.proofs.Unique.{plan_unique}
 use Rattle.demands.specs.Order.{InTableOrder}
@@ -55,8 +55,8 @@ print-meets P one text lent left =
 pub day-report : AllByTable day_report_call
 day-report = print-meets DayPrinted day-unique
 
-pub plan-report : AllByTable plan_report_call
-plan-report = print-meets PlanPrinted plan_unique
+pub plan_report : AllByTable plan_report_call
+plan_report = print-meets PlanPrinted plan_unique
 
 pub rounds-report : AllByTable rounds_report_call
 rounds-report = print-meets RoundsPrinted rounds-text-unique
@@ -80,22 +80,22 @@ printed-met {t = t} checks order (inr (q, f, e)) = record {
 case-printed : (Report : Case → List ℕ → Type 0) (For : ReadAnswer → Case → List ℕ → Type 0)
     → ((c : Case) (t : List ℕ) → For Read c t → Report c t)
     → ((q : Refusal) (c : Case) (t : List ℕ) → For (Refused q) c t → IsRefusedText q t)
-    → (text t : List ℕ) → For (readCase text).answer (readCase text).case t
-    → PrintedByTable (case_checks text) (Report (readCase text).case t) t
+    → (text t : List ℕ) → For (read_case text).answer (read_case text).case t
+    → PrintedByTable (case_checks text) (Report (read_case text).case t) t
 case-printed Report For report line text t p = printed-met (case_checks text) (case_ordered text) (go (case-judged text))
   where
     by : CaseRead → Type 0
     by x = For x.answer x.case t
 
-    go : ReadBy (case_checks text) (readCase text)
-        → (Passed (case_checks text) × Report (readCase text).case t) ⊎ ((q : Refusal) × Failed (case_checks text) q × IsRefusedText q t)
+    go : ReadBy (case_checks text) (read_case text)
+        → (Passed (case_checks text) × Report (read_case text).case t) ⊎ ((q : Refusal) × Failed (case_checks text) q × IsRefusedText q t)
     go (good h (c, e)) = inl (h, subst⁻¹ (λ (x : CaseRead). Report x.case t) e (report c t (subst by e p)))
     go (bad q f e) = inr (q, f, line q _ t (subst by e p))
 
-pub day-printed : (text t : List ℕ) → DayPrinted text t → PrintedByTable (case_checks text) (DayReport (readCase text).case t) t
+pub day-printed : (text t : List ℕ) → DayPrinted text t → PrintedByTable (case_checks text) (DayReport (read_case text).case t) t
 day-printed = case-printed DayReport DayFor (λ c t p. p) (λ q c t p. p)
 
-pub rounds-printed : (text t : List ℕ) → RoundsPrinted text t → PrintedByTable (case_checks text) (RoundsReport (readCase text).case t) t
+pub rounds-printed : (text t : List ℕ) → RoundsPrinted text t → PrintedByTable (case_checks text) (RoundsReport (read_case text).case t) t
 rounds-printed = case-printed RoundsReport RoundsFor (λ c t p. p) (λ q c t p. p)
 
 -- ---- the planning program's input
@@ -108,10 +108,10 @@ plan_line-judged numeral.Wrong r checks h = failing (IsNumber numeral.Wrong) 2 1
 plan_lines-judged : (l : List ℕ) (ms : List (List ℕ)) → ReadBy (plan_line_checks l ms) (plan_lines l ms).read
 unfolding plan_lines
 plan_lines-judged l [] = failing ⊥ 2 1 (WrongForm 1) (λ x. x) (itself (WrongForm 1))
-plan_lines-judged l (m ∷ ms) = plan_line-judged (budgetOf l) (read_lines start 2 m ms) (line_checks start 2 m ms) (lines-judged start 2 m ms)
+plan_lines-judged l (m ∷ ms) = plan_line-judged (budget_of l) (read_lines start 2 m ms) (line_checks start 2 m ms) (lines-judged start 2 m ms)
 
-input-judged : (input : List ℕ) → ReadBy (input_checks input) (readPlan input).read
-unfolding readPlan
+input-judged : (input : List ℕ) → ReadBy (input_checks input) (read_plan input).read
+unfolding read_plan
 input-judged input = go (ltb most_bytes (length input)) refl
   where
     l : List ℕ
@@ -131,17 +131,17 @@ input-judged input = go (ltb most_bytes (length input)) refl
 -- ---- the planning program
 
 pub plan_printed : (input t : List ℕ) → PlanPrinted input t
-    → PrintedByTable (input_checks input ++ plan_checks (readPlan input).read.case (readPlan input).budget)
-    (FewestPrinted (readPlan input).read.case (readPlan input).budget t) t
+    → PrintedByTable (input_checks input ++ plan_checks (read_plan input).read.case (read_plan input).budget)
+    (FewestPrinted (read_plan input).read.case (read_plan input).budget t) t
 plan_printed input t p =
     printed-met (input_checks input ++ rest) (then_ordered 1 (input_checks input) rest (input_ordered input) (input-turn input) follows)
     (go (input-judged input))
   where
     c : Case
-    c = (readPlan input).read.case
+    c = (read_plan input).read.case
 
     budget : ℕ
-    budget = (readPlan input).budget
+    budget = (read_plan input).budget
 
     rest : List Check
     rest = plan_checks c budget
@@ -161,6 +161,6 @@ plan_printed input t p =
     reported h (found sites a f e) = inl (passed_then (input_checks input) rest h a, (sites, f, e))
     reported h (none q f e) = inr (q, failed-later (input_checks input) rest q h f, e)
 
-    go : ReadBy (input_checks input) (readPlan input).read → Outcome
+    go : ReadBy (input_checks input) (read_plan input).read → Outcome
     go (good h (k, e)) = reported h (subst⁻¹ (λ (x : CaseRead). PlanReport x.case budget t) e (subst by e p))
     go (bad q f e) = inr (q, failed_sooner (input_checks input) rest q f, subst by e p)

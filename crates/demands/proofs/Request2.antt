@@ -14,7 +14,7 @@ use Rattle.rules.specs.Rounds.{RoundsFrom, after_rounds}
 use Rattle.rules.proofs.Leasts.{least-unique, observed-few}
 use Rattle.rules.proofs.Rounds.{round-size, rounds-add, rounds-least, rounds-few}
 use Rattle.grid.specs.declared.Case.{Case}
-use Rattle.grid.specs.Cases.{gridOf, Valid}
+use Rattle.grid.specs.Cases.{grid_of, Valid}
 use Rattle.refusals.proofs.Orders.{failed_or_passed}
 use Rattle.observe_calls.specs.declared.Observed.TheVariants as observed
 use Rattle.observe_calls.specs.Replies.{ObservedReply}
@@ -40,9 +40,9 @@ numbers_fit : (c : Case) (room : List ℕ) → Valid c → 2 * c.n ≤ length ro
 numbers_fit c room v l rounds p =
     omega (
       arith,
-      numbers-long (gridOf c) empty rounds p,
+      numbers-long (grid_of c) empty rounds p,
       rounds-few v.proper rounds p,
-      observed-few v.proper (rounds-least (gridOf c) rounds p),
+      observed-few v.proper (rounds-least (grid_of c) rounds p),
       size-empty,
     )
 
@@ -60,8 +60,8 @@ engines c set entry exit k m p q = record {
       ap (λ (i : ℕ). take i exit) q.1.long ∙ ap (take (length (round_numbers rounds))) q.1.written
       ∙ take-append_seam (round_numbers rounds) (drop k entry);
   many = q.1.many;
-  add = rounds-add (gridOf c) empty rounds q.1.are;
-  last = least-unique (gridOf c) (after_rounds empty rounds) (set_of set) (rounds-least (gridOf c) rounds q.1.are) p.1;
+  add = rounds-add (grid_of c) empty rounds q.1.are;
+  last = least-unique (grid_of c) (after_rounds empty rounds) (set_of set) (rounds-least (grid_of c) rounds q.1.are) p.1;
   few = omega (arith, q.1.many, rounds-few q.0.0.proper rounds q.1.are);
 }
   where

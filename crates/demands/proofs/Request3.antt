@@ -9,17 +9,17 @@ use borrow.Author.Tests.{le-ltb}
 use lib.ListN.{length}
 use Rattle.rules.proofs.Ordering.{fewest-set-unique, fewest-some, fewest-more}
 use Rattle.text_field.specs.Split.{split, same, bytes, line_feed}
-use Rattle.text_field.specs.Number.{isDigit, number_from, numeral_of}
+use Rattle.text_field.specs.Number.{is_digit, number_from, numeral_of}
 use Rattle.grid.specs.declared.Case.{Case}
 use Rattle.grid.specs.Limits.{most_bytes, most_budget, largest_budget}
 use Rattle.refusals.specs.declared.Refusal.TheVariants.{NoCover}
 use Rattle.refusals.proofs.Orders.{itself, refusal-unique, failed_or_passed}
 use Rattle.case_read.specs.declared.ReadAnswer.{ReadAnswer}
 use Rattle.case_read.specs.declared.ReadAnswer.TheVariants.{Read, Refused}
-use Rattle.case_read.specs.Reading.{readText}
+use Rattle.case_read.specs.Reading.{read_text}
 use Rattle.report_lines.specs.Printing.{refused_text, IsRefusedText}
 use Rattle.plan_input.specs.declared.Asked.{Asked}
-use Rattle.plan_input.specs.Asking.{default_budget, planFields, budgetOf, plan_lines, readPlan}
+use Rattle.plan_input.specs.Asking.{default_budget, plan_fields, budget_of, plan_lines, read_plan}
 use Rattle.report_plan.specs.Plan.{plan_checks, plan_text, PlanReport, PlanFor}
 use Rattle.report_plan.specs.Plan.PlanReport.{found, none}
 use Rattle.report_plan.proofs.Unique.{plan_unique}
@@ -48,28 +48,28 @@ by_answer (Refused r) c budget more s t l m p q = inl (p ∙ sym q)
 
 -- the text's case, whose lines count from 2, and this budget
 abbrev asking : ℕ → List ℕ → Asked
-asking budget text = record { budget = budget; read = readText 2 text }
+asking budget text = record { budget = budget; read = read_text 2 text }
 
 -- this plan line asks for that, before every text that it leaves room for
 abbrev Asks : String → ℕ → Type 0
-Asks line budget = (text : List ℕ) → length (bytes line ++ text) ≤ most_bytes → readPlan (bytes line ++ text) ≡ asking budget text
+Asks line budget = (text : List ℕ) → length (bytes line ++ text) ≤ most_bytes → read_plan (bytes line ++ text) ≡ asking budget text
 
 -- an input within the byte limit asks for what its lines say
 reads_lines : (input : List ℕ) → length input ≤ most_bytes
-    → readPlan input ≡ plan_lines (split line_feed input).first (split line_feed input).rest
-unfolding readPlan
+    → read_plan input ≡ plan_lines (split line_feed input).first (split line_feed input).rest
+unfolding read_plan
 reads_lines input l = rw (le-ltb _ _ l)
 
 alone-asks : Asks "plan\n" default_budget
-unfolding split same budgetOf planFields plan_lines readText
+unfolding split same budget_of plan_fields plan_lines read_text
 alone-asks text l = reads_lines (bytes "plan\n" ++ text) l
 
 three_asks : Asks "plan\t3\n" default_budget
-unfolding split same budgetOf planFields plan_lines readText isDigit number_from numeral_of
+unfolding split same budget_of plan_fields plan_lines read_text is_digit number_from numeral_of
 three_asks text l = reads_lines (bytes "plan\t3\n" ++ text) l
 
 eight_asks : Asks "plan\t8\n" largest_budget
-unfolding split same budgetOf planFields plan_lines readText isDigit number_from numeral_of
+unfolding split same budget_of plan_fields plan_lines read_text is_digit number_from numeral_of
 eight_asks text l = reads_lines (bytes "plan\t8\n" ++ text) l
 
 -- ---- what is printed
@@ -85,7 +85,7 @@ means text t alone l p q =
 
 former : BesidePlanAlone "plan\t8\n" (λ t alone. (alone ≡ t) ⊎ IsRefusedText NoCover alone)
 former text t alone l p q =
-    let read = readText 2 text in
+    let read = read_text 2 text in
     by_answer read.answer read.case default_budget largest_budget alone t (omega arith) (omega arith)
     (subst (PrintedFor alone) (alone-asks text (omega arith)) q) (subst (PrintedFor t) (eight_asks text l) p)
 

@@ -5,7 +5,7 @@ use Prim.Native.Nat.{ℕ}
 use lib.ListN.{length, drop}
 use Rattle.busset.specs.Sets.{empty}
 use Rattle.rules.proofs.Rounds.{rounds-unique}
-use Rattle.grid.specs.Cases.{gridOf}
+use Rattle.grid.specs.Cases.{grid_of}
 use Rattle.refusals.proofs.Orders.{failed-unique, failed_or_passed}
 use Rattle.round_calls.specs.declared.RoundsAnswer.TheVariants.{Listed, Refused}
 use Rattle.round_calls.specs.Replies.{round_numbers, rounds_checks, observed_rounds_call}
@@ -13,7 +13,7 @@ use Rattle.demands.specs.Determined.{OneReply}
 
 pub observed-rounds : OneReply observed_rounds_call
 observed-rounds c entry (Listed j m) (Listed k n) left right p q =
-    let same = rounds-unique (gridOf c) empty p.1.rounds q.1.rounds p.1.are q.1.are in
+    let same = rounds-unique (grid_of c) empty p.1.rounds q.1.rounds p.1.are q.1.are in
     let numbers : j ≡ k = p.1.long ∙ ap (λ (rs : List (List ℕ)). length (round_numbers rs)) same ∙ sym q.1.long in
     let count : m ≡ n = p.1.many ∙ ap length same ∙ sym q.1.many in (
       ap₂ Listed numbers count,

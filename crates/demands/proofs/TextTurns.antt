@@ -10,18 +10,18 @@ use lib.ListN.{length}
 use Rattle.step.specs.declared.Step.{Step}
 use Rattle.refusals.specs.Refusals.{Check, check_that}
 use Rattle.text_field.specs.Split.{split, line_feed}
-use Rattle.case_line.specs.Record.{recordOf}
-use Rattle.step_line.specs.StepLine.{stepLineOf}
+use Rattle.case_line.specs.Record.{record_of}
+use Rattle.step_line.specs.StepLine.{step_line_of}
 use Rattle.case_line.specs.declared.Record.{Record}
 use Rattle.case_line.specs.declared.Record.TheVariants.{Grid, Bus, Line, Circuits, Pmu, End, Wrong}
 use Rattle.step_line.specs.declared.StepLine.{StepLine}
 use Rattle.step_line.specs.declared.StepLine.TheVariants as line
-use Rattle.case_judge.specs.Judging.{inOrder}
+use Rattle.case_judge.specs.Judging.{in_order}
 use Rattle.grid.specs.Limits.{most_bytes}
 use Rattle.case_read.specs.Reading.{Reader, start, next_reader}
 use Rattle.demands.specs.Order.{turn_of12, turn, Precedes, InTableOrder}
 use Rattle.demands.proofs.Turns.{in_table, Ahead, ahead_most, ahead_first, TurnsBy, ComesAfter, later-follows}
-use Rattle.case_read.specs.Checks.{NothingFollows, afterRecord, line_checks, case_checks}
+use Rattle.case_read.specs.Checks.{NothingFollows, after_record, line_checks, case_checks}
 use Rattle.step_text.specs.Checks.{HasTurn, after_step, step_line_checks, step_text_checks}
 use Rattle.step_replay.specs.Replying.{with_fifty}
 use Rattle.demands.specs.Printed.{plan_line_checks, input_checks}
@@ -33,7 +33,7 @@ abbrev line_turn : ℕ
 line_turn = 1
 
 -- P holds of what comes after a record
-after-record : (P : List Check → Type 0) (x : Record) (end on : List Check) → P end → P on → P (afterRecord x end on)
+after-record : (P : List Check → Type 0) (x : Record) (end on : List Check) → P end → P on → P (after_record x end on)
 after-record P (Grid n) end on p q = q
 after-record P (Bus b z site) end on p q = q
 after-record P (Line a b) end on p q = q
@@ -46,10 +46,10 @@ lines_ordered : (s : Reader) (k : ℕ) (l : List ℕ) (ms : List (List ℕ)) (p 
     → InTableOrder (p ∷ line_checks s k l ms)
 lines_ordered s k l [] p before = (in_table p (omega (arith, ahead_most p before)), ahead_first p 2 before refl, refl)
 lines_ordered s k l (m ∷ ms) p before =
-    let fourth = check_that (inOrder s.place (recordOf l) ≡ true) 4 k in
-    let on = lines_ordered (next_reader s (recordOf l)) (k + 1) m ms fourth (inr (refl, omega arith)) in
-    let after = after-record (λ qs. InTableOrder (fourth ∷ qs)) (recordOf l) (check_that (NothingFollows m ms) 2 (k + 1) ∷ [])
-    (line_checks (next_reader s (recordOf l)) (k + 1) m ms) (refl, inr (refl, inl (omega arith)), refl) on in (
+    let fourth = check_that (in_order s.place (record_of l) ≡ true) 4 k in
+    let on = lines_ordered (next_reader s (record_of l)) (k + 1) m ms fourth (inr (refl, omega arith)) in
+    let after = after-record (λ qs. InTableOrder (fourth ∷ qs)) (record_of l) (check_that (NothingFollows m ms) 2 (k + 1) ∷ [])
+    (line_checks (next_reader s (record_of l)) (k + 1) m ms) (refl, inr (refl, inl (omega arith)), refl) on in (
       in_table p (omega (arith, ahead_most p before)),
       ahead_first p 2 before refl,
       (refl, inr (refl, inr (refl, lit< tt)), (refl, inr (refl, inr (refl, lit< tt)), after)),
@@ -58,14 +58,14 @@ lines_ordered s k l (m ∷ ms) p before =
 lines-turn : (s : Reader) (k : ℕ) (l : List ℕ) (ms : List (List ℕ)) → TurnsBy line_turn (line_checks s k l ms)
 lines-turn s k l [] = (lit≤ tt, tt)
 lines-turn s k l (m ∷ ms) =
-    let on = lines-turn (next_reader s (recordOf l)) (k + 1) m ms in (
+    let on = lines-turn (next_reader s (record_of l)) (k + 1) m ms in (
       lit≤ tt,
       (
         lit≤ tt,
         (
           lit≤ tt,
-          after-record (TurnsBy line_turn) (recordOf l) (check_that (NothingFollows m ms) 2 (k + 1) ∷ [])
-              (line_checks (next_reader s (recordOf l)) (k + 1) m ms) (lit≤ tt, tt) on,
+          after-record (TurnsBy line_turn) (record_of l) (check_that (NothingFollows m ms) 2 (k + 1) ∷ [])
+              (line_checks (next_reader s (record_of l)) (k + 1) m ms) (lit≤ tt, tt) on,
         ),
       ),
     )
@@ -109,9 +109,9 @@ step-lines_ordered : (k : ℕ) (l : List ℕ) (ms : List (List ℕ)) (p : Check)
 step-lines_ordered k l [] p some before = (in_table p (omega (arith, ahead_most p before)), ahead_first p 2 before refl, refl)
 step-lines_ordered k l (m ∷ ms) p some before =
     let e = twelve-at-a-line k some in
-    let twelfth = check_that (HasTurn (stepLineOf l) k) 12 k in
+    let twelfth = check_that (HasTurn (step_line_of l) k) 12 k in
     let on = step-lines_ordered (k + 1) m ms twelfth (omega arith) (inr (e, omega arith)) in
-    let after = after-step (λ qs. InTableOrder (twelfth ∷ qs)) (stepLineOf l) (check_that (NothingFollows m ms) 2 (k + 1) ∷ [])
+    let after = after-step (λ qs. InTableOrder (twelfth ∷ qs)) (step_line_of l) (check_that (NothingFollows m ms) 2 (k + 1) ∷ [])
     (step_line_checks (k + 1) m ms) (refl, inr (e, inl (omega arith)), refl) on in (
       in_table p (omega (arith, ahead_most p before)),
       ahead_first p 2 before refl,
@@ -137,7 +137,7 @@ step-lines_shift k l (m ∷ ms) some =
         (lit≤ tt, refl),
         (
           (omega (arith, e), omega (arith, e)),
-          after-step AllShift (stepLineOf l) (check_that (NothingFollows m ms) 2 (k + 1) ∷ [])
+          after-step AllShift (step_line_of l) (check_that (NothingFollows m ms) 2 (k + 1) ∷ [])
               (step_line_checks (k + 1) m ms) ((lit≤ tt, refl), tt) on,
         ),
       ),

@@ -21,7 +21,7 @@ use Rattle.case_read.specs.Reading.{got, refused}
 use Rattle.case_read.specs.Checks.{case_checks}
 use Rattle.case_read.specs.declared.CaseRead.{CaseRead}
 use Rattle.case_read.specs.declared.ReadAnswer.TheVariants as read
-use Rattle.step_text.specs.Steps.{readSteps, steps_of}
+use Rattle.step_text.specs.Steps.{read_steps, steps_of}
 use Rattle.step_text.specs.Checks.{step_text_checks, steps_read_checks}
 use Rattle.step_text.specs.Taking.{with_room, leaves, read_steps_call}
 use Rattle.step_text.specs.declared.StepsRead.{StepsRead}
@@ -87,14 +87,14 @@ check-steps text before after r p =
     (said-ends steps_apart (step_text_checks text) r (subst⁻¹ (SaidBy Refused IsCount (step_text_checks text)) p (steps-judged text)))
 
 -- the steps have room, or 6
-abbrev hasRoom : List ℕ → ℕ → List Check
-hasRoom text room = check_that (length (steps_of text) ≤ room) 6 0 ∷ []
+abbrev has_room : List ℕ → ℕ → List Check
+has_room text room = check_that (length (steps_of text) ≤ room) 6 0 ∷ []
 
 -- where the text is good, it has as many steps as it says
-room-judged : (text : List ℕ) (room : ℕ) (r : StepsRead) → readSteps text ≡ r → SaidBy Refused IsCount (step_text_checks text) r
+room-judged : (text : List ℕ) (room : ℕ) (r : StepsRead) → read_steps text ≡ r → SaidBy Refused IsCount (step_text_checks text) r
     → Ends (steps_read_checks text room) (Refuses Refused (with_room room r))
 room-judged text room r e (bad q f d) =
-    ends_sooner (step_text_checks text) (hasRoom text room) (Refuses Refused (with_room room r)) (number_of q) (place_of q)
+    ends_sooner (step_text_checks text) (has_room text room) (Refuses Refused (with_room room r)) (number_of q) (place_of q)
     (failed-first (step_text_checks text) q f) (q, same, itself q)
     (λ m o h. let s : q ≡ h.0 = steps_apart.one q h.0 (sym same ∙ h.1) in
     (ap number_of s ∙ h.2.numbered, ap place_of s ∙ h.2.placed))
@@ -102,29 +102,29 @@ room-judged text room r e (bad q f d) =
     same : with_room room r ≡ Refused q
     same = ap (with_room room) d
 room-judged text room r e (good p (n, d)) =
-    ends-later (step_text_checks text) (hasRoom text room) (Refuses Refused (with_room room r)) p
-    (subst⁻¹ (λ (x : StepsRead). Ends (hasRoom text room) (Refuses Refused (with_room room x))) d (go (ltb room n) refl))
+    ends-later (step_text_checks text) (has_room text room) (Refuses Refused (with_room room r)) p
+    (subst⁻¹ (λ (x : StepsRead). Ends (has_room text room) (Refuses Refused (with_room room x))) d (go (ltb room n) refl))
   where
     many : length (steps_of text) ≡ n
     many = steps-count text n (e ∙ d)
 
-    go : (b : Bool) → ltb room n ≡ b → Ends (hasRoom text room) (Refuses Refused (cond b (Refused NoRoom) (Steps n)))
+    go : (b : Bool) → ltb room n ≡ b → Ends (has_room text room) (Refuses Refused (cond b (Refused NoRoom) (Steps n)))
     go true h =
-        said-ends steps_apart (hasRoom text room) (Refused NoRoom)
+        said-ends steps_apart (has_room text room) (Refused NoRoom)
         (failing (length (steps_of text) ≤ room) 6 0 NoRoom (λ l. omega (arith, l, many, ltb→lt room n (subst⁻¹ T h tt)))
         (itself NoRoom))
     go false h =
-        said-ends steps_apart (hasRoom text room) (Steps n)
+        said-ends steps_apart (has_room text room) (Steps n)
         (good (omega (arith, many, nltb→le room n (subst⁻¹ (λ (b : Bool). T (not b)) h tt)), tt) (n, refl))
 
 pub read-steps : AllByTable read_steps_call
 read-steps text before after r p =
     met (steps_read_checks text (length before)) (Refuses Refused r)
-    (then_ordered 1 (step_text_checks text) (hasRoom text (length before)) (step-text_ordered text) (step-text-turn text)
-    (later-follows 1 (hasRoom text (length before)) (lit≤ tt) (lit< tt) refl))
+    (then_ordered 1 (step_text_checks text) (has_room text (length before)) (step-text_ordered text) (step-text-turn text)
+    (later-follows 1 (has_room text (length before)) (lit≤ tt) (lit< tt) refl))
     (λ n k h. p.1 ∙ ap (λ (x : StepsRead). leaves x (steps_of text) before) h.1)
     (subst⁻¹ (λ (x : StepsRead). Ends (steps_read_checks text (length before)) (Refuses Refused x)) p.0
-    (room-judged text (length before) (readSteps text) refl (steps-judged text)))
+    (room-judged text (length before) (read_steps text) refl (steps-judged text)))
 
 -- ---- a step text replayed
 
@@ -157,10 +157,10 @@ text-replay-ends c text r p = go (steps-judged text)
         (fifty-first (step_text_checks text) (number_of q) (place_of q) (failed-first (step_text_checks text) q a))
         (record { numbered = refl; placed = refl }) (λ m o h. (h.numbered, h.placed))
 
-    read_as : {x : StepsRead} → readSteps text ≡ x → TextReplayAt c text x r
+    read_as : {x : StepsRead} → read_steps text ≡ x → TextReplayAt c text x r
     read_as e = subst (λ (x : StepsRead). TextReplayAt c text x r) e p
 
-    go : SaidBy Refused IsCount (step_text_checks text) (readSteps text) → Ends (fifty ++ steps) (TextRefuses r)
+    go : SaidBy Refused IsCount (step_text_checks text) (read_steps text) → Ends (fifty ++ steps) (TextRefuses r)
     go (good a (n, e)) =
         let t = read_as e in
         ends-later fifty steps (TextRefuses r) (fifty-passed (step_text_checks text) a)

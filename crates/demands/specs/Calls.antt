@@ -12,14 +12,14 @@ use Rattle.round_calls.specs.Replies.{observed_rounds_call}
 use Rattle.report_day.specs.Day.{day_report_call}
 use Rattle.report_plan.specs.Plan.{plan_report_call}
 use Rattle.report_rounds.specs.Rounds.{rounds_report_call}
-use Rattle.estimator.specs.Answers.{wzObservedCall, wzUnconfirmedCall, wzFewestCall, wzReplayCall}
+use Rattle.estimator.specs.Answers.{wz_observed_call, wz_unconfirmed_call, wz_fewest_call, wz_replay_call}
 use Rattle.observe_calls.proofs.observed_set.Statement as observed-set
-use Rattle.observe_calls.proofs.firing_figure.Statement as firing-figure
-use Rattle.observe_calls.proofs.test_step.Statement as test-step
+use Rattle.observe_calls.proofs.firing_figure.Statement as firing_figure
+use Rattle.observe_calls.proofs.test_step.Statement as test_step
 use Rattle.list_derive.proofs.derivation.Statement as derivation
 use Rattle.list_calls.proofs.replay.Statement as replay
 use Rattle.list_calls.proofs.weave.Statement as weave
-use Rattle.place_calls.proofs.cross_validate.Statement as cross-validate
+use Rattle.place_calls.proofs.cross_validate.Statement as cross_validate
 use Rattle.place_calls.proofs.place_greedy.Statement as place-greedy
 use Rattle.place_calls.proofs.place_fewest.Statement as place-fewest
 use Rattle.case_read.proofs.read_case.Statement as read-case
@@ -29,20 +29,20 @@ use Rattle.step_records.proofs.read_steps.Statement as read-steps
 use Rattle.step_replay.proofs.replay_text.Statement as replay-text
 use Rattle.round_calls.proofs.observed_rounds.Statement as observed-rounds
 use Rattle.report_day.proofs.day_report.Statement as day-report
-use Rattle.report_plan.proofs.plan_report.Statement as plan-report
+use Rattle.report_plan.proofs.plan_report.Statement as plan_report
 use Rattle.report_rounds.proofs.rounds_report.Statement as rounds-report
-use Rattle.estimator.proofs.wz_observed.Statement as wz-observed
-use Rattle.estimator.proofs.wz_unconfirmed.Statement as wz-unconfirmed
-use Rattle.estimator.proofs.wz_fewest.Statement as wz-fewest
-use Rattle.estimator.proofs.wz_replay.Statement as wz-replay
+use Rattle.estimator.proofs.wz_observed.Statement as wz_observed
+use Rattle.estimator.proofs.wz_unconfirmed.Statement as wz_unconfirmed
+use Rattle.estimator.proofs.wz_fewest.Statement as wz_fewest
+use Rattle.estimator.proofs.wz_replay.Statement as wz_replay
 
 -- the state estimator's calls
 abbrev pub estimator_calls : List Call
 estimator_calls =
-    wzObservedCall
-    ∷ wzUnconfirmedCall
-    ∷ wzFewestCall
-    ∷ wzReplayCall
+    wz_observed_call
+    ∷ wz_unconfirmed_call
+    ∷ wz_fewest_call
+    ∷ wz_replay_call
     ∷ []
 
 -- every public call: what it is given and lent, and what it promises, checks and refuses
@@ -72,12 +72,12 @@ public_calls =
 -- none of these contracts has a requirement
 pub record EveryCall (M : Type 1) : Type 2 where
   pub observed-set : observed-set.statement M
-  pub firing-figure : firing-figure.statement M
-  pub test-step : test-step.statement M
+  pub firing_figure : firing_figure.statement M
+  pub test_step : test_step.statement M
   pub derivation : derivation.statement M
   pub replay : replay.statement M
   pub weave : weave.statement M
-  pub cross-validate : cross-validate.statement M
+  pub cross_validate : cross_validate.statement M
   pub place-greedy : place-greedy.statement M
   pub place-fewest : place-fewest.statement M
   pub read-case : read-case.statement M
@@ -87,9 +87,9 @@ pub record EveryCall (M : Type 1) : Type 2 where
   pub replay-text : replay-text.statement M
   pub observed-rounds : observed-rounds.statement M
   pub day-report : day-report.statement M
-  pub plan-report : plan-report.statement M
+  pub plan_report : plan_report.statement M
   pub rounds-report : rounds-report.statement M
-  pub wz-observed : wz-observed.statement M
-  pub wz-unconfirmed : wz-unconfirmed.statement M
-  pub wz-fewest : wz-fewest.statement M
-  pub wz-replay : wz-replay.statement M
+  pub wz_observed : wz_observed.statement M
+  pub wz_unconfirmed : wz_unconfirmed.statement M
+  pub wz_fewest : wz_fewest.statement M
+  pub wz_replay : wz_replay.statement M

@@ -3,10 +3,10 @@
 -- document 01's table, and a refusal leaves the lent memory unaltered.
 use Rattle.std.specs.Prelude.{List, ◌++◌, ℕ}
 use Rattle.basics.specs.Lists.{Each}
-use Rattle.case_read.specs.Reading.{readCase}
+use Rattle.case_read.specs.Reading.{read_case}
 use Rattle.case_read.specs.Checks.{case_checks}
 use Rattle.report_day.specs.Day.{DayReport, DayPrinted}
-use Rattle.plan_input.specs.Asking.{readPlan}
+use Rattle.plan_input.specs.Asking.{read_plan}
 use Rattle.report_plan.specs.Plan.{plan_checks, PlanPrinted}
 use Rattle.report_rounds.specs.Rounds.{RoundsReport, RoundsPrinted}
 use Rattle.demands.specs.Calls.{public_calls, EveryCall}
@@ -22,9 +22,9 @@ pub record Demand1 (M : Type 1) : Type 2 where
   -- a reply that a call's promise allows is by the table
   pub by_table : Each AllByTable public_calls
   -- and so is what the reports print
-  pub day-printed : (text t : List ℕ) → DayPrinted text t → PrintedByTable (case_checks text) (DayReport (readCase text).case t) t
+  pub day-printed : (text t : List ℕ) → DayPrinted text t → PrintedByTable (case_checks text) (DayReport (read_case text).case t) t
   pub plan_printed : (input t : List ℕ) → PlanPrinted input t
-      → PrintedByTable (input_checks input ++ plan_checks (readPlan input).read.case (readPlan input).budget)
-      (FewestPrinted (readPlan input).read.case (readPlan input).budget t) t
+      → PrintedByTable (input_checks input ++ plan_checks (read_plan input).read.case (read_plan input).budget)
+      (FewestPrinted (read_plan input).read.case (read_plan input).budget t) t
   pub rounds-printed : (text t : List ℕ) → RoundsPrinted text t
-      → PrintedByTable (case_checks text) (RoundsReport (readCase text).case t) t
+      → PrintedByTable (case_checks text) (RoundsReport (read_case text).case t) t

@@ -12,7 +12,7 @@ use Rattle.rules.specs.Placing as placing
 use Rattle.grid.specs.declared.Case.{Case}
 use Rattle.refusals.specs.declared.Refusal.{Refusal}
 use Rattle.grid.specs.Limits.{most_budget}
-use Rattle.grid.specs.Cases.{gridOf, Sized, Valid}
+use Rattle.grid.specs.Cases.{grid_of, Sized, Valid}
 use Rattle.refusals.specs.Refusals.{Is}
 use Rattle.refusals.specs.Calls.{Refuses}
 use Rattle.list_follow.specs.Replies.{ReplayReply}
@@ -41,18 +41,18 @@ pub record TooSmallExactly (g : Grid) (budget : ℕ) (reply : Fewest) : Type 0 w
 pub record Demand2 : Type 0 where
   -- for a valid case the observed set is the least one closed under the two published rules
   pub observed : (c : Case) (r : Observed) → Valid c → ObservedReply c r
-      → (set : SetWord) × (r ≡ observed.Set set) × ObservedSet (gridOf c) (set_of set)
+      → (set : SetWord) × (r ≡ observed.Set set) × ObservedSet (grid_of c) (set_of set)
   -- and a list of steps is accepted exactly when each step is allowed where it stands
-  pub accepted : (c : Case) (xs : List Step) (r : Replayed) → Valid c → ReplayReply c xs r → AcceptedExactly (gridOf c) xs r
+  pub accepted : (c : Case) (xs : List Step) (r : Replayed) → Valid c → ReplayReply c xs r → AcceptedExactly (grid_of c) xs r
   -- a finished list has as many steps as the observed set has buses
   pub finished_length : (g : Grid) (xs : List Step) (set : ℕ) → Accepted g xs → Finished g (reached xs) → ObservedSet g set
       → length xs ≡ size set
   -- the fewest-unit answer is the first smallest placement that covers
   pub fewest : (c : Case) (budget : ℕ) (sites : SetWord) → FewestReply c budget (fewest.Sites sites)
-      → placing.FewestSites (gridOf c) budget (set_of sites)
+      → placing.FewestSites (grid_of c) budget (set_of sites)
   -- for a valid case, a budget of at most 8 is refused as too small exactly when none within it does
   pub too_small : (c : Case) (budget : ℕ) (r : Fewest) → Valid c → budget ≤ most_budget c.n → FewestReply c budget r
-      → TooSmallExactly (gridOf c) budget r
+      → TooSmallExactly (grid_of c) budget r
   -- case texts read and written are inverse: what is written is read back
   pub read_back : (c : Case) (lent left : List ℕ) (count : ℕ) → Sized c → CaseWrittenReply c lent (written.Bytes count) left
       → CaseReadReply (take count left) (got c)

@@ -13,7 +13,7 @@ use Rattle.basics.specs.Lists.{Each, Some}
 use Rattle.rules.specs.Weaving.{woven, Shuffle}
 use Rattle.grid.specs.declared.Case.{Case}
 use Rattle.grid.specs.Limits.{most_steps}
-use Rattle.grid.specs.Cases.{gridOf, Valid}
+use Rattle.grid.specs.Cases.{grid_of, Valid}
 use Rattle.list_follow.specs.Replies.{WeaveReply}
 use Rattle.list_follow.specs.declared.Wove.{Wove}
 use Rattle.list_follow.specs.declared.Wove.TheVariants as wove
@@ -22,7 +22,7 @@ use Rattle.list_follow.specs.declared.Wove.TheVariants as wove
 pub record Received (c : Case) (desks : List (List Step)) (received before : List Step) : Type 0 where
   -- each desk's list is accepted alone for one valid case
   pub valid : Valid c
-  pub alone : Each (Accepted (gridOf c)) desks
+  pub alone : Each (Accepted (grid_of c)) desks
   -- the lists are shuffled in any manner that preserves each desk's order
   pub shuffled : Shuffle desks received
   -- at most 1,024 steps in all, with room for the result
@@ -37,7 +37,7 @@ pub record Weaves (c : Case) (desks : List (List Step)) (received before after :
   pub answers : r ≡ wove.Written count set
   -- it writes a list that is itself accepted, and leaves the rest of the records
   pub records : after ≡ written_into (woven received) before
-  pub accepted : Accepted (gridOf c) (woven received)
+  pub accepted : Accepted (grid_of c) (woven received)
   -- it answers the count written and the set reached
   pub counted : count ≡ length (woven received)
   pub reaches : set_of set ≡ reached (woven received)
@@ -47,7 +47,7 @@ pub record Weaves (c : Case) (desks : List (List Step)) (received before after :
   -- one step for each of them
   pub each_once : count ≡ size (set_of set)
   -- if any desk had finished, that is demand 2's set
-  pub least : Some (λ xs. Finished (gridOf c) (reached xs)) desks → ObservedSet (gridOf c) (set_of set)
+  pub least : Some (λ xs. Finished (grid_of c) (reached xs)) desks → ObservedSet (grid_of c) (set_of set)
 
 pub record Demand3 : Type 0 where
   pub weaves : (c : Case) (desks : List (List Step)) (received before after : List Step) (r : Wove)

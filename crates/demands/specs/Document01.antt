@@ -9,7 +9,7 @@ use Rattle.rules.specs.Steps.{Names}
 use Rattle.rules.specs.Figures.{Runs}
 use Rattle.grid.specs.declared.Case.{Case}
 use Rattle.grid.specs.Limits.{most_buses, most_steps, most_bytes}
-use Rattle.grid.specs.Cases.{gridOf, Sized, Valid}
+use Rattle.grid.specs.Cases.{grid_of, Sized, Valid}
 use Rattle.case_read.specs.Reading.{got}
 use Rattle.case_line.specs.CaseText.{case_text}
 use Rattle.step_text.specs.Steps.{steps_of}
@@ -43,7 +43,7 @@ pub record Document01 : Type 0 where
   pub figure_range : (c : Case) (s : SetWord) (i j : ℕ) (z : ℤ) → FigureReply c s i j (figured.Figure z) → Runs (most_buses - 2) z
   -- it is 1 exactly when i and all its other neighbours are observed
   pub figure_usable : (c : Case) (s : SetWord) (i j : ℕ) (z : ℤ) → FigureReply c s i j (figured.Figure z)
-      → OneExactly (gridOf c) (stated c s) i j z
+      → OneExactly (grid_of c) (stated c s) i j z
   -- two different texts never give the same case
   pub one-text : (x y : List ℕ) (c : Case) → CaseReadReply x (got c) → CaseReadReply y (got c) → x ≡ y
   -- a case that is read is valid: 5 does not refuse it

@@ -6,13 +6,13 @@ use Rattle.text_field.specs.declared.Numeral.TheVariants as numeral
 use Rattle.rules.specs.Placing.{FewestSites}
 use Rattle.grid.specs.declared.Case.{Case}
 use Rattle.grid.specs.Limits.{most_bytes}
-use Rattle.grid.specs.Cases.{gridOf}
+use Rattle.grid.specs.Cases.{grid_of}
 use Rattle.refusals.specs.declared.Refusal.{Refusal}
 use Rattle.refusals.specs.Refusals.{Check, check_that, Passed, Failed}
 use Rattle.case_read.specs.Reading.{start}
 use Rattle.case_read.specs.Checks.{line_checks}
 use Rattle.report_lines.specs.Printing.{IsRefusedText}
-use Rattle.plan_input.specs.Asking.{budgetOf}
+use Rattle.plan_input.specs.Asking.{budget_of}
 use Rattle.report_plan.specs.Plan.{IsPlanText}
 use Rattle.demands.specs.Order.{InTableOrder}
 
@@ -27,7 +27,7 @@ pub record PrintedByTable (checks : List Check) (Report : Type 0) (t : List ℕ)
 
 -- t is the text of the fewest within the budget
 abbrev pub FewestPrinted : Case → ℕ → List ℕ → Type 0
-FewestPrinted c budget t = (sites : ℕ) × FewestSites (gridOf c) budget sites × IsPlanText c.n sites t
+FewestPrinted c budget t = (sites : ℕ) × FewestSites (grid_of c) budget sites × IsPlanText c.n sites t
 
 -- ---- the planning program's input
 
@@ -39,7 +39,7 @@ IsNumber numeral.Wrong = ⊥
 -- the plan line, or 2 at line 1, and then the case text's lines, which count from 2
 abbrev pub plan_line_checks : List ℕ → List (List ℕ) → List Check
 plan_line_checks l [] = check_that ⊥ 2 1 ∷ []
-plan_line_checks l (m ∷ ms) = check_that (IsNumber (budgetOf l)) 2 1 ∷ line_checks start 2 m ms
+plan_line_checks l (m ∷ ms) = check_that (IsNumber (budget_of l)) 2 1 ∷ line_checks start 2 m ms
 
 -- 1 for the whole input, then the first bad line
 abbrev pub input_checks : List ℕ → List Check

@@ -5,9 +5,9 @@ use Rattle.std.specs.Borrow.{Bor}
 use Rattle.refusals.specs.declared.Written.{Written}
 use Rattle.refusals.specs.declared.Written.TheVariants.{Bytes}
 use Rattle.report_lines.specs.Printing.{Printed}
-use Rattle.report_day.specs.Day.{DayPrinted, dayRoom, day_report_call}
-use Rattle.report_plan.specs.Plan.{PlanPrinted, planRoom, plan_report_call}
-use Rattle.report_rounds.specs.Rounds.{RoundsPrinted, roundsRoom, rounds_report_call}
+use Rattle.report_day.specs.Day.{DayPrinted, day_room, day_report_call}
+use Rattle.report_plan.specs.Plan.{PlanPrinted, plan_room, plan_report_call}
+use Rattle.report_rounds.specs.Rounds.{RoundsPrinted, rounds_room, rounds_report_call}
 use Rattle.report_day.proofs.program_report.Statement as day
 use Rattle.report_day.proofs.program_report.Reads as day-contract
 use Rattle.report_plan.proofs.program_report.Statement as plan
@@ -36,7 +36,7 @@ pub record Programs (M : Type 1) : Type 2 where
       × ((k : ℕ) (left : Bor (List ℕ)) → rounds-contract.Learnt κs (text, (out, tt)) k (text, (left, tt))
       → Printed (RoundsPrinted text.now) out.now left.now k)
   -- in so many bytes the report is never refused with 6
-  pub day-room : (text lent left : List ℕ) (r : Written) → length lent ≡ dayRoom → day_report_call.promise text lent left r → Prints r
-  pub plan-room : (input lent left : List ℕ) (r : Written) → length lent ≡ planRoom → plan_report_call.promise input lent left r → Prints r
-  pub rounds-room : (text lent left : List ℕ) (r : Written) → length lent ≡ roundsRoom → rounds_report_call.promise text lent left r
+  pub day-room : (text lent left : List ℕ) (r : Written) → length lent ≡ day_room → day_report_call.promise text lent left r → Prints r
+  pub plan-room : (input lent left : List ℕ) (r : Written) → length lent ≡ plan_room → plan_report_call.promise input lent left r → Prints r
+  pub rounds-room : (text lent left : List ℕ) (r : Written) → length lent ≡ rounds_room → rounds_report_call.promise text lent left r
       → Prints r

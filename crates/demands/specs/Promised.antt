@@ -24,14 +24,14 @@ use Rattle.round_calls.specs.Replies.{observed_rounds_call}
 use Rattle.report_day.specs.Day.{day_report_call}
 use Rattle.report_plan.specs.Plan.{plan_report_call}
 use Rattle.report_rounds.specs.Rounds.{rounds_report_call}
-use Rattle.estimator.specs.Answers.{wzObservedCall, wzUnconfirmedCall, wzFewestCall, wzReplayCall}
+use Rattle.estimator.specs.Answers.{wz_observed_call, wz_unconfirmed_call, wz_fewest_call, wz_replay_call}
 use Rattle.observe_calls.proofs.observed_set.Reads as observed-set
-use Rattle.observe_calls.proofs.firing_figure.Reads as firing-figure
-use Rattle.observe_calls.proofs.test_step.Reads as test-step
+use Rattle.observe_calls.proofs.firing_figure.Reads as firing_figure
+use Rattle.observe_calls.proofs.test_step.Reads as test_step
 use Rattle.list_derive.proofs.derivation.Reads as derivation
 use Rattle.list_calls.specs.contracts.replay as replay
 use Rattle.list_calls.specs.contracts.weave as weave
-use Rattle.place_calls.proofs.cross_validate.Reads as cross-validate
+use Rattle.place_calls.proofs.cross_validate.Reads as cross_validate
 use Rattle.place_calls.proofs.place_greedy.Reads as place-greedy
 use Rattle.place_calls.proofs.place_fewest.Reads as place-fewest
 use Rattle.case_read.proofs.read_case.Reads as read-case
@@ -41,12 +41,12 @@ use Rattle.step_records.specs.contracts.read_steps as read-steps
 use Rattle.step_replay.proofs.replay_text.Reads as replay-text
 use Rattle.round_calls.proofs.observed_rounds.Reads as observed-rounds
 use Rattle.report_day.proofs.day_report.Reads as day-report
-use Rattle.report_plan.proofs.plan_report.Reads as plan-report
+use Rattle.report_plan.proofs.plan_report.Reads as plan_report
 use Rattle.report_rounds.proofs.rounds_report.Reads as rounds-report
-use Rattle.estimator.proofs.wz_observed.Reads as wz-observed
-use Rattle.estimator.proofs.wz_unconfirmed.Reads as wz-unconfirmed
-use Rattle.estimator.proofs.wz_fewest.Reads as wz-fewest
-use Rattle.estimator.proofs.wz_replay.Reads as wz-replay
+use Rattle.estimator.proofs.wz_observed.Reads as wz_observed
+use Rattle.estimator.proofs.wz_unconfirmed.Reads as wz_unconfirmed
+use Rattle.estimator.proofs.wz_fewest.Reads as wz_fewest
+use Rattle.estimator.proofs.wz_replay.Reads as wz_replay
 
 -- ---- the contracts of replay, weave and read_steps are not read for a caller: their clauses are assertions, in every model
 
@@ -63,9 +63,9 @@ Tells w P φ = ent w.𝓤 P (fact w.𝓤 φ)
 pub record EveryPromise : Type 2 where
   -- the grid
   pub observed-set : Keeps observed_set_call (λ (c, _). c) (λ a. tt) (observed-set.Asked tt) (observed-set.Learnt tt)
-  pub firing-figure : Keeps firing_figure_call (λ (c, (s, (i, (j, _)))). (c, s, i, j)) (λ a. tt)
-      (firing-figure.Asked tt) (firing-figure.Learnt tt)
-  pub test-step : Keeps test_step_call (λ (c, (s, (x, _))). (c, s, x)) (λ a. tt) (test-step.Asked tt) (test-step.Learnt tt)
+  pub firing_figure : Keeps firing_figure_call (λ (c, (s, (i, (j, _)))). (c, s, i, j)) (λ a. tt)
+      (firing_figure.Asked tt) (firing_figure.Learnt tt)
+  pub test_step : Keeps test_step_call (λ (c, (s, (x, _))). (c, s, x)) (λ a. tt) (test_step.Asked tt) (test_step.Learnt tt)
   -- lists of steps
   pub derivation : Keeps derivation_call (λ (c, _). c) (λ a. tt) (derivation.Asked tt) (derivation.Learnt tt)
   pub replay : (w : World) (κs : Lfts 1) (c : Case) (steps : Bor (List Step)) →
@@ -78,7 +78,7 @@ pub record EveryPromise : Type 2 where
       × ((r : Wove) (left : Bor (List Step)) → Tells w (says.ensures tt r (c, (steps, (left, tt))))
       (weave_call.promise (c, steps.now) out.now left.now r))
   -- placing units
-  pub cross-validate : Keeps cross_validate_call (λ (c, _). c) (λ a. tt) (cross-validate.Asked tt) (cross-validate.Learnt tt)
+  pub cross_validate : Keeps cross_validate_call (λ (c, _). c) (λ a. tt) (cross_validate.Asked tt) (cross_validate.Learnt tt)
   pub place-greedy : (κs : Lfts 1) → Keeps place_greedy_call (λ (c, (budget, _)). (c, budget)) (λ (_, (_, (room, _))). room.now)
       (place-greedy.Asked κs) (place-greedy.Learnt κs)
   pub place-fewest : Keeps place_fewest_call (λ (c, (budget, _)). (c, budget)) (λ a. tt) (place-fewest.Asked tt) (place-fewest.Learnt tt)
@@ -101,16 +101,16 @@ pub record EveryPromise : Type 2 where
   -- the reports
   pub day-report : (κs : Lfts 2) → Keeps day_report_call (λ (text, _). text.now) (λ (_, (out, _)). out.now)
       (day-report.Asked κs) (day-report.Learnt κs)
-  pub plan-report : (κs : Lfts 2) → Keeps plan_report_call (λ (input, _). input.now) (λ (_, (out, _)). out.now)
-      (plan-report.Asked κs) (plan-report.Learnt κs)
+  pub plan_report : (κs : Lfts 2) → Keeps plan_report_call (λ (input, _). input.now) (λ (_, (out, _)). out.now)
+      (plan_report.Asked κs) (plan_report.Learnt κs)
   pub rounds-report : (κs : Lfts 2) → Keeps rounds_report_call (λ (text, _). text.now) (λ (_, (out, _)). out.now)
       (rounds-report.Asked κs) (rounds-report.Learnt κs)
   -- the state estimator's calls
-  pub wz-observed : (κs : Lfts 2) → Keeps wzObservedCall (λ (text, _). text.now) (λ (_, (set, _)). set.now)
-      (wz-observed.Asked κs) (wz-observed.Learnt κs)
-  pub wz-unconfirmed : (κs : Lfts 2) → Keeps wzUnconfirmedCall (λ (text, _). text.now) (λ (_, (set, _)). set.now)
-      (wz-unconfirmed.Asked κs) (wz-unconfirmed.Learnt κs)
-  pub wz-fewest : (κs : Lfts 2) → Keeps wzFewestCall (λ (text, (budget, _)). (text.now, budget)) (λ (_, (_, (set, _))). set.now)
-      (wz-fewest.Asked κs) (wz-fewest.Learnt κs)
-  pub wz-replay : (κs : Lfts 3) → Keeps wzReplayCall (λ (text, (steps, _)). (text.now, steps.now)) (λ (_, (_, (set, _))). set.now)
-      (wz-replay.Asked κs) (wz-replay.Learnt κs)
+  pub wz_observed : (κs : Lfts 2) → Keeps wz_observed_call (λ (text, _). text.now) (λ (_, (set, _)). set.now)
+      (wz_observed.Asked κs) (wz_observed.Learnt κs)
+  pub wz_unconfirmed : (κs : Lfts 2) → Keeps wz_unconfirmed_call (λ (text, _). text.now) (λ (_, (set, _)). set.now)
+      (wz_unconfirmed.Asked κs) (wz_unconfirmed.Learnt κs)
+  pub wz_fewest : (κs : Lfts 2) → Keeps wz_fewest_call (λ (text, (budget, _)). (text.now, budget)) (λ (_, (_, (set, _))). set.now)
+      (wz_fewest.Asked κs) (wz_fewest.Learnt κs)
+  pub wz_replay : (κs : Lfts 3) → Keeps wz_replay_call (λ (text, (steps, _)). (text.now, steps.now)) (λ (_, (_, (set, _))). set.now)
+      (wz_replay.Asked κs) (wz_replay.Learnt κs)

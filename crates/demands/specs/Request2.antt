@@ -6,7 +6,7 @@ use Rattle.busset.specs.Sets.{empty, set_of}
 use Rattle.busset.specs.Held.{SetWord}
 use Rattle.rules.specs.Rounds.{AddsBus, RoundsOf, after_rounds}
 use Rattle.grid.specs.declared.Case.{Case}
-use Rattle.grid.specs.Cases.{gridOf, Valid}
+use Rattle.grid.specs.Cases.{grid_of, Valid}
 use Rattle.observe_calls.specs.declared.Observed.TheVariants as observed
 use Rattle.observe_calls.specs.Replies.{ObservedReply}
 use Rattle.round_calls.specs.declared.RoundsAnswer.{RoundsAnswer}
@@ -17,7 +17,7 @@ use Rattle.round_calls.specs.Replies.{round_numbers, RoundsReply}
 pub record BothEngines (c : Case) (set : SetWord) (room : List ℕ) (numbers count : ℕ) : Type 0 where
   -- the list of the rounds, and how many there are
   pub rounds : List (List ℕ)
-  pub are : RoundsOf (gridOf c) rounds
+  pub are : RoundsOf (grid_of c) rounds
   pub written : take numbers room ≡ round_numbers rounds
   pub many : count ≡ length rounds
   -- each of them adds a bus

@@ -3,7 +3,7 @@ use Rattle.std.specs.Prelude.{◌≡◌, List, ◌++◌, ℕ}
 use Rattle.grid.specs.declared.Case.{Case}
 use Rattle.refusals.specs.Refusals.{Check}
 use Rattle.refusals.specs.Calls.{Call}
-use Rattle.case_read.specs.Reading.{readCase}
+use Rattle.case_read.specs.Reading.{read_case}
 use Rattle.case_read.specs.Checks.{case_checks}
 use Rattle.case_read.specs.declared.ReadAnswer.{ReadAnswer}
 use Rattle.case_read.specs.declared.ReadAnswer.TheVariants as read
@@ -25,25 +25,25 @@ use Rattle.estimator_reply.specs.Results.{Answered, room_for_set, Coded}
 -- ---- what is answered of a call's reply
 
 -- the observed set
-abbrev pub ofObserved : Observed → Answer
-ofObserved (observed.Set s) = Set s
-ofObserved (observed.Refused q) = Refused q
+abbrev pub of_observed : Observed → Answer
+of_observed (observed.Set s) = Set s
+of_observed (observed.Refused q) = Refused q
 
 -- the unconfirmed set
-abbrev pub ofVerdict : Verdict → Answer
-ofVerdict (verdict.Unconfirmed s) = Set s
-ofVerdict (verdict.Refused q) = Refused q
+abbrev pub of_verdict : Verdict → Answer
+of_verdict (verdict.Unconfirmed s) = Set s
+of_verdict (verdict.Refused q) = Refused q
 
 -- the added sites
-abbrev pub ofFewest : Fewest → Answer
-ofFewest (fewest.Sites s) = Set s
-ofFewest (fewest.Refused q) = Refused q
+abbrev pub of_fewest : Fewest → Answer
+of_fewest (fewest.Sites s) = Set s
+of_fewest (fewest.Refused q) = Refused q
 
 -- the set reached
-abbrev pub ofReplay : TextReplayed → Answer
-ofReplay (replayed.Reached s finished) = Set s
-ofReplay (replayed.Refused q) = Refused q
-ofReplay (replayed.Unread q) = Unread q
+abbrev pub of_replay : TextReplayed → Answer
+of_replay (replayed.Reached s finished) = Set s
+of_replay (replayed.Refused q) = Refused q
+of_replay (replayed.Unread q) = Unread q
 
 -- ---- what is answered of a case
 
@@ -55,19 +55,19 @@ pub record Said {R : Type 0} (promise : R → Type 0) (of : R → Answer) (a : A
 
 -- observed set
 abbrev pub ObservedFor : Case → Answer → Type 0
-ObservedFor c = Said (ObservedReply c) ofObserved
+ObservedFor c = Said (ObservedReply c) of_observed
 
 -- unconfirmed set
 abbrev pub UnconfirmedFor : Case → Answer → Type 0
-UnconfirmedFor c = Said (VerdictReply c) ofVerdict
+UnconfirmedFor c = Said (VerdictReply c) of_verdict
 
 -- fewest, with a budget
 abbrev pub FewestFor : ℕ → Case → Answer → Type 0
-FewestFor budget c = Said (FewestReply c budget) ofFewest
+FewestFor budget c = Said (FewestReply c budget) of_fewest
 
 -- replay, with a step text
 abbrev pub ReplayFor : List ℕ → Case → Answer → Type 0
-ReplayFor steps c = Said (TextReplayReply c steps) ofReplay
+ReplayFor steps c = Said (TextReplayReply c steps) of_replay
 
 -- ---- the case text is read first
 
@@ -78,54 +78,54 @@ OfRead (read.Refused q) c P a = a ≡ Refused q
 
 -- the refusal of the case text, or what is answered of its case
 abbrev pub OfText : List ℕ → (Case → Answer → Type 0) → Answer → Type 0
-OfText text P a = OfRead (readCase text).answer (readCase text).case P a
+OfText text P a = OfRead (read_case text).answer (read_case text).case P a
 
 -- ---- the calls
 
 -- the case text, then what the call on its case checks, then 6
-abbrev pub estimatorChecks : List ℕ → (Case → List Check) → List ℕ → List Check
-estimatorChecks text checks lent = case_checks text ++ (checks (readCase text).case ++ room_for_set lent)
+abbrev pub estimator_checks : List ℕ → (Case → List Check) → List ℕ → List Check
+estimator_checks text checks lent = case_checks text ++ (checks (read_case text).case ++ room_for_set lent)
 
 -- `wz_observed`
-abbrev pub wzObservedCall : Call
-wzObservedCall = record {
+abbrev pub wz_observed_call : Call
+wz_observed_call = record {
   Input = List ℕ;
   Lent = List ℕ;
   Reply = ℕ;
   promise = λ text lent left r. Answered (OfText text ObservedFor) lent left r;
-  checks = λ text lent. estimatorChecks text observed_checks lent;
+  checks = λ text lent. estimator_checks text observed_checks lent;
   refuses = Coded;
 }
 
 -- `wz_unconfirmed`
-abbrev pub wzUnconfirmedCall : Call
-wzUnconfirmedCall = record {
+abbrev pub wz_unconfirmed_call : Call
+wz_unconfirmed_call = record {
   Input = List ℕ;
   Lent = List ℕ;
   Reply = ℕ;
   promise = λ text lent left r. Answered (OfText text UnconfirmedFor) lent left r;
-  checks = λ text lent. estimatorChecks text verdict_checks lent;
+  checks = λ text lent. estimator_checks text verdict_checks lent;
   refuses = Coded;
 }
 
 -- `wz_fewest`
-abbrev pub wzFewestCall : Call
-wzFewestCall = record {
+abbrev pub wz_fewest_call : Call
+wz_fewest_call = record {
   Input = List ℕ × ℕ;
   Lent = List ℕ;
   Reply = ℕ;
   promise = λ (text, budget) lent left r. Answered (OfText text (FewestFor budget)) lent left r;
-  checks = λ (text, budget) lent. estimatorChecks text (λ c. fewest_checks c budget) lent;
+  checks = λ (text, budget) lent. estimator_checks text (λ c. fewest_checks c budget) lent;
   refuses = Coded;
 }
 
 -- `wz_replay`
-abbrev pub wzReplayCall : Call
-wzReplayCall = record {
+abbrev pub wz_replay_call : Call
+wz_replay_call = record {
   Input = List ℕ × List ℕ;
   Lent = List ℕ;
   Reply = ℕ;
   promise = λ (text, steps) lent left r. Answered (OfText text (ReplayFor steps)) lent left r;
-  checks = λ (text, steps) lent. estimatorChecks text (λ c. text_replay_checks c steps) lent;
+  checks = λ (text, steps) lent. estimator_checks text (λ c. text_replay_checks c steps) lent;
   refuses = Coded;
 }

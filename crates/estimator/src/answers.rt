@@ -1,13 +1,13 @@
 // What each question comes to. The case text is read first.
 ghost use Rattle.std.specs.Prelude.{◌≡◌};
-ghost use Rattle.estimator.specs.Answers.{ofObserved, ofVerdict, ofFewest, ofReplay};
+ghost use Rattle.estimator.specs.Answers.{of_observed, of_verdict, of_fewest, of_replay};
 ghost use Rattle.estimator.specs.Answers.{OfText, ObservedFor, UnconfirmedFor, FewestFor, ReplayFor};
 
 use estimator_reply::Answer;
 use wozgrzyt::{Fewest, Observed, ReadAnswer, TextReplayed, Verdict, read_case};
 
 fn of_observed(r: Observed) -> Answer
-    ensures { result ≡ ofObserved r }
+    ensures { result ≡ of_observed r }
 {
     match r {
         Observed::Set(s) => Answer::Set(s),
@@ -16,7 +16,7 @@ fn of_observed(r: Observed) -> Answer
 }
 
 fn of_verdict(r: Verdict) -> Answer
-    ensures { result ≡ ofVerdict r }
+    ensures { result ≡ of_verdict r }
 {
     match r {
         Verdict::Unconfirmed(s) => Answer::Set(s),
@@ -25,7 +25,7 @@ fn of_verdict(r: Verdict) -> Answer
 }
 
 fn of_fewest(r: Fewest) -> Answer
-    ensures { result ≡ ofFewest r }
+    ensures { result ≡ of_fewest r }
 {
     match r {
         Fewest::Sites(s) => Answer::Set(s),
@@ -34,7 +34,7 @@ fn of_fewest(r: Fewest) -> Answer
 }
 
 fn of_replay(r: TextReplayed) -> Answer
-    ensures { result ≡ ofReplay r }
+    ensures { result ≡ of_replay r }
 {
     match r {
         TextReplayed::Reached(s, _) => Answer::Set(s),

@@ -1,7 +1,7 @@
 -- The result that a C program gets, and the bytes that it lent.
 use Rattle.std.specs.Prelude.{◌≡◌, cond, List, [], ◌∷◌, ◌++◌, ℕ, ◌+◌, ◌*◌, ◌≤◌, ◌<◌, ltb, length, drop}
 use Rattle.busset.specs.Held.{SetWord, empty_word}
-use Rattle.busset.specs.Bytes.{set_bytes, setLength}
+use Rattle.busset.specs.Bytes.{set_bytes, set_length}
 use Rattle.refusals.specs.declared.Refusal.{Refusal}
 use Rattle.refusals.specs.declared.Refusal.TheVariants.{NoRoom}
 use Rattle.refusals.specs.Refusals.{number_of, place_of, Check, check_that}
@@ -15,13 +15,13 @@ code_of q = 100 * place_of q + number_of q
 
 -- the result if `room` bytes are lent: 0, or a refusal, plus 50 in reading the step text; fewer than eight bytes are 6, after all others
 abbrev pub result_of : Answer → ℕ → ℕ
-result_of (Set s) room = cond (ltb room setLength) (code_of NoRoom) 0
+result_of (Set s) room = cond (ltb room set_length) (code_of NoRoom) 0
 result_of (Refused q) room = code_of q
 result_of (Unread q) room = code_of q + 50
 
 -- the bytes lent, afterwards: the set in the first eight and the others as they were; a refusal leaves all
 abbrev pub left_by : Answer → List ℕ → List ℕ
-left_by (Set s) lent = cond (ltb (length lent) setLength) lent (set_bytes s ++ drop setLength lent)
+left_by (Set s) lent = cond (ltb (length lent) set_length) lent (set_bytes s ++ drop set_length lent)
 left_by (Refused q) lent = lent
 left_by (Unread q) lent = lent
 
@@ -38,7 +38,7 @@ pub record Answered (P : Answer → Type 0) (lent left : List ℕ) (r : ℕ) : T
 
 -- the set has room, or 6: what every C function checks last
 abbrev pub room_for_set : List ℕ → List Check
-room_for_set lent = check_that (setLength ≤ length lent) 6 0 ∷ []
+room_for_set lent = check_that (set_length ≤ length lent) 6 0 ∷ []
 
 -- the result is the refusal with this number and this place: 100 times the place plus the number
 pub record Coded (result number place : ℕ) : Type 0 where
@@ -49,10 +49,10 @@ pub record Coded (result number place : ℕ) : Type 0 where
 -- ---- on the way
 
 -- the word of the set that an answer has: of no bus where it is a refusal
-abbrev pub setIn : Answer → SetWord
-setIn (Set s) = s
-setIn (Refused q) = empty_word
-setIn (Unread q) = empty_word
+abbrev pub set_in : Answer → SetWord
+set_in (Set s) = s
+set_in (Refused q) = empty_word
+set_in (Unread q) = empty_word
 
 -- no place is beyond the line after the last that a step text can have
 abbrev pub farthest : ℕ

@@ -1,8 +1,8 @@
 // The number that answers the C program, and the eight bytes.
 ghost use Rattle.std.specs.Prelude.{◌≡◌, ◌++◌, ◌≤◌, length, drop};
-ghost use Rattle.busset.specs.Bytes.{set_bytes, setLength};
+ghost use Rattle.busset.specs.Bytes.{set_bytes, set_length};
 ghost use Rattle.refusals.specs.Refusals.{place_of};
-ghost use Rattle.estimator_reply.specs.Results.{farthest, PlaceInRange, code_of, result_of, setIn, Replied};
+ghost use Rattle.estimator_reply.specs.Results.{farthest, PlaceInRange, code_of, result_of, set_in, Replied};
 
 use busset::{BusSet, SET_BYTES};
 use refusals::Refusal;
@@ -27,8 +27,8 @@ fn code(q: Refusal) -> u32
 
 // The set goes into the first eight bytes lent.
 fn fill(s: BusSet, set: &mut [u8])
-    requires { setLength ≤ length set.old }
-    ensures { set.new ≡ set_bytes s ++ drop setLength set.old }
+    requires { set_length ≤ length set.old }
+    ensures { set.new ≡ set_bytes s ++ drop set_length set.old }
 {
     for i in 0..SET_BYTES {
         set[i] = busset::byte_of(s, i);
@@ -37,7 +37,7 @@ fn fill(s: BusSet, set: &mut [u8])
 
 // The set that an answer has: none where it is a refusal.
 fn set_of(answer: Answer) -> BusSet
-    ensures { result ≡ setIn answer }
+    ensures { result ≡ set_in answer }
 {
     match answer {
         Answer::Set(s) => s,

@@ -12,8 +12,8 @@ use Rattle.busset.specs.Held.{word_of}
 use Rattle.busset.proofs.Members.{add-here, add-there, less-here, less-there}
 use Rattle.busset.proofs.Holding.{word_set}
 use Rattle.grid.specs.Limits.{most_buses, most_circuits}
-use Rattle.grid.specs.Rows.{bus_sets, rowsLength, Rows, set_at, neighbours, circuits, with_bit, isOdd, with_circuits}
-use Rattle.grid.specs.Rows.{with_end, withLine}
+use Rattle.grid.specs.Rows.{bus_sets, rows_length, Rows, set_at, neighbours, circuits, with_bit, is_odd, with_circuits}
+use Rattle.grid.specs.Rows.{with_end, with_line}
 use Rattle.grid.proofs.Rows.{set-bus, set_put_same, set_put_other, set-put_length}
 
 -- 1 where i and j are joined as seen from i, else 0
@@ -100,76 +100,76 @@ circuits-few rows a b = omega arith
 
 -- ---- the four digits
 
-odd_digit : (k : ℕ) → cond (isOdd k) 1 0 ≡ k % 2
-odd_digit k = go (isOdd k) refl
+odd_digit : (k : ℕ) → cond (is_odd k) 1 0 ≡ k % 2
+odd_digit k = go (is_odd k) refl
   where
-    go : (t : Bool) → isOdd k ≡ t → cond t 1 0 ≡ k % 2
+    go : (t : Bool) → is_odd k ≡ t → cond t 1 0 ≡ k % 2
     go true e = sym (eqb-true (k % 2) 1 e)
     go false e = omega (arith, eqb-false (k % 2) 1 e)
 
 module _ (rows : Rows) (a b k : ℕ) (y : Seen rows a b) where
   -- the rows after each digit
   abbrev one : Rows
-  one = with_bit rows a 1 b (isOdd k)
+  one = with_bit rows a 1 b (is_odd k)
 
   abbrev two : Rows
-  two = with_bit one a 2 b (isOdd (k / 2))
+  two = with_bit one a 2 b (is_odd (k / 2))
 
   abbrev three : Rows
-  three = with_bit two a 3 b (isOdd (k / 2 / 2))
+  three = with_bit two a 3 b (is_odd (k / 2 / 2))
 
   abbrev four : Rows
   four = with_circuits rows a b k
 
   in_one : Seen one a b
-  in_one = bit_seen rows a 1 b (isOdd k) y (omega arith)
+  in_one = bit_seen rows a 1 b (is_odd k) y (omega arith)
 
   in_two : Seen two a b
-  in_two = bit_seen one a 2 b (isOdd (k / 2)) in_one (omega arith)
+  in_two = bit_seen one a 2 b (is_odd (k / 2)) in_one (omega arith)
 
   in_three : Seen three a b
-  in_three = bit_seen two a 3 b (isOdd (k / 2 / 2)) in_two (omega arith)
+  in_three = bit_seen two a 3 b (is_odd (k / 2 / 2)) in_two (omega arith)
 
   circuits_there : (x j c : ℕ) → j < bus_sets → ((x ≡ a) → (c ≡ b) → 1 ≤ j → ⊥) → bit (set_at four x j) c ≡ bit (set_at rows x j) c
   unfolding with_circuits
   circuits_there x j c m n =
-      bit_there three a 4 b (isOdd (k / 2 / 2 / 2)) in_three (omega arith) x j c m (λ e f g. n e g (omega arith))
-      ∙ bit_there two a 3 b (isOdd (k / 2 / 2)) in_two (omega arith) x j c m (λ e f g. n e g (omega arith))
-      ∙ bit_there one a 2 b (isOdd (k / 2)) in_one (omega arith) x j c m (λ e f g. n e g (omega arith))
-      ∙ bit_there rows a 1 b (isOdd k) y (omega arith) x j c m (λ e f g. n e g (omega arith))
+      bit_there three a 4 b (is_odd (k / 2 / 2 / 2)) in_three (omega arith) x j c m (λ e f g. n e g (omega arith))
+      ∙ bit_there two a 3 b (is_odd (k / 2 / 2)) in_two (omega arith) x j c m (λ e f g. n e g (omega arith))
+      ∙ bit_there one a 2 b (is_odd (k / 2)) in_one (omega arith) x j c m (λ e f g. n e g (omega arith))
+      ∙ bit_there rows a 1 b (is_odd k) y (omega arith) x j c m (λ e f g. n e g (omega arith))
 
   circuits_here : k < 2 * most_circuits → circuits four a b ≡ k
   unfolding circuits with_circuits
   circuits_here l = omega (arith, first, second, third, fourth)
     where
       fourth : bit (set_at four a 4) b ≡ k / 2 / 2 / 2 % 2
-      fourth = bit_here three a 4 b (isOdd (k / 2 / 2 / 2)) in_three (omega arith) ∙ odd_digit (k / 2 / 2 / 2)
+      fourth = bit_here three a 4 b (is_odd (k / 2 / 2 / 2)) in_three (omega arith) ∙ odd_digit (k / 2 / 2 / 2)
 
       third : bit (set_at four a 3) b ≡ k / 2 / 2 % 2
       third =
-          bit_there three a 4 b (isOdd (k / 2 / 2 / 2)) in_three (omega arith) a 3 b (omega arith) (λ e f g. omega arith)
-          ∙ bit_here two a 3 b (isOdd (k / 2 / 2)) in_two (omega arith) ∙ odd_digit (k / 2 / 2)
+          bit_there three a 4 b (is_odd (k / 2 / 2 / 2)) in_three (omega arith) a 3 b (omega arith) (λ e f g. omega arith)
+          ∙ bit_here two a 3 b (is_odd (k / 2 / 2)) in_two (omega arith) ∙ odd_digit (k / 2 / 2)
 
       second : bit (set_at four a 2) b ≡ k / 2 % 2
       second =
-          bit_there three a 4 b (isOdd (k / 2 / 2 / 2)) in_three (omega arith) a 2 b (omega arith) (λ e f g. omega arith)
-          ∙ bit_there two a 3 b (isOdd (k / 2 / 2)) in_two (omega arith) a 2 b (omega arith) (λ e f g. omega arith)
-          ∙ bit_here one a 2 b (isOdd (k / 2)) in_one (omega arith) ∙ odd_digit (k / 2)
+          bit_there three a 4 b (is_odd (k / 2 / 2 / 2)) in_three (omega arith) a 2 b (omega arith) (λ e f g. omega arith)
+          ∙ bit_there two a 3 b (is_odd (k / 2 / 2)) in_two (omega arith) a 2 b (omega arith) (λ e f g. omega arith)
+          ∙ bit_here one a 2 b (is_odd (k / 2)) in_one (omega arith) ∙ odd_digit (k / 2)
 
       first : bit (set_at four a 1) b ≡ k % 2
       first =
-          bit_there three a 4 b (isOdd (k / 2 / 2 / 2)) in_three (omega arith) a 1 b (omega arith) (λ e f g. omega arith)
-          ∙ bit_there two a 3 b (isOdd (k / 2 / 2)) in_two (omega arith) a 1 b (omega arith) (λ e f g. omega arith)
-          ∙ bit_there one a 2 b (isOdd (k / 2)) in_one (omega arith) a 1 b (omega arith) (λ e f g. omega arith)
-          ∙ bit_here rows a 1 b (isOdd k) y (omega arith) ∙ odd_digit k
+          bit_there three a 4 b (is_odd (k / 2 / 2 / 2)) in_three (omega arith) a 1 b (omega arith) (λ e f g. omega arith)
+          ∙ bit_there two a 3 b (is_odd (k / 2 / 2)) in_two (omega arith) a 1 b (omega arith) (λ e f g. omega arith)
+          ∙ bit_there one a 2 b (is_odd (k / 2)) in_one (omega arith) a 1 b (omega arith) (λ e f g. omega arith)
+          ∙ bit_here rows a 1 b (is_odd k) y (omega arith) ∙ odd_digit k
 
   circuits_length : length four ≡ length rows
   unfolding with_circuits
   circuits_length =
-      bit_length three a 4 b (isOdd (k / 2 / 2 / 2)) in_three (omega arith)
-      ∙ bit_length two a 3 b (isOdd (k / 2 / 2)) in_two (omega arith)
-      ∙ bit_length one a 2 b (isOdd (k / 2)) in_one (omega arith)
-      ∙ bit_length rows a 1 b (isOdd k) y (omega arith)
+      bit_length three a 4 b (is_odd (k / 2 / 2 / 2)) in_three (omega arith)
+      ∙ bit_length two a 3 b (is_odd (k / 2 / 2)) in_two (omega arith)
+      ∙ bit_length one a 2 b (is_odd (k / 2)) in_one (omega arith)
+      ∙ bit_length rows a 1 b (is_odd k) y (omega arith)
 
 -- ---- one end
 
@@ -209,7 +209,7 @@ pub record Pair (a b : ℕ) : Type 0 where
   pub less : a < b
   pub high : b ≤ most_buses
 
-module _ (rows : Rows) (a b k : ℕ) (l : length rows ≡ rowsLength) (p : Pair a b) where
+module _ (rows : Rows) (a b k : ℕ) (l : length rows ≡ rows_length) (p : Pair a b) where
   lower : Seen rows a b
   lower = record { from = p.one; held = omega (arith, p.less, p.high); to = omega (arith, p.less) }
 
@@ -220,33 +220,33 @@ module _ (rows : Rows) (a b k : ℕ) (l : length rows ≡ rowsLength) (p : Pair 
   higher = record { from = omega (arith, p.less); held = omega (arith, end_length rows a b k lower, p.high); to = p.one }
 
   -- what a sees of b stays when b sees a
-  back_there : SameSeen half (withLine rows a b k) a b
-  unfolding withLine
+  back_there : SameSeen half (with_line rows a b k) a b
+  unfolding with_line
   back_there = end_there half b a k higher a b (λ e f. omega (arith, p.less))
 
-  pub line_here : joined (withLine rows a b k) a b ≡ 1
+  pub line_here : joined (with_line rows a b k) a b ≡ 1
   line_here = same-joined back_there ∙ end_joined rows a b k lower
 
-  pub line_back : joined (withLine rows a b k) b a ≡ 1
-  unfolding withLine
+  pub line_back : joined (with_line rows a b k) b a ≡ 1
+  unfolding with_line
   line_back = end_joined half b a k higher
 
-  pub count_here : k < 2 * most_circuits → circuits (withLine rows a b k) a b ≡ k
+  pub count_here : k < 2 * most_circuits → circuits (with_line rows a b k) a b ≡ k
   count_here m = same-circuits back_there ∙ end_circuits rows a b k lower m
 
-  pub count_back : k < 2 * most_circuits → circuits (withLine rows a b k) b a ≡ k
-  unfolding withLine
+  pub count_back : k < 2 * most_circuits → circuits (with_line rows a b k) b a ≡ k
+  unfolding with_line
   count_back m = end_circuits half b a k higher m
 
-  pub line_other : (i j : ℕ) → ((i ≡ a) → (j ≡ b) → ⊥) → ((i ≡ b) → (j ≡ a) → ⊥) → SameSeen rows (withLine rows a b k) i j
-  unfolding withLine
+  pub line_other : (i j : ℕ) → ((i ≡ a) → (j ≡ b) → ⊥) → ((i ≡ b) → (j ≡ a) → ⊥) → SameSeen rows (with_line rows a b k) i j
+  unfolding with_line
   line_other i j n m = same_after (end_there rows a b k lower i j n) (end_there half b a k higher i j m)
 
   -- of two buses, the lower first, the other way round is no other line
-  pub line_there : (i j : ℕ) → Pair i j → ((i ≡ a) → (j ≡ b) → ⊥) → SameSeen rows (withLine rows a b k) i j
+  pub line_there : (i j : ℕ) → Pair i j → ((i ≡ a) → (j ≡ b) → ⊥) → SameSeen rows (with_line rows a b k) i j
   line_there i j q n = line_other i j n (λ e f. omega (arith, p.less, q.less))
 
   -- there are still as many sets
-  pub line_rows : length (withLine rows a b k) ≡ rowsLength
-  unfolding withLine
+  pub line_rows : length (with_line rows a b k) ≡ rows_length
+  unfolding with_line
   line_rows = end_length half b a k higher ∙ end_length rows a b k lower ∙ l

@@ -9,7 +9,7 @@ use Rattle.busset.specs.Sets.{bit, In, Out, empty, set_of}
 use Rattle.busset.specs.Held.{SetWord, empty_word}
 use Rattle.busset.proofs.Members.{out_of}
 use Rattle.busset.proofs.Words.{set-empty, set-zero}
-use Rattle.grid.specs.Rows.{bus_sets, rowsLength, Rows, set_at, neighbours, with_set, no_rows}
+use Rattle.grid.specs.Rows.{bus_sets, rows_length, Rows, set_at, neighbours, with_set, no_rows}
 
 -- ---- where a set stands
 
@@ -81,10 +81,10 @@ no_words (suc m) k (suc i) = no_words m k i
 
 pub no-rows-set : (b i : ℕ) → set_at no_rows b i ≡ empty
 unfolding set_at
-no-rows-set b i = ap set_of (no_words bus_sets rowsLength (bus_sets * b + i)) ∙ set-empty
+no-rows-set b i = ap set_of (no_words bus_sets rows_length (bus_sets * b + i)) ∙ set-empty
 
-pub no-rows_length : length no_rows ≡ rowsLength
-no-rows_length = length-replicate rowsLength empty_word
+pub no-rows_length : length no_rows ≡ rows_length
+no-rows_length = length-replicate rows_length empty_word
 
 -- ---- a digit: whether b is in a set
 

@@ -4,7 +4,7 @@ use Rattle.busset.specs.Sets.{Bus, In, Out, set_of}
 use Rattle.busset.specs.Held.{SetWord, empty_word}
 use Rattle.rules.specs.Grids.{Grid, Line, Proper, line_count}
 use Rattle.grid.specs.Limits.{most_buses, most_lines, most_circuits}
-use Rattle.grid.specs.Rows.{Rows, rowsLength, neighbours, circuits, withLine}
+use Rattle.grid.specs.Rows.{Rows, rows_length, neighbours, circuits, with_line}
 use Rattle.grid.specs.declared.Case.{Case}
 
 -- ---- the view
@@ -28,16 +28,16 @@ abbrev pub case_of : ℕ → Rows → SetWord → SetWord → SetWord → Case
 case_of n rows zeros sites units = record { n = n; nbr = rows; zero = zeros; site = sites; units = units }
 
 -- the grid that a case value says
-abbrev pub gridOf : Case → Grid
-gridOf c = grid_with c.n c.nbr c.zero c.site c.units
+abbrev pub grid_of : Case → Grid
+grid_of c = grid_with c.n c.nbr c.zero c.site c.units
 
 -- the case with a line of k circuits between a and b
 abbrev pub line_added : Case → ℕ → ℕ → ℕ → Case
-line_added c a b k = case_of c.n (withLine c.nbr a b k) c.zero c.site c.units
+line_added c a b k = case_of c.n (with_line c.nbr a b k) c.zero c.site c.units
 
 -- what the type of a case value says: the sets of each bus
 pub record Sized (c : Case) : Type 0 where
-  pub rows : length c.nbr ≡ rowsLength
+  pub rows : length c.nbr ≡ rows_length
 
 -- ---- validity
 
@@ -71,7 +71,7 @@ pub record Valid (c : Case) : Type 0 where
   -- n is 1 to the most buses
   pub buses : Bus most_buses c.n
   -- lines are the same seen from both ends, no bus is joined to itself, and no line, unit, class Z or site Y is at a bus above n
-  pub proper : Proper (gridOf c)
+  pub proper : Proper (grid_of c)
   -- there are no more lines than the most
   pub few : line_count c.n (neighbours c.nbr) ≤ most_lines
   -- a joined pair is counted 1 to the most circuits

@@ -10,8 +10,8 @@ abbrev pub bus_sets : ℕ
 bus_sets = 5
 
 -- how many all buses have
-abbrev pub rowsLength : ℕ
-rowsLength = bus_sets * most_buses
+abbrev pub rows_length : ℕ
+rows_length = bus_sets * most_buses
 
 -- a word for each set of each bus
 abbrev pub Rows : Type 0
@@ -47,24 +47,24 @@ unfoldable pub with_bit : Rows → ℕ → ℕ → ℕ → Bool → Rows
 with_bit rows a i b t = with_set rows a i (word_of (cond t (add (set_at rows a i) b) (less (set_at rows a i) b)))
 
 -- k is odd
-abbrev pub isOdd : ℕ → Bool
-isOdd k = eqb (k % 2) 1
+abbrev pub is_odd : ℕ → Bool
+is_odd k = eqb (k % 2) 1
 
 -- the rows with k circuits from a to b, as a counts them
 unfoldable pub with_circuits : Rows → ℕ → ℕ → ℕ → Rows
 with_circuits rows a b k =
     with_bit
-    (with_bit (with_bit (with_bit rows a 1 b (isOdd k)) a 2 b (isOdd (k / 2))) a 3 b (isOdd (k / 2 / 2)))
-    a 4 b (isOdd (k / 2 / 2 / 2))
+    (with_bit (with_bit (with_bit rows a 1 b (is_odd k)) a 2 b (is_odd (k / 2))) a 3 b (is_odd (k / 2 / 2)))
+    a 4 b (is_odd (k / 2 / 2 / 2))
 
 -- the rows with b as a neighbour of a, by k circuits
 unfoldable pub with_end : Rows → ℕ → ℕ → ℕ → Rows
 with_end rows a b k = with_circuits (with_bit rows a 0 b true) a b k
 
 -- the rows with a line of k circuits: a with b, and b with a
-unfoldable pub withLine : Rows → ℕ → ℕ → ℕ → Rows
-withLine rows a b k = with_end (with_end rows a b k) b a k
+unfoldable pub with_line : Rows → ℕ → ℕ → ℕ → Rows
+with_line rows a b k = with_end (with_end rows a b k) b a k
 
 -- no line
 abbrev pub no_rows : Rows
-no_rows = replicate rowsLength empty_word
+no_rows = replicate rows_length empty_word

@@ -6,7 +6,7 @@ ghost use Rattle.basics.specs.Deciding.{Decides};
 ghost use Rattle.busset.specs.Sets.{Bus, width, bit, set_of, add, less};
 ghost use Rattle.rules.specs.Placing.{Full};
 ghost use Rattle.grid.specs.Rows.{bus_sets, set_at, neighbours, circuits as circuitsOf};
-ghost use Rattle.grid.specs.Rows.{with_set, with_row, with_bit, isOdd, with_circuits, with_end, withLine, no_rows};
+ghost use Rattle.grid.specs.Rows.{with_set, with_row, with_bit, is_odd, with_circuits, with_end, with_line, no_rows};
 ghost use Rattle.grid.specs.Cases.{line_added};
 ghost use Rattle.grid.specs.Near.{WithNeighbours};
 
@@ -108,7 +108,7 @@ fn put_bit(rows: &mut Rows, a: usize, i: usize, b: usize, t: bool)
 }
 
 fn is_odd(k: usize) -> bool
-    ensures { result ≡ isOdd k }
+    ensures { result ≡ is_odd k }
 {
     k % 2 == 1
 }
@@ -136,7 +136,7 @@ fn add_end(rows: &mut Rows, a: usize, b: usize, k: usize)
 // A line of k circuits: a and b become neighbours of each other.
 pub fn add_line(rows: &mut Rows, a: usize, b: usize, k: usize)
     requires { Bus width a × Bus width b }
-    ensures { rows.new ≡ withLine rows.old a b k }
+    ensures { rows.new ≡ with_line rows.old a b k }
 {
     add_end(rows, a, b, k);
     add_end(rows, b, a, k);

@@ -3,7 +3,7 @@ ghost use Rattle.std.specs.Prelude.{◌≡◌, ℕ, ◌≤◌, ◌<◌, length};
 ghost use Rattle.basics.specs.Deciding.{Decides};
 ghost use Rattle.busset.specs.Sets.{Bus, width};
 ghost use Rattle.rules.specs.Grids.{Line, line_count};
-ghost use Rattle.grid.specs.Rows.{bus_sets, rowsLength, neighbours};
+ghost use Rattle.grid.specs.Rows.{bus_sets, rows_length, neighbours};
 ghost use Rattle.grid.specs.Cases.{case_of, Valid, Lines, LinesAt, JoinedCounted, OthersUncounted};
 ghost use Rattle.grid.specs.Counting.{MirroredAt, DigitsMirrored, CountsAt};
 
@@ -46,7 +46,7 @@ pub fn has_lines(n: usize, nbr: &Rows, b: usize) -> bool
 
 // Whether all that is joined is joined by a line.
 pub fn all_lines(n: usize, nbr: &Rows) -> bool
-    requires { length nbr.now ≡ rowsLength }
+    requires { length nbr.now ≡ rows_length }
     ensures { Decides (Lines n (neighbours nbr.now)) result }
 {
     for b in 1..=MOST_BUSES {
@@ -106,7 +106,7 @@ pub fn is_alike(nbr: &Rows, b: usize) -> bool
 
 // Whether the circuits of every bus are counted, and alike from both ends.
 pub fn all_counted(nbr: &Rows) -> bool
-    requires { length nbr.now ≡ rowsLength }
+    requires { length nbr.now ≡ rows_length }
     ensures { Decides ((b : ℕ) → CountsAt nbr.now b) result }
 {
     for a in 1..=MOST_BUSES {
@@ -133,7 +133,7 @@ pub fn count_lines(n: usize, nbr: &Rows) -> usize
 
 // Whether the case of these parts is valid.
 pub fn is_valid(n: usize, nbr: &Rows, zero: BusSet, site: BusSet, units: BusSet) -> bool
-    requires { length nbr.now ≡ rowsLength }
+    requires { length nbr.now ≡ rows_length }
     ensures { Decides (Valid (case_of n nbr.now zero site units)) result }
 {
     if n < 1 {

@@ -34,7 +34,7 @@ use denote.Triple.Statement.{Contract, Triple}
 use Rattle.step.specs.declared.Step.{Step as StepRecord}
 use Rattle.step.specs.contracts.Step as T
 use Rattle.step.proofs.Calling.{calls_lent}
-use Rattle.grid.specs.Rows.{rowsLength}
+use Rattle.grid.specs.Rows.{rows_length}
 use Rattle.grid.specs.Cases.{case_of}
 use Rattle.grid.specs.declared.Case.{Case}
 use Rattle.grid.specs.contracts.Case as D
@@ -59,21 +59,21 @@ abbrev pub rows_at : ℕ
 rows_at = 8
 
 -- the rows as the fields of a case say them
-abbrev pub rowsIn : Case → List ℕ
-rowsIn cs = map (λ v. v) cs.nbr
+abbrev pub rows_in : Case → List ℕ
+rows_in cs = map (λ v. v) cs.nbr
 
-pub rows_in : (cs : Case) → rowsIn cs ≡ cs.nbr
-rows_in cs = map-id cs.nbr
+pub rows_in_lem : (cs : Case) → rows_in cs ≡ cs.nbr
+rows_in_lem cs = map-id cs.nbr
 
 module _ (cs : Case) (gcs : Is D.the_row cs (LL.vals D.the_type D'.the_laws cs)) where
   -- the facts of its parts
   pub case_facts : Is usize cs.n (vint w64 cs.n ∷ [])
-      × (Is RowArray (rowsIn cs) (rows_val (rowsIn cs) ∷ [])
+      × (Is RowArray (rows_in cs) (rows_val (rows_in cs) ∷ [])
       × (Is u64 cs.zero (vint w64 cs.zero ∷ [])
       × (Is u64 cs.site (vint w64 cs.site ∷ []) × (Is u64 cs.units (vint w64 cs.units ∷ []) × Unit {0}))))
   case_facts = LL.owed D.the_type D'.the_laws cs _ gcs
 
-  pub rows_sized : length (rowsIn cs) ≡ rowsLength
+  pub rows_sized : length (rows_in cs) ≡ rows_length
   rows_sized = case_facts.1.0.1.0.1
 
 module _ {M : Type 1} {𝓤 : Ura M} (𝓛 : Logic 𝓤) where
@@ -88,13 +88,13 @@ module _ {M : Type 1} {𝓤 : Ura M} (𝓛 : Logic 𝓤) where
 
   module _ where
     pub rows_made : Makes 𝓛 RowArray (Is RowArray)
-    rows_made = Array-Makes 𝓛 u64 (uint_Makes 𝓛 w64) rowsLength
+    rows_made = Array-Makes 𝓛 u64 (uint_Makes 𝓛 w64) rows_length
 
 pub rows_tell : Tells RowArray (Is RowArray) (λ rows. rows_val rows ∷ [])
-rows_tell = Array-Tells u64 (uint_vals w64) (uint_Tells w64) rowsLength
+rows_tell = Array-Tells u64 (uint_vals w64) (uint_Tells w64) rows_length
 
 module _ {M : Type 1} {𝓤 : Ura M} {𝓛 : Logic 𝓤} {K : Type 0} where
-  pub rows_part : K → (cs : Case) (l : ℕ) → Part K 𝓛 (cell 𝓛 cs l) full_share (lone RowArray.mir) l rows_at (rows_val (rowsIn cs))
+  pub rows_part : K → (cs : Case) (l : ℕ) → Part K 𝓛 (cell 𝓛 cs l) full_share (lone RowArray.mir) l rows_at (rows_val (rows_in cs))
       (cell-with 𝓛 cs l)
   rows_part t cs l = sub t 1 refl (whole t)
 
@@ -111,7 +111,7 @@ module _ {M : Type 1} {𝓤 : Ura M} (𝓛 : Logic 𝓤) (mem : Memory → SProp
       (α ∷ [], (κ, tt)),
       (full_share, (q, tt)),
       tt,
-      (cs.n, (ref γ (rowsIn cs) l rows_at, (cs.zero, (cs.site, (cs.units, (k, (x, tt))))))),
+      (cs.n, (ref γ (rows_in cs) l rows_at, (cs.zero, (cs.site, (cs.units, (k, (x, tt))))))),
       (
         vint w64 cs.n ∷ [],
         (
@@ -142,7 +142,7 @@ module _ {M : Type 1} {𝓤 : Ura M} {𝓛 : Logic 𝓤} {K : Type 0} {Γ : List
       → (κ : Lft) (q : Share) (cs : Case) → Is D.the_row cs (LL.vals D.the_type D'.the_laws cs)
       → (k : Task) (x : Bor (List StepRecord)) (l : ℕ)
       → ((α : ℕ) (γ : GName) → Opds K 𝓛 (raw ((Follow 𝓛 mem run).pre (follow-at 𝓛 mem run α γ l κ q cs k x))
-      ∷ Kept 𝓛 RowArray α (rowsIn cs) l rows_at (cell-with 𝓛 cs l) ∷ Γ) E xs
+      ∷ Kept 𝓛 RowArray α (rows_in cs) l rows_at (cell-with 𝓛 cs l) ∷ Γ) E xs
       ((Follow 𝓛 mem run).args (follow-at 𝓛 mem run α γ l κ q cs k x)))
       → ((v : Val) (st : Following) → Is S.the_row st (v ∷ []) → StandsAfter cs k (length x.now) x.now st
       → Seq K 𝓛 (cell 𝓛 cs l ∷ ‵ (flft κ q) ∷ Γ) (lands C Λ E d v rest p))
@@ -150,7 +150,7 @@ module _ {M : Type 1} {𝓤 : Ura M} {𝓛 : Logic 𝓤} {K : Type 0} {Γ : List
       (runs C Λ E (seq (call #list_calls·follow xs d) rest) p)
   calls_follow t fm mem run known κ q cs gcs k x l os then =
       let facts = case_facts cs gcs in
-      lends t tt RowArray refl rows_val (rows_made 𝓛) (rowsIn cs) facts.1.0 (rows_part t cs l) (λ α γ.
+      lends t tt RowArray refl rows_val (rows_made 𝓛) (rows_in cs) facts.1.0 (rows_part t cs l) (λ α γ.
       -- [the rows' token; what they own; what is kept; the steps' token; what they own]
       nothing t $ move t (4 ∷ 0 ∷ []) $ join t $ move t (1 ∷ 0 ∷ []) $ join t $
       use1 𝓛 (raw (alive 𝓛 follow.signature (α ∷ [], (κ, tt)) (full_share, (q, tt)))) (id⊢ 𝓤 _) $
@@ -161,13 +161,13 @@ module _ {M : Type 1} {𝓤 : Ura M} {𝓛 : Logic 𝓤} {K : Type 0} {Γ : List
       owned t u64 (Is u64) (uint_Makes 𝓛 w64) cs.zero _ facts.1.1.0 $ fjoin t $ move t (2 ∷ 0 ∷ []) $ fjoin t $
       owned t usize (Is usize) (uint_Makes 𝓛 w64) cs.n _ facts.0 $ fjoin t $ move t (1 ∷ 0 ∷ []) $
       calls_lent t fm follow.ended (follow.clauses 𝓛 mem run) known (follow-at 𝓛 mem run α γ l κ q cs k x).0 tt
-      (fact_i 𝓤 (length (rowsIn cs) ≡ rowsLength) (emp 𝓤) (rows_sized cs gcs))
-      (λ st ws. StandsAfter (case_of cs.n (rowsIn cs) cs.zero cs.site cs.units) k (length x.now) x.now st)
+      (fact_i 𝓤 (length (rows_in cs) ≡ rows_length) (emp 𝓤) (rows_sized cs gcs))
+      (λ st ws. StandsAfter (case_of cs.n (rows_in cs) cs.zero cs.site cs.units) k (length x.now) x.now st)
       (λ st ws. id⊢ 𝓤 _) (os α γ)
       (λ v st ws is e.
       move t (1 ∷ []) $ drop t $ use1 𝓛 (‵ (flft (α ∷ []) full_share) ⊛ ‵ (flft κ q) ⊛ ‵ ftrue) (id⊢ 𝓤 _) $ split t $ move t (1 ∷ []) $
       split t $ move t (1 ∷ []) $ drop t $ move t (1 ∷ 2 ∷ []) $
-      takes_back t tt RowArray refl rows_val rows_tell (rowsIn cs) (rows_part t cs l) $
+      takes_back t tt RowArray refl rows_val rows_tell (rows_in cs) (rows_part t cs l) $
       then v st is (subst
       (λ (rows : List ℕ). StandsAfter (case_of cs.n rows cs.zero cs.site cs.units) k (length x.now) x.now st)
-      (rows_in cs) e)))
+      (rows_in_lem cs) e)))

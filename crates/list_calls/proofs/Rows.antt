@@ -10,7 +10,7 @@ use denote.Enum.Laws as EL
 use denote.Array.{Array}
 use denote.Builtin.{u64}
 use denote.RattleType.{RattleType}
-use Rattle.grid.specs.Rows.{rowsLength}
+use Rattle.grid.specs.Rows.{rows_length}
 use Rattle.grid.specs.declared.Case.{Case}
 use Rattle.list_follow.specs.declared.Following.{Following}
 use Rattle.list_follow.specs.declared.Task.{Task}
@@ -30,7 +30,7 @@ use Rattle.list_follow.proofs.Replayed.TheLaws as replayed'
 
 -- the neighbours of all buses, as their type is lent
 abbrev pub RowArray : RattleType
-RowArray = Array u64 rowsLength
+RowArray = Array u64 rows_length
 
 -- a task's fact
 pub task_is : (k : Task) → Is task.the_row k (EL.vals task.the_type task'.the_laws k)

@@ -1,6 +1,6 @@
 // The calls on lists of steps: the derivation; replay and weaving over lent records.
 ghost use Rattle.std.specs.Prelude.{◌≡◌, length};
-ghost use Rattle.grid.specs.Rows.{rowsLength};
+ghost use Rattle.grid.specs.Rows.{rows_length};
 ghost use Rattle.grid.specs.Cases.{case_of};
 ghost use Rattle.list_follow.specs.Following.{StandsAfter};
 ghost use Rattle.list_follow.specs.Replies.{ReplayReply, WeaveReply, CanPut, put_woven};
@@ -23,7 +23,7 @@ pub fn follow(
     task: Task,
     steps: &[Step],
 ) -> Following
-    requires { length nbr.now ≡ rowsLength }
+    requires { length nbr.now ≡ rows_length }
     ensures { StandsAfter (case_of n nbr.now zero site units) task (length steps.now)
         steps.now result }
 {

@@ -1,7 +1,7 @@
 -- What the derivation promises. The promises of replay and weaving are beside their functions (list_follow, specs/Replies.antt).
 use Rattle.std.specs.Prelude.{◌≡◌, List, [], ◌∷◌}
 use Rattle.grid.specs.declared.Case.{Case}
-use Rattle.grid.specs.Cases.{gridOf, Valid}
+use Rattle.grid.specs.Cases.{grid_of, Valid}
 use Rattle.refusals.specs.declared.Refusal.{Refusal}
 use Rattle.refusals.specs.Refusals.{Check, check_that, Passed, Failed}
 use Rattle.refusals.specs.Calls.{Call, Refuses}
@@ -18,7 +18,7 @@ derivation_checks c = check_that (Valid c) 5 0 ∷ []
 
 -- the derivation, or the refusal with an empty list beside it
 abbrev pub DerivationAt : Case → StepList → DerivationAnswer → Type 0
-DerivationAt c l Found = Passed (derivation_checks c) × Derives (gridOf c) l
+DerivationAt c l Found = Passed (derivation_checks c) × Derives (grid_of c) l
 DerivationAt c l (Refused r) = Failed (derivation_checks c) r × (l ≡ list_of [])
 
 -- the answer, and the list beside it

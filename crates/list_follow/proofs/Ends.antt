@@ -22,7 +22,7 @@ use Rattle.rules.specs.Steps.{Finished}
 use Rattle.rules.specs.Weaving.{woven}
 use Rattle.rules.proofs.Lists.{finished-closed, closed-finished}
 use Rattle.grid.specs.declared.Case.{Case}
-use Rattle.grid.specs.Cases.{gridOf}
+use Rattle.grid.specs.Cases.{grid_of}
 use Rattle.refusals.specs.declared.Refusal.{Refusal}
 use Rattle.refusals.specs.declared.Refusal.TheVariants.{NoRoom}
 use Rattle.refusals.specs.Refusals.{Check, check_that, Passed}
@@ -62,11 +62,11 @@ finished_test {g} {s} {o} {r} st sub sw d =
 
 -- ---- replay
 
-pub ended-good : {c : Case} {st : Following} {f : Bool} → st.standing ≡ Good → Decides (Finished (gridOf c) (set_of st.set)) f
+pub ended-good : {c : Case} {st : Following} {f : Bool} → st.standing ≡ Good → Decides (Finished (grid_of c) (set_of st.set)) f
     → AnswersReplay c st (replayed.Reached st.set f)
 ended-good {c} {st} {f} e d xs s =
     let set = (s.carries e).set in
-    (subst (StandingBy (replay_checks c xs)) e s.standing, set, subst (λ (t : ℕ). Decides (Finished (gridOf c) t) f) set d, word_own _)
+    (subst (StandingBy (replay_checks c xs)) e s.standing, set, subst (λ (t : ℕ). Decides (Finished (grid_of c) t) f) set d, word_own _)
 
 pub ended-bad : {c : Case} {st : Following} {q : Refusal} → st.standing ≡ Bad q → AnswersReplay c st (replayed.Refused q)
 ended-bad {c} e xs s = subst (StandingBy (replay_checks c xs)) e s.standing

@@ -17,12 +17,12 @@ use Rattle.step.specs.declared.Step.{Step}
 use Rattle.rules.specs.Steps.{reached}
 use Rattle.grid.specs.declared.Case.{Case}
 use Rattle.grid.specs.Limits.{most_steps, most_buses}
-use Rattle.grid.specs.Cases.{gridOf}
+use Rattle.grid.specs.Cases.{grid_of}
 use Rattle.refusals.specs.declared.Refusal.{Refusal}
 use Rattle.refusals.specs.Refusals.{number_of, Check, Passed, Failed}
 use Rattle.refusals.proofs.Orders.{failed_sooner}
 use Rattle.observe.specs.Testing.{step_checks_at}
-use Rattle.list_follow.specs.Following.{checks_from, list_checks, StandingBy, Carries, StandsAfter, Follows, afterRefusal}
+use Rattle.list_follow.specs.Following.{checks_from, list_checks, StandingBy, Carries, StandsAfter, Follows, after_refusal}
 use Rattle.list_follow.specs.declared.Task.{Task}
 use Rattle.list_follow.specs.declared.Task.TheVariants.{Replay, Weave}
 use Rattle.list_follow.specs.declared.Standing.{Standing}
@@ -32,14 +32,14 @@ use Rattle.list_follow.proofs.Joining.{standing_then, list-checks_append, reache
 
 -- ---- a step that the test refuses
 
-pub replay-refuses : {task : Task} (q : Refusal) → task ≡ Replay → Bad q ≡ afterRefusal task q
-replay-refuses q e = ap (λ (t : Task). afterRefusal t q) (sym e)
+pub replay-refuses : {task : Task} (q : Refusal) → task ≡ Replay → Bad q ≡ after_refusal task q
+replay-refuses q e = ap (λ (t : Task). after_refusal t q) (sym e)
 
-pub weave_passes_over : {task : Task} (q : Refusal) → task ≡ Weave → number_of q ≡ 8 → Good ≡ afterRefusal task q
+pub weave_passes_over : {task : Task} (q : Refusal) → task ≡ Weave → number_of q ≡ 8 → Good ≡ after_refusal task q
 weave_passes_over q e n =
-    ap (λ (b : Bool). cond b Good (Bad q)) (sym (eq-eqb (number_of q) 8 n)) ∙ ap (λ (t : Task). afterRefusal t q) (sym e)
+    ap (λ (b : Bool). cond b Good (Bad q)) (sym (eq-eqb (number_of q) 8 n)) ∙ ap (λ (t : Task). after_refusal t q) (sym e)
 
-pub other-refuses : (task : Task) (q : Refusal) → (number_of q ≡ 8 → ⊥) → Bad q ≡ afterRefusal task q
+pub other-refuses : (task : Task) (q : Refusal) → (number_of q ≡ 8 → ⊥) → Bad q ≡ after_refusal task q
 other-refuses Replay q n = refl
 other-refuses Weave q n = ap (λ (b : Bool). cond b Good (Bad q)) (sym (ne_eqb (number_of q) 8 n))
 
@@ -128,7 +128,7 @@ module _ (c : Case) (st : Following) (x : Step) (k : ℕ) (good : st.standing �
 
   -- ---- the step is allowed
 
-  module _ (ok : Passed (step_checks_at (gridOf c) k (set_of st.set) x)) where
+  module _ (ok : Passed (step_checks_at (grid_of c) k (set_of st.set) x)) where
     allowed_passes : (task : Task) → Passed (checks_from task c k (set_of st.set) (x ∷ []))
     allowed_passes Replay = ok
     allowed_passes Weave = (ok.0, (λ o. ok.1.1.0, tt))
@@ -143,7 +143,7 @@ module _ (c : Case) (st : Following) (x : Step) (k : ℕ) (good : st.standing �
 
   -- ---- the test refuses the step
 
-  module _ (q : Refusal) (refused : Failed (step_checks_at (gridOf c) k (set_of st.set) x) q) where
+  module _ (q : Refusal) (refused : Failed (step_checks_at (grid_of c) k (set_of st.set) x) q) where
     -- where the standing after x is w: x passes the task's checks and its bus is observed, or x is refused
     abbrev Leaves : Task → Standing → Type 0
     Leaves task w = StandingBy (checks_from task c k (set_of st.set) (x ∷ [])) w × (w ≡ Good → In (set_of st.set) x.bus)
@@ -152,14 +152,14 @@ module _ (c : Case) (st : Following) (x : Step) (k : ℕ) (good : st.standing �
     bad task f = (f, λ g. absurd (good_or_bad refl g))
 
     -- the number of q says which check fails
-    left_after : (task : Task) → Leaves task (afterRefusal task q)
+    left_after : (task : Task) → Leaves task (after_refusal task q)
     left_after Replay = bad Replay refused
     left_after Weave = go refused
       where
-        numbered : (n : ℕ) → number_of q ≡ n → Leaves Weave (cond (eqb n 8) Good (Bad q)) → Leaves Weave (afterRefusal Weave q)
+        numbered : (n : ℕ) → number_of q ≡ n → Leaves Weave (cond (eqb n 8) Good (Bad q)) → Leaves Weave (after_refusal Weave q)
         numbered n e h = subst⁻¹ (λ (m : ℕ). Leaves Weave (cond (eqb m 8) Good (Bad q))) e h
 
-        go : Failed (step_checks_at (gridOf c) k (set_of st.set) x) q → Leaves Weave (afterRefusal Weave q)
+        go : Failed (step_checks_at (grid_of c) k (set_of st.set) x) q → Leaves Weave (after_refusal Weave q)
         go (inl a) = numbered 7 a.1.numbered (bad Weave (inl a))
         go (inr (n, inl a)) =
             let seen : In (set_of st.set) x.bus = ⊎_elim (λ i. i) (λ o. absurd (a.0 o)) (in_or (set_of st.set) x.bus) in
@@ -167,10 +167,10 @@ module _ (c : Case) (st : Following) (x : Step) (k : ℕ) (good : st.standing �
         go (inr (n, inr (o, inl a))) = numbered 9 a.1.numbered (bad Weave (inr (n, inl (λ h. a.0 (h o), a.1))))
         go (inr (n, inr (o, inr z))) = absurd z.1
 
-    pub kept : {w : Standing} → w ≡ afterRefusal st.task q
+    pub kept : {w : Standing} → w ≡ after_refusal st.task q
         → Follows c st (x ∷ []) (record { task = st.task; set = st.set; read = k; standing = w })
     kept {w} e = one_further good (λ task count ys h.
-        let s : Leaves task w = subst⁻¹ (Leaves task) (e ∙ ap (λ (t : Task). afterRefusal t q) h.is_task) (left_after task) in
+        let s : Leaves task w = subst⁻¹ (Leaves task) (e ∙ ap (λ (t : Task). after_refusal t q) h.is_task) (left_after task) in
         goes task count ys _ h refl s.0 (λ g.
         let seen : In (reached ys) x.bus = subst (λ (t : ℕ). In t x.bus) h.carries.set (s.1 g) in
         record {

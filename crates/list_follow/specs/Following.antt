@@ -5,7 +5,7 @@ use Rattle.step.specs.declared.Step.{Step}
 use Rattle.rules.specs.Steps.{Holds, Names, reached}
 use Rattle.grid.specs.declared.Case.{Case}
 use Rattle.grid.specs.Limits.{most_steps}
-use Rattle.grid.specs.Cases.{gridOf, Valid}
+use Rattle.grid.specs.Cases.{grid_of, Valid}
 use Rattle.refusals.specs.declared.Refusal.{Refusal}
 use Rattle.refusals.specs.Refusals.{number_of, Check, check_that, Passed, Failed}
 use Rattle.observe.specs.Testing.{step_checks_at}
@@ -19,8 +19,8 @@ use Rattle.list_follow.specs.declared.Following.{Following}
 
 -- of step k, where s is observed: replay asks the single-step test; weaving passes over an observed bus, with 7 alone
 abbrev pub checks_at : Task → Case → ℕ → ℕ → Step → List Check
-checks_at Replay c k s x = step_checks_at (gridOf c) k s x
-checks_at Weave c k s x = check_that (Names c.n x) 7 k ∷ check_that (Out s x.bus → Holds (gridOf c) s x.bus x.reason) 9 k ∷ []
+checks_at Replay c k s x = step_checks_at (grid_of c) k s x
+checks_at Weave c k s x = check_that (Names c.n x) 7 k ∷ check_that (Out s x.bus → Holds (grid_of c) s x.bus x.reason) 9 k ∷ []
 
 -- of the steps from step k on, each where those before it lead
 abbrev pub checks_from : Task → Case → ℕ → ℕ → List Step → List Check
@@ -59,6 +59,6 @@ pub record Follows (c : Case) (st : Following) (xs : List Step) (r : Following) 
       → StandsAfter c task count (ys ++ xs) r
 
 -- where a step that the test refuses leaves a list: weaving passes over an observed bus
-abbrev pub afterRefusal : Task → Refusal → Standing
-afterRefusal Replay q = Bad q
-afterRefusal Weave q = cond (eqb (number_of q) 8) Good (Bad q)
+abbrev pub after_refusal : Task → Refusal → Standing
+after_refusal Replay q = Bad q
+after_refusal Weave q = cond (eqb (number_of q) 8) Good (Bad q)

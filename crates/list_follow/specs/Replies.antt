@@ -9,7 +9,7 @@ use Rattle.step.specs.declared.Step.{Step}
 use Rattle.rules.specs.Steps.{reached, Finished}
 use Rattle.rules.specs.Weaving.{woven}
 use Rattle.grid.specs.declared.Case.{Case}
-use Rattle.grid.specs.Cases.{gridOf}
+use Rattle.grid.specs.Cases.{grid_of}
 use Rattle.refusals.specs.declared.Refusal.TheVariants.{NoRoom}
 use Rattle.refusals.specs.Refusals.{Check, check_that, Passed, Failed}
 use Rattle.refusals.specs.Calls.{Call, Refuses}
@@ -32,7 +32,7 @@ replay_checks c xs = list_checks Replay c (length xs) xs
 -- the word of the set reached, and whether the list is finished; or the first bad step
 abbrev pub ReplayReply : Case → List Step → Replayed → Type 0
 ReplayReply c xs (replayed.Reached s finished) =
-    Passed (replay_checks c xs) × (set_of s ≡ reached xs) × Decides (Finished (gridOf c) (reached xs)) finished × IsWord s
+    Passed (replay_checks c xs) × (set_of s ≡ reached xs) × Decides (Finished (grid_of c) (reached xs)) finished × IsWord s
 ReplayReply c xs (replayed.Refused r) = Failed (replay_checks c xs) r
 
 -- `replay`

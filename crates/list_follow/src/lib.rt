@@ -1,12 +1,12 @@
 // Following a desk's list step by step: where it begins, where it is after each step, and how it ends.
 ghost use Rattle.std.specs.Prelude.{◌≡◌, [], ◌∷◌, ℕ, suc, ◌<◌, length};
 ghost use Rattle.grid.specs.Limits.{most_steps};
-ghost use Rattle.grid.specs.Rows.{rowsLength};
+ghost use Rattle.grid.specs.Rows.{rows_length};
 ghost use Rattle.basics.specs.Deciding.{Decides};
 ghost use Rattle.busset.specs.Sets.{set_of};
 ghost use Rattle.rules.specs.Steps.{Finished};
 ghost use Rattle.grid.specs.Cases.{grid_with, case_of};
-ghost use Rattle.list_follow.specs.Following.{begin_checks, StandingBy, StandsAfter, Follows, afterRefusal};
+ghost use Rattle.list_follow.specs.Following.{begin_checks, StandingBy, StandsAfter, Follows, after_refusal};
 ghost use Rattle.list_follow.specs.Replies.{AnswersReplay, wove_at, count_written};
 
 use busset::BusSet;
@@ -62,7 +62,7 @@ fn opening(
     units: BusSet,
     count: usize,
 ) -> Standing
-    requires { length nbr.now ≡ rowsLength }
+    requires { length nbr.now ≡ rows_length }
     ensures { StandingBy (begin_checks (case_of n nbr.now zero site units) count) result }
 {
     if !grid::validity::is_valid(n, nbr, zero, site, units) {
@@ -84,7 +84,7 @@ pub fn begin(
     task: Task,
     count: usize,
 ) -> Following
-    requires { length nbr.now ≡ rowsLength }
+    requires { length nbr.now ≡ rows_length }
     ensures { StandsAfter (case_of n nbr.now zero site units) task count [] result }
 {
     let standing = opening(n, nbr, zero, site, units, count);
@@ -108,7 +108,7 @@ fn next_number(read: usize) -> usize
 
 // The standing after a step that the test refuses with q: weaving passes over an observed bus, which is 8.
 fn after_refusal(task: Task, q: Refusal) -> Standing
-    ensures { result ≡ afterRefusal task q }
+    ensures { result ≡ after_refusal task q }
 {
     if refusals::number(q) != 8 {
         return Standing::Bad(q);

@@ -6,7 +6,7 @@ use Rattle.step.specs.declared.Step.{Step}
 use Rattle.rules.specs.Observation.{ObservedSet}
 use Rattle.rules.specs.Figures.{figure}
 use Rattle.grid.specs.declared.Case.{Case}
-use Rattle.grid.specs.Cases.{gridOf, Valid}
+use Rattle.grid.specs.Cases.{grid_of, Valid}
 use Rattle.refusals.specs.Refusals.{Check, check_that, Passed, Failed}
 use Rattle.refusals.specs.Calls.{Call, Refuses}
 use Rattle.observe.specs.Testing.{step_checks_at, TestedBy}
@@ -29,7 +29,7 @@ observed_checks c = check_that (Valid c) 5 0 ∷ []
 
 -- the word of the least set that satisfies both rules
 abbrev pub ObservedReply : Case → Observed → Type 0
-ObservedReply c (observed.Set s) = Passed (observed_checks c) × ObservedSet (gridOf c) (set_of s) × IsWord s
+ObservedReply c (observed.Set s) = Passed (observed_checks c) × ObservedSet (grid_of c) (set_of s) × IsWord s
 ObservedReply c (observed.Refused r) = Failed (observed_checks c) r
 
 -- `observed_set`
@@ -48,11 +48,11 @@ observed_set_call = record {
 -- 5; i and j are 1 to n, or 7; they are joined, or 13
 abbrev pub figure_checks : Case → ℕ → ℕ → List Check
 figure_checks c i j =
-    check_that (Valid c) 5 0 ∷ check_that (Bus c.n i × Bus c.n j) 7 0 ∷ check_that (In ((gridOf c).neighbours i) j) 13 0 ∷ []
+    check_that (Valid c) 5 0 ∷ check_that (Bus c.n i × Bus c.n j) 7 0 ∷ check_that (In ((grid_of c).neighbours i) j) 13 0 ∷ []
 
 -- the figure in the stated set
 abbrev pub FigureReply : Case → SetWord → ℕ → ℕ → Figured → Type 0
-FigureReply c s i j (figured.Figure z) = Passed (figure_checks c i j) × (z ≡ figure (gridOf c).neighbours (stated c s) i j)
+FigureReply c s i j (figured.Figure z) = Passed (figure_checks c i j) × (z ≡ figure (grid_of c).neighbours (stated c s) i j)
 FigureReply c s i j (figured.Refused r) = Failed (figure_checks c i j) r
 
 -- `firing_figure`
@@ -70,7 +70,7 @@ firing_figure_call = record {
 
 -- 5, then 7, 8, 9 in the stated set
 abbrev pub step_checks : Case → SetWord → Step → List Check
-step_checks c s x = check_that (Valid c) 5 0 ∷ step_checks_at (gridOf c) 1 (stated c s) x
+step_checks c s x = check_that (Valid c) 5 0 ∷ step_checks_at (grid_of c) 1 (stated c s) x
 
 -- the step is allowed, or refused
 abbrev pub StepReply : Case → SetWord → Step → Tested → Type 0

@@ -2,11 +2,11 @@
 use contract.Lifetimes.{Lfts}
 use Rattle.refusals.specs.Calls.{Keeps}
 use Rattle.place_calls.specs.Replies.{cross_validate_call, place_greedy_call, place_fewest_call}
-use Rattle.place_calls.proofs.cross_validate.Reads as cross-validate
+use Rattle.place_calls.proofs.cross_validate.Reads as cross_validate
 use Rattle.place_calls.proofs.place_greedy.Reads as place-greedy
 use Rattle.place_calls.proofs.place_fewest.Reads as place-fewest
 
-pub cross_validate-promised : Keeps cross_validate_call (λ (c, _). c) (λ a. tt) (cross-validate.Asked tt) (cross-validate.Learnt tt)
+pub cross_validate-promised : Keeps cross_validate_call (λ (c, _). c) (λ a. tt) (cross_validate.Asked tt) (cross_validate.Learnt tt)
 cross_validate-promised a = (tt, λ r b told. told)
 
 pub place-greedy-promised : (κs : Lfts 1) → Keeps place_greedy_call (λ (c, (budget, _)). (c, budget)) (λ (_, (_, (room, _))). room.now)

@@ -7,7 +7,7 @@ use Rattle.rules.specs.Placing as placing
 use Rattle.rules.specs.Choosing as choosing
 use Rattle.grid.specs.declared.Case.{Case}
 use Rattle.grid.specs.Limits.{most_budget, most_greedy_budget}
-use Rattle.grid.specs.Cases.{gridOf, Valid}
+use Rattle.grid.specs.Cases.{grid_of, Valid}
 use Rattle.refusals.specs.Refusals.{Check, check_that, Passed, Failed}
 use Rattle.refusals.specs.Calls.{Call, Refuses}
 use Rattle.place_calls.specs.declared.Verdict.{Verdict}
@@ -26,7 +26,7 @@ verdict_checks c = check_that (Valid c) 5 0 ∷ []
 -- the word of the set of units that no other unit confirms
 abbrev pub VerdictReply : Case → Verdict → Type 0
 VerdictReply c (verdict.Unconfirmed s) =
-    Passed (verdict_checks c) × UnconfirmedSet (gridOf c).neighbours (gridOf c).units (set_of s) × IsWord s
+    Passed (verdict_checks c) × UnconfirmedSet (grid_of c).neighbours (grid_of c).units (set_of s) × IsWord s
 VerdictReply c (verdict.Refused r) = Failed (verdict_checks c) r
 
 -- `cross_validate`
@@ -44,7 +44,7 @@ cross_validate_call = record {
 
 -- what greedy adds within the budget has room
 abbrev pub HasRoom : Case → ℕ → List ℕ → Type 0
-HasRoom c budget room = (xs : List ℕ) → choosing.GreedyList (gridOf c) budget xs → length xs ≤ length room
+HasRoom c budget room = (xs : List ℕ) → choosing.GreedyList (grid_of c) budget xs → length xs ≤ length room
 
 -- 5; the budget is at most its limit, or 10; the answer has room, or 6
 abbrev pub greedy_checks : Case → ℕ → List ℕ → List Check
@@ -54,7 +54,7 @@ greedy_checks c budget room =
 -- k sites are added: they stand first in the room, in the order added, and the rest of it stays
 pub record GreedyWritten (c : Case) (budget : ℕ) (entry exit : List ℕ) (k : ℕ) : Type 0 where
   pub list : List ℕ
-  pub greedy : choosing.GreedyList (gridOf c) budget list
+  pub greedy : choosing.GreedyList (grid_of c) budget list
   pub count : k ≡ length list
   pub written : exit ≡ list ++ drop k entry
 
@@ -79,11 +79,11 @@ place_greedy_call = record {
 -- 5; the budget is at most the grid's limit, or 10; some addition within it covers, or 11
 abbrev pub fewest_checks : Case → ℕ → List Check
 fewest_checks c budget =
-    check_that (Valid c) 5 0 ∷ check_that (budget ≤ most_budget c.n) 10 0 ∷ check_that (placing.SomeAddition (gridOf c) budget) 11 0 ∷ []
+    check_that (Valid c) 5 0 ∷ check_that (budget ≤ most_budget c.n) 10 0 ∷ check_that (placing.SomeAddition (grid_of c) budget) 11 0 ∷ []
 
 -- the word of the set of sites of the first of the smallest additions that cover
 abbrev pub FewestReply : Case → ℕ → Fewest → Type 0
-FewestReply c budget (fewest.Sites m) = Passed (fewest_checks c budget) × placing.FewestSites (gridOf c) budget (set_of m) × IsWord m
+FewestReply c budget (fewest.Sites m) = Passed (fewest_checks c budget) × placing.FewestSites (grid_of c) budget (set_of m) × IsWord m
 FewestReply c budget (fewest.Refused r) = Failed (fewest_checks c budget) r
 
 -- `place_fewest`

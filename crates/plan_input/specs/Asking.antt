@@ -16,14 +16,14 @@ abbrev pub default_budget : ℕ
 default_budget = 3
 
 -- the budget in what follows the word `plan`
-unfoldable pub planFields : List (List ℕ) → Numeral
-planFields [] = Is default_budget
-planFields (f ∷ []) = numeral_of f
-planFields (f ∷ g ∷ fs) = Wrong
+unfoldable pub plan_fields : List (List ℕ) → Numeral
+plan_fields [] = Is default_budget
+plan_fields (f ∷ []) = numeral_of f
+plan_fields (f ∷ g ∷ fs) = Wrong
 
 -- the budget that the first line says
-unfoldable pub budgetOf : List ℕ → Numeral
-budgetOf l = cond (same (split tab l).first (bytes "plan")) (planFields (split tab l).rest) Wrong
+unfoldable pub budget_of : List ℕ → Numeral
+budget_of l = cond (same (split tab l).first (bytes "plan")) (plan_fields (split tab l).rest) Wrong
 
 -- nothing is asked, for a refusal
 abbrev pub unasked : Refusal → Asked
@@ -37,10 +37,10 @@ asked_with Wrong read = unasked (WrongForm 1)
 -- the first line, and the pieces after its line feed, the case text's lines from line 2 on; if there are none, its line feed is missing
 unfoldable pub plan_lines : List ℕ → List (List ℕ) → Asked
 plan_lines l [] = unasked (WrongForm 1)
-plan_lines l (m ∷ ms) = asked_with (budgetOf l) (read_lines start 2 m ms)
+plan_lines l (m ∷ ms) = asked_with (budget_of l) (read_lines start 2 m ms)
 
 -- the byte limit counts the whole input
-unfoldable pub readPlan : List ℕ → Asked
-readPlan input =
+unfoldable pub read_plan : List ℕ → Asked
+read_plan input =
     cond (ltb most_bytes (length input)) (unasked TextTooLong)
     (plan_lines (split line_feed input).first (split line_feed input).rest)

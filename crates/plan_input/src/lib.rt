@@ -1,7 +1,7 @@
 // The planning program's input: the plan line, and the case text after it.
 ghost use Rattle.std.specs.Prelude.{◌≡◌};
 ghost use Rattle.text_field.specs.Split.{after};
-ghost use Rattle.plan_input.specs.Asking.{planFields, budgetOf, unasked, readPlan};
+ghost use Rattle.plan_input.specs.Asking.{plan_fields, budget_of, unasked, read_plan};
 
 use case_read::CaseRead;
 use grid::limits::MOST_BYTES;
@@ -29,7 +29,7 @@ fn not_asked(q: Refusal) -> Asked
 
 // The budget in the fields that follow the word, which ends at `at`.
 fn plan_fields(line: &[u8], at: usize) -> Numeral
-    ensures { result ≡ planFields (after 9 line.now at) }
+    ensures { result ≡ plan_fields (after 9 line.now at) }
 {
     if line.len() <= at {
         return Numeral::Is(DEFAULT_BUDGET);
@@ -39,7 +39,7 @@ fn plan_fields(line: &[u8], at: usize) -> Numeral
 
 // The budget that the first line says.
 fn budget_of(line: &[u8]) -> Numeral
-    ensures { result ≡ budgetOf line.now }
+    ensures { result ≡ budget_of line.now }
 {
     let e = piece_end(line, 0, b'\t');
     if !text_field::is_same(&line[0..e], b"plan") {
@@ -50,7 +50,7 @@ fn budget_of(line: &[u8]) -> Numeral
 
 // What the input asks.
 pub fn read_plan(input: &[u8]) -> Asked
-    ensures { result ≡ readPlan input.now }
+    ensures { result ≡ read_plan input.now }
 {
     if MOST_BYTES < input.len() {
         return not_asked(Refusal::TextTooLong);

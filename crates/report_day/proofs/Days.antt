@@ -15,15 +15,15 @@ use Rattle.rules.proofs.Derivations.{derived-unique, derived-accepted}
 use Rattle.rules.proofs.Choices.{unconfirmed-unique}
 use Rattle.text_field.specs.Split.{join, bytes}
 use Rattle.text_field.specs.Number.{number_text}
-use Rattle.grid.specs.Cases.{gridOf, Valid}
+use Rattle.grid.specs.Cases.{grid_of, Valid}
 use Rattle.grid.specs.declared.Case.{Case}
-use Rattle.case_read.specs.Reading.{readCase}
+use Rattle.case_read.specs.Reading.{read_case}
 use Rattle.case_read.specs.declared.ReadAnswer.{ReadAnswer}
 use Rattle.case_read.specs.declared.ReadAnswer.TheVariants.{Read, Refused}
 use Rattle.case_inverse.proofs.Answers.{read-good}
 use Rattle.report_lines.specs.Printing.{printed_line}
 use Rattle.report_lines.proofs.Printed.{refused_length}
-use Rattle.report_day.specs.Day.{steps_text, verdict_fields, day_text, dayRoom, DayReport, DayFor, DayPrinted}
+use Rattle.report_day.specs.Day.{steps_text, verdict_fields, day_text, day_room, DayReport, DayFor, DayPrinted}
 use Rattle.report_day.proofs.Texts.{steps_length, verdict_length, observed_length}
 use Rattle.report_day.proofs.Reports.{derivation-named}
 
@@ -31,13 +31,13 @@ use Rattle.report_day.proofs.Reports.{derivation-named}
 
 report-unique : (c : Case) (s t : List ℕ) → DayReport c s → DayReport c t → s ≡ t
 report-unique c s t p q =
-    let sets = least-unique (gridOf c) p.observed q.observed p.least q.least in
+    let sets = least-unique (grid_of c) p.observed q.observed p.least q.least in
     let lists = derived-unique p.derived q.steps q.derived in
     let alone = unconfirmed-unique p.unconfirmed q.unconfirmed p.verdict q.verdict in
     p.is ∙ (λ i. day_text (size (sets i)) c.n (lists i) (size (alone i))) ∙ sym q.is
 
 pub day-unique : (text s t : List ℕ) → DayPrinted text s → DayPrinted text t → s ≡ t
-day-unique text s t = go (readCase text).answer (readCase text).case
+day-unique text s t = go (read_case text).answer (read_case text).case
   where
     go : (a : ReadAnswer) (c : Case) → DayFor a c s → DayFor a c t → s ≡ t
     go Read c p q = report-unique c s t p q
@@ -46,7 +46,7 @@ day-unique text s t = go (readCase text).answer (readCase text).case
 -- ---- how long it is
 
 text-fits : (count n alone : ℕ) (xs : List Step) → count ≤ width → n ≤ width → alone ≤ width → length xs ≤ width → Each (Names width) xs
-    → length (day_text count n xs alone) ≤ dayRoom
+    → length (day_text count n xs alone) ≤ day_room
 text-fits count n alone xs h k l m e =
     let first = printed_line (bytes "observed") (number_text count ∷ number_text n ∷ []) in
     let verdict = printed_line (bytes "xv") (verdict_fields alone) in
@@ -66,12 +66,12 @@ text-fits count n alone xs h k l m e =
     end_length = unfold join in refl
 
 -- a report of a valid case: 15 bytes, 13 for each step, 9 and 4
-pub report-fits : (c : Case) (t : List ℕ) → Valid c → DayReport c t → length t ≤ dayRoom
+pub report-fits : (c : Case) (t : List ℕ) → Valid c → DayReport c t → length t ≤ day_room
 report-fits c t v p =
     let seen = observed-few v.proper p.least in
     let alone = size-most c.n p.unconfirmed (λ b h. v.proper.units b (p.verdict.only b h).unit) in
     let accepted = derived-accepted p.derived in
-    let count = finished_length (gridOf c) p.steps p.observed accepted.0 accepted.1 p.least in
+    let count = finished_length (grid_of c) p.steps p.observed accepted.0 accepted.1 p.least in
     let most = v.buses.most in
     omega (
       arith,
@@ -80,9 +80,9 @@ report-fits c t v p =
           (derivation-named v.proper most p.derived),
     )
 
-pub day-fits : (text t : List ℕ) → DayPrinted text t → length t ≤ dayRoom
-day-fits text t = go (readCase text).answer refl
+pub day-fits : (text t : List ℕ) → DayPrinted text t → length t ≤ day_room
+day-fits text t = go (read_case text).answer refl
   where
-    go : (a : ReadAnswer) → (readCase text).answer ≡ a → DayFor a (readCase text).case t → length t ≤ dayRoom
-    go Read e p = report-fits (readCase text).case t (read-good text (readCase text) refl e) p
+    go : (a : ReadAnswer) → (read_case text).answer ≡ a → DayFor a (read_case text).case t → length t ≤ day_room
+    go Read e p = report-fits (read_case text).case t (read-good text (read_case text) refl e) p
     go (Refused q) e p = omega (arith, ap length p, refused_length q)

@@ -17,13 +17,13 @@ use Rattle.rules.proofs.Leasts.{observed-few}
 use Rattle.rules.proofs.Lists.{accepted-names}
 use Rattle.rules.proofs.Derivations.{derived-accepted, derivation-least, derivation_length}
 use Rattle.grid.specs.Rows.{neighbours}
-use Rattle.grid.specs.Cases.{gridOf, Valid}
+use Rattle.grid.specs.Cases.{grid_of, Valid}
 use Rattle.grid.specs.declared.Case.{Case}
 use Rattle.list_derive.specs.Deriving.{Derives}
 use Rattle.step.specs.Records.{no_step}
 use Rattle.list_value.specs.Lists.{listed_steps, list_of}
 use Rattle.list_value.specs.declared.StepList.{StepList}
-use Rattle.case_read.specs.Reading.{readCase}
+use Rattle.case_read.specs.Reading.{read_case}
 use Rattle.case_read.specs.declared.CaseRead.{CaseRead}
 use Rattle.case_read.specs.declared.ReadAnswer.{ReadAnswer}
 use Rattle.case_inverse.proofs.Answers.{read-says}
@@ -43,7 +43,7 @@ derivation-named {g} {xs} v h d = each_more h xs (accepted-names v empty xs (der
 listed_of : (xs : List Step) → listed_steps (list_of xs) ≡ xs
 listed_of xs = take-append_seam xs (replicate (width - length xs) no_step)
 
-pub derived-named : {c : Case} {l : StepList} → Valid c → Derives (gridOf c) l → Named l
+pub derived-named : {c : Case} {l : StepList} → Valid c → Derives (grid_of c) l → Named l
 derived-named {c} {l} v d =
     subst⁻¹ Named d.is (record {
       few = few;
@@ -58,8 +58,8 @@ derived-named {c} {l} v d =
     few =
         omega (
           arith,
-          derivation_length (gridOf c) xs d.derived,
-          observed-few v.proper (derivation-least (gridOf c) xs d.derived),
+          derivation_length (grid_of c) xs d.derived,
+          observed-few v.proper (derivation-least (grid_of c) xs d.derived),
           v.buses.most,
         )
 
@@ -69,12 +69,12 @@ derived-named {c} {l} v d =
 -- ---- its text
 
 -- the text put is the report: the list has one step for each observed bus
-pub reported : (c : Case) {l : StepList} {alone k : ℕ} → Derives (gridOf c) l
+pub reported : (c : Case) {l : StepList} {alone k : ℕ} → Derives (grid_of c) l
     → UnconfirmedSet (neighbours c.nbr) (set_of c.units) alone → Counted width alone k
     → (t : List ℕ) → IsDayText l.n c.n (listed_steps l) k t → DayReport c t
 reported c {l} {alone} {k} d u counted t e = record {
   observed = reached d.steps;
-  least = derivation-least (gridOf c) d.steps d.derived;
+  least = derivation-least (grid_of c) d.steps d.derived;
   steps = d.steps;
   derived = d.derived;
   unconfirmed = alone;
@@ -83,7 +83,7 @@ reported c {l} {alone} {k} d u counted t e = record {
 }
   where
     count : l.n ≡ size (reached d.steps)
-    count = ap (λ (m : StepList). m.n) d.is ∙ derivation_length (gridOf c) d.steps d.derived
+    count = ap (λ (m : StepList). m.n) d.is ∙ derivation_length (grid_of c) d.steps d.derived
 
     steps : listed_steps l ≡ d.steps
     steps = ap listed_steps d.is ∙ listed_of d.steps
@@ -94,5 +94,5 @@ reported c {l} {alone} {k} d u counted t e = record {
 -- ---- what reading says
 
 module _ (text : List ℕ) (r : CaseRead) where
-  pub day_by : {a : ReadAnswer} → r ≡ readCase text → r.answer ≡ a → (t : List ℕ) → DayFor a r.case t → DayPrinted text t
+  pub day_by : {a : ReadAnswer} → r ≡ read_case text → r.answer ≡ a → (t : List ℕ) → DayFor a r.case t → DayPrinted text t
   day_by e told t d = read-says text r (λ (a : ReadAnswer) (c : Case). DayFor a c t) e told d

@@ -13,7 +13,7 @@ use Rattle.basics.specs.Lists.{Each}
 use Rattle.text_field.specs.Split.{join, bytes, line_feed}
 use Rattle.text_field.specs.Number.{most_digits, number_text}
 use Rattle.text_field.proofs.Digits.{text_length, text-two}
-use Rattle.step_line.specs.StepLine.{stepText}
+use Rattle.step_line.specs.StepLine.{step_text}
 use Rattle.step.specs.Records.{no_step}
 use Rattle.list_value.specs.Lists.{nth_of, listed_steps}
 use Rattle.list_value.specs.declared.StepList.{StepList}
@@ -31,16 +31,16 @@ each_at P [] i e h = absurd (omega arith)
 each_at P (x ∷ xs) zero e h = e.0
 each_at P (x ∷ xs) (suc i) e h = each_at P xs i e.1 (omega arith)
 
-steps_cons : (x : Step) (xs : List Step) → steps_text (x ∷ xs) ≡ (stepText x ++ line_feed ∷ []) ++ steps_text xs
+steps_cons : (x : Step) (xs : List Step) → steps_text (x ∷ xs) ≡ (step_text x ++ line_feed ∷ []) ++ steps_text xs
 unfolding steps_text
-steps_cons x xs = sym (append_snoc (stepText x) line_feed (steps_text xs))
+steps_cons x xs = sym (append_snoc (step_text x) line_feed (steps_text xs))
 
 pub steps_length : (xs : List Step) → Each (Names width) xs → length (steps_text xs) ≤ 13 * length xs
 steps_length [] e = unfold steps_text in omega arith
 steps_length (x ∷ xs) e =
     rw (steps_cons x xs) (omega (
       arith,
-      length-append (stepText x ++ line_feed ∷ []) (steps_text xs),
+      length-append (step_text x ++ line_feed ∷ []) (steps_text xs),
       step_length x e.0,
       steps_length xs e.1,
     ))
@@ -63,7 +63,7 @@ module _ (l : StepList) (h : Named l) where
   pub rest-first : rest_steps l 0 ≡ steps_text (listed_steps l)
   rest-first = unfold rest_steps in refl
 
-  pub rest-next : (i : ℕ) (x : Step) → x ≡ nth_of l i → i < l.n → rest_steps l i ≡ (stepText x ++ line_feed ∷ []) ++ rest_steps l (i + 1)
+  pub rest-next : (i : ℕ) (x : Step) → x ≡ nth_of l i → i < l.n → rest_steps l i ≡ (step_text x ++ line_feed ∷ []) ++ rest_steps l (i + 1)
   unfolding rest_steps
   rest-next i x e k =
       ap steps_text (drop-cons (listed_steps l) i no_step (omega (arith, listed_length)))

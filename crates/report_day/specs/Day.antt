@@ -8,11 +8,11 @@ use Rattle.rules.specs.Derivation.{Derivation}
 use Rattle.rules.specs.Confirming.{UnconfirmedSet}
 use Rattle.text_field.specs.Split.{bytes, line_feed}
 use Rattle.text_field.specs.Number.{number_text}
-use Rattle.step_line.specs.StepLine.{stepText}
+use Rattle.step_line.specs.StepLine.{step_text}
 use Rattle.grid.specs.declared.Case.{Case}
 use Rattle.refusals.specs.Calls.{Call}
-use Rattle.grid.specs.Cases.{gridOf}
-use Rattle.case_read.specs.Reading.{readCase}
+use Rattle.grid.specs.Cases.{grid_of}
+use Rattle.case_read.specs.Reading.{read_case}
 use Rattle.case_read.specs.declared.ReadAnswer.{ReadAnswer}
 use Rattle.case_read.specs.declared.ReadAnswer.TheVariants.{Read, Refused}
 use Rattle.report_lines.specs.Printing.{printed_line, IsRefusedText, printing_call}
@@ -22,7 +22,7 @@ use Rattle.report_lines.specs.Printing.{printed_line, IsRefusedText, printing_ca
 -- a line for each step
 unfoldable pub steps_text : List Step → List ℕ
 steps_text [] = []
-steps_text (x ∷ xs) = stepText x ++ line_feed ∷ steps_text xs
+steps_text (x ∷ xs) = step_text x ++ line_feed ∷ steps_text xs
 
 -- yes, or no and how many units no other unit confirms
 abbrev pub verdict_fields : ℕ → List (List ℕ)
@@ -42,19 +42,19 @@ abbrev pub IsDayText : ℕ → ℕ → List Step → ℕ → List ℕ → Type 0
 IsDayText count n steps alone t = t ≡ day_text count n steps alone
 
 -- the most bytes of a report: 13 for each step, and 28 for the other lines
-abbrev pub dayRoom : ℕ
-dayRoom = 28 + 13 * most_buses
+abbrev pub day_room : ℕ
+day_room = 28 + 13 * most_buses
 
 -- ---- what is printed
 
 -- t is the report of the case c
 pub record DayReport (c : Case) (t : List ℕ) : Type 0 where
   pub observed : ℕ
-  pub least : ObservedSet (gridOf c) observed
+  pub least : ObservedSet (grid_of c) observed
   pub steps : List Step
-  pub derived : Derivation (gridOf c) steps
+  pub derived : Derivation (grid_of c) steps
   pub unconfirmed : ℕ
-  pub verdict : UnconfirmedSet (gridOf c).neighbours (gridOf c).units unconfirmed
+  pub verdict : UnconfirmedSet (grid_of c).neighbours (grid_of c).units unconfirmed
   pub is : t ≡ day_text (size observed) c.n steps (size unconfirmed)
 
 -- by what reading says: the report of the case, or the refusal
@@ -64,7 +64,7 @@ DayFor (Refused q) c t = IsRefusedText q t
 
 -- t is what the day report prints for the case text
 abbrev pub DayPrinted : List ℕ → List ℕ → Type 0
-DayPrinted text t = DayFor (readCase text).answer (readCase text).case t
+DayPrinted text t = DayFor (read_case text).answer (read_case text).case t
 
 -- `day_report`
 abbrev pub day_report_call : Call

@@ -23,8 +23,8 @@ use Rattle.case_read.specs.declared.ReadAnswer.{ReadAnswer}
 use Rattle.case_read.specs.declared.ReadAnswer.TheVariants.{Read, Refused}
 use Rattle.case_inverse.proofs.Counts.{members-few}
 use Rattle.report_lines.proofs.Printed.{refused_length}
-use Rattle.report_plan.specs.Plan.{plan_text, planRoom, PlanReport, PlanFor, PlanPrinted}
-use Rattle.plan_input.specs.Asking.{readPlan}
+use Rattle.report_plan.specs.Plan.{plan_text, plan_room, PlanReport, PlanFor, PlanPrinted}
+use Rattle.plan_input.specs.Asking.{read_plan}
 use Rattle.report_plan.specs.Plan.PlanReport.{found, none}
 use Rattle.plan_input.proofs.Inputs.{plan_valid}
 
@@ -39,7 +39,7 @@ unfolding members lines_text
 unit_lines s k zero h = omega arith
 unit_lines s k (suc m) h = one_line (has s k) k (members Pmu s (k + 1) m) (omega arith) (unit_lines s (k + 1) m (omega arith))
 
-text-fits : (n s : ℕ) → n ≤ most_buses → size s ≤ largest_budget → length (plan_text n s) ≤ planRoom
+text-fits : (n s : ℕ) → n ≤ most_buses → size s ≤ largest_budget → length (plan_text n s) ≤ plan_room
 unfolding join
 text-fits n s h k =
     simp length-append (omega (arith, ap length (text-few (size s) (omega arith)), unit_lines s 1 n (omega arith), members-few Pmu s n))
@@ -47,16 +47,16 @@ text-fits n s h k =
 fewest-few : {g : Grid} {budget m : ℕ} → FewestSites g budget m → size m ≤ budget
 fewest-few f = omega (arith, ap size f.set, size-placed f.list empty, size-empty, f.addition.within)
 
-report-fits : (c : Case) (budget : ℕ) (t : List ℕ) → Valid c → PlanReport c budget t → length t ≤ planRoom
+report-fits : (c : Case) (budget : ℕ) (t : List ℕ) → Valid c → PlanReport c budget t → length t ≤ plan_room
 report-fits c budget t v (found m p f i) =
     omega (arith, ap length i, text-fits c.n m v.buses.most (omega (arith, fewest-few f, p.0)))
 report-fits c budget t v (none q p i) = omega (arith, ap length i, refused_length q)
 
 -- that is room for whatever is printed
-pub plan_fits : (input t : List ℕ) → PlanPrinted input t → length t ≤ planRoom
-plan_fits input t = go (readPlan input).read.answer refl
+pub plan_fits : (input t : List ℕ) → PlanPrinted input t → length t ≤ plan_room
+plan_fits input t = go (read_plan input).read.answer refl
   where
-    go : (a : ReadAnswer) → (readPlan input).read.answer ≡ a → PlanFor a (readPlan input).read.case (readPlan input).budget t
-        → length t ≤ planRoom
-    go Read e p = report-fits (readPlan input).read.case (readPlan input).budget t (plan_valid input e) p
+    go : (a : ReadAnswer) → (read_plan input).read.answer ≡ a → PlanFor a (read_plan input).read.case (read_plan input).budget t
+        → length t ≤ plan_room
+    go Read e p = report-fits (read_plan input).read.case (read_plan input).budget t (plan_valid input e) p
     go (Refused q) e p = omega (arith, ap length p, refused_length q)

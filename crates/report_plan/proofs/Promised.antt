@@ -2,8 +2,8 @@
 use contract.Lifetimes.{Lfts}
 use Rattle.refusals.specs.Calls.{Keeps}
 use Rattle.report_plan.specs.Plan.{plan_report_call}
-use Rattle.report_plan.proofs.plan_report.Reads as plan-report
+use Rattle.report_plan.proofs.plan_report.Reads as plan_report
 
 pub plan_report-promised : (κs : Lfts 2) → Keeps plan_report_call (λ (input, _). input.now) (λ (_, (out, _)). out.now)
-    (plan-report.Asked κs) (plan-report.Learnt κs)
+    (plan_report.Asked κs) (plan_report.Learnt κs)
 plan_report-promised κs a = (tt, λ r b told. told)

@@ -10,7 +10,7 @@ use Rattle.rules.proofs.Ordering.{fewest-some}
 use Rattle.text_field.specs.Split.{join, bytes, tab, line_feed}
 use Rattle.text_field.specs.Number.{number_text}
 use Rattle.case_line.specs.declared.Record.TheVariants.{Pmu}
-use Rattle.grid.specs.Cases.{gridOf}
+use Rattle.grid.specs.Cases.{grid_of}
 use Rattle.grid.specs.declared.Case.{Case}
 use Rattle.refusals.specs.declared.Refusal.TheVariants.{OverBudget, NoCover}
 use Rattle.refusals.proofs.Orders.{itself}
@@ -19,7 +19,7 @@ use Rattle.place_fewest.specs.declared.Found.{Found}
 use Rattle.place_fewest.specs.declared.Found.TheVariants.{Sites, Nothing}
 use Rattle.case_line.specs.CaseText.{members, lines_text}
 use Rattle.case_read.specs.declared.ReadAnswer.{ReadAnswer}
-use Rattle.plan_input.specs.Asking.{readPlan}
+use Rattle.plan_input.specs.Asking.{read_plan}
 use Rattle.plan_input.specs.declared.Asked.{Asked}
 use Rattle.text_put.specs.Put.{Put}
 use Rattle.report_lines.specs.Printing.{printed_line, IsRefusedText}
@@ -40,7 +40,7 @@ over-budget m h t e = none (OverBudget 1) (inl ((λ l. omega arith), itself (Ove
 
 -- what the search says, by its answer
 module _ (c : Case) (budget : ℕ) {most : ℕ} {r : Found} (m : most ≡ most_budget c.n) (h : budget ≤ most)
-    (is : FewestIs (gridOf c) budget r) where
+    (is : FewestIs (grid_of c) budget r) where
   pub no_cover : r ≡ Nothing → (t : List ℕ) → IsRefusedText NoCover t → PlanReport c budget t
   no_cover e t i = none NoCover (inr (omega arith, inl (rw e at is, itself NoCover))) i
 
@@ -48,7 +48,7 @@ module _ (c : Case) (budget : ℕ) {most : ℕ} {r : Found} (m : most ≡ most_b
   fewest_found e t i = let f = rw e at is in found _ (omega arith, (fewest-some f, tt)) f i
 
 -- what is printed for what was read is what the input asks for
-pub plan_by : (x : List ℕ) {a : Asked} {r : ReadAnswer} → a ≡ readPlan x → a.read.answer ≡ r → (t : List ℕ)
+pub plan_by : (x : List ℕ) {a : Asked} {r : ReadAnswer} → a ≡ read_plan x → a.read.answer ≡ r → (t : List ℕ)
     → PlanFor r a.read.case a.budget t → PlanPrinted x t
 plan_by x {a} {r} is told t p =
     subst (λ (b : Asked). PlanFor b.read.answer b.read.case b.budget t) is

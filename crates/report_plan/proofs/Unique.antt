@@ -9,7 +9,7 @@ use Rattle.case_read.specs.declared.ReadAnswer.{ReadAnswer}
 use Rattle.case_read.specs.declared.ReadAnswer.TheVariants.{Read, Refused}
 use Rattle.report_lines.specs.Printing.{refused_text}
 use Rattle.report_plan.specs.Plan.{plan_checks, plan_text, PlanReport, PlanFor, PlanPrinted}
-use Rattle.plan_input.specs.Asking.{readPlan}
+use Rattle.plan_input.specs.Asking.{read_plan}
 use Rattle.report_plan.specs.Plan.PlanReport.{found, none}
 
 report-unique : (c : Case) (budget : ℕ) (s t : List ℕ) → PlanReport c budget s → PlanReport c budget t → s ≡ t
@@ -23,4 +23,4 @@ read-unique Read c budget s t p q = report-unique c budget s t p q
 read-unique (Refused r) c budget s t p q = p ∙ sym q
 
 pub plan_unique : (input s t : List ℕ) → PlanPrinted input s → PlanPrinted input t → s ≡ t
-plan_unique input = read-unique (readPlan input).read.answer (readPlan input).read.case (readPlan input).budget
+plan_unique input = read-unique (read_plan input).read.answer (read_plan input).read.case (read_plan input).budget

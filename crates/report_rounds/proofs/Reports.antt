@@ -17,9 +17,9 @@ use Rattle.rules.proofs.Rounds.{round-size, rounds-unique, rounds-least, rounds-
 use Rattle.text_field.specs.Split.{join, bytes, line_feed}
 use Rattle.text_field.specs.Number.{number_text}
 use Rattle.text_field.proofs.Digits.{text-two}
-use Rattle.grid.specs.Cases.{gridOf, Valid}
+use Rattle.grid.specs.Cases.{grid_of, Valid}
 use Rattle.grid.specs.declared.Case.{Case}
-use Rattle.case_read.specs.Reading.{readCase}
+use Rattle.case_read.specs.Reading.{read_case}
 use Rattle.case_read.specs.declared.CaseRead.{CaseRead}
 use Rattle.case_read.specs.declared.ReadAnswer.{ReadAnswer}
 use Rattle.case_read.specs.declared.ReadAnswer.TheVariants.{Read, Refused}
@@ -28,28 +28,28 @@ use Rattle.round_list.specs.Rounds.{each_bus, HasRounds}
 use Rattle.round_list.specs.declared.RoundSets.{RoundSets}
 use Rattle.report_lines.specs.Printing.{printed_line}
 use Rattle.report_lines.proofs.Printed.{refused_length}
-use Rattle.report_rounds.specs.Rounds.{round_line, round_lines, rounds_text, roundsRoom, RoundsReport, RoundsFor, RoundsPrinted}
+use Rattle.report_rounds.specs.Rounds.{round_line, round_lines, rounds_text, rounds_room, RoundsReport, RoundsFor, RoundsPrinted}
 use Rattle.report_rounds.specs.Lines.{tabbed}
 use Rattle.report_rounds.proofs.Texts.{line-parts}
 
 -- ---- the text of the rounds held
 
-pub reported : {c : Case} {l : RoundSets} (h : HasRounds (gridOf c) l) → RoundsReport c (rounds_text h.rounds)
+pub reported : {c : Case} {l : RoundSets} (h : HasRounds (grid_of c) l) → RoundsReport c (rounds_text h.rounds)
 reported h = record { rounds = h.rounds; are = h.are; is = refl }
 
 -- ---- what reading says
 
 module _ (text : List ℕ) (r : CaseRead) where
-  pub rounds_by : {a : ReadAnswer} → r ≡ readCase text → r.answer ≡ a → (t : List ℕ) → RoundsFor a r.case t → RoundsPrinted text t
+  pub rounds_by : {a : ReadAnswer} → r ≡ read_case text → r.answer ≡ a → (t : List ℕ) → RoundsFor a r.case t → RoundsPrinted text t
   rounds_by e told t p = read-says text r (λ (a : ReadAnswer) (c : Case). RoundsFor a c t) e told p
 
 -- ---- one text
 
 pub rounds-text-unique : (text s t : List ℕ) → RoundsPrinted text s → RoundsPrinted text t → s ≡ t
-rounds-text-unique text s t = go (readCase text).answer (readCase text).case
+rounds-text-unique text s t = go (read_case text).answer (read_case text).case
   where
     go : (a : ReadAnswer) (c : Case) → RoundsFor a c s → RoundsFor a c t → s ≡ t
-    go Read c p q = p.is ∙ ap rounds_text (rounds-unique (gridOf c) empty p.rounds q.rounds p.are q.are) ∙ sym q.is
+    go Read c p q = p.is ∙ ap rounds_text (rounds-unique (grid_of c) empty p.rounds q.rounds p.are q.are) ∙ sym q.is
     go (Refused r) c p q = p ∙ sym q
 
 -- ---- how long it is
@@ -100,7 +100,7 @@ unfolding join
 end_length = refl
 
 -- a report of a valid case
-report-fits : (c : Case) (t : List ℕ) → Valid c → RoundsReport c t → length t ≤ roundsRoom
+report-fits : (c : Case) (t : List ℕ) → Valid c → RoundsReport c t → length t ≤ rounds_room
 report-fits c t v p =
     let most = v.buses.most in
     let few = rounds-few v.proper p.rounds p.are in
@@ -109,14 +109,14 @@ report-fits c t v p =
       ap length p.is,
       length-append (round_lines 1 p.rounds) (printed_line (bytes "end") []),
       end_length,
-      lines_length (gridOf c) 1 empty p.rounds v.proper most (omega arith) p.are,
-      observed-few v.proper (rounds-least (gridOf c) p.rounds p.are),
+      lines_length (grid_of c) 1 empty p.rounds v.proper most (omega arith) p.are,
+      observed-few v.proper (rounds-least (grid_of c) p.rounds p.are),
       size-empty,
     )
 
-pub rounds-fits : (text t : List ℕ) → RoundsPrinted text t → length t ≤ roundsRoom
-rounds-fits text t = go (readCase text).answer refl
+pub rounds-fits : (text t : List ℕ) → RoundsPrinted text t → length t ≤ rounds_room
+rounds-fits text t = go (read_case text).answer refl
   where
-    go : (a : ReadAnswer) → (readCase text).answer ≡ a → RoundsFor a (readCase text).case t → length t ≤ roundsRoom
-    go Read e p = report-fits (readCase text).case t (read-good text (readCase text) refl e) p
+    go : (a : ReadAnswer) → (read_case text).answer ≡ a → RoundsFor a (read_case text).case t → length t ≤ rounds_room
+    go Read e p = report-fits (read_case text).case t (read-good text (read_case text) refl e) p
     go (Refused q) e p = omega (arith, ap length p, refused_length q)

@@ -5,9 +5,9 @@ use Rattle.text_field.specs.Number.{number_text}
 use Rattle.rules.specs.Rounds.{RoundsOf}
 use Rattle.grid.specs.declared.Case.{Case}
 use Rattle.grid.specs.Limits.{most_buses}
-use Rattle.grid.specs.Cases.{gridOf}
+use Rattle.grid.specs.Cases.{grid_of}
 use Rattle.refusals.specs.Calls.{Call}
-use Rattle.case_read.specs.Reading.{readCase}
+use Rattle.case_read.specs.Reading.{read_case}
 use Rattle.case_read.specs.declared.ReadAnswer.{ReadAnswer}
 use Rattle.case_read.specs.declared.ReadAnswer.TheVariants.{Read, Refused}
 use Rattle.report_lines.specs.Printing.{printed_line, IsRefusedText, printing_call}
@@ -33,15 +33,15 @@ abbrev pub rounds_text : List (List ℕ) → List ℕ
 rounds_text rounds = round_lines 1 rounds ++ printed_line (bytes "end") []
 
 -- the most bytes of a report: 9 for each round, 3 for each bus, and 4 for the last line
-abbrev pub roundsRoom : ℕ
-roundsRoom = 4 + 12 * most_buses
+abbrev pub rounds_room : ℕ
+rounds_room = 4 + 12 * most_buses
 
 -- ---- what is printed
 
 -- t is the report of the case c
 pub record RoundsReport (c : Case) (t : List ℕ) : Type 0 where
   pub rounds : List (List ℕ)
-  pub are : RoundsOf (gridOf c) rounds
+  pub are : RoundsOf (grid_of c) rounds
   pub is : t ≡ rounds_text rounds
 
 -- by what reading says: the report of the case, or the refusal
@@ -51,7 +51,7 @@ RoundsFor (Refused q) c t = IsRefusedText q t
 
 -- t is what the rounds report prints for the case text
 abbrev pub RoundsPrinted : List ℕ → List ℕ → Type 0
-RoundsPrinted text t = RoundsFor (readCase text).answer (readCase text).case t
+RoundsPrinted text t = RoundsFor (read_case text).answer (read_case text).case t
 
 -- `rounds_report`
 abbrev pub rounds_report_call : Call

@@ -11,7 +11,7 @@ use Rattle.text_put.specs.Put.{Put}
 use Rattle.text_put.proofs.Whole.{put_whole, put_count}
 use Rattle.rules.proofs.Rounds.{rounds-unique}
 use Rattle.grid.specs.declared.Case.{Case}
-use Rattle.grid.specs.Cases.{gridOf}
+use Rattle.grid.specs.Cases.{grid_of}
 use Rattle.round_list.specs.Rounds.{each_bus, HeldRounds, HasRounds}
 use Rattle.round_list.specs.declared.RoundSets.{RoundSets}
 use Rattle.round_calls.specs.Replies.{round_numbers, RoundsFit, RoundsWritten}
@@ -44,7 +44,7 @@ rest_all rounds i l = ap round_numbers (drop_of_length-le rounds {i = i} l)
 
 -- ---- the reply: what counts is what writes
 
-module _ (c : Case) {list : RoundSets} {k : ℕ} {lent left : List ℕ} (h : HasRounds (gridOf c) list)
+module _ (c : Case) {list : RoundSets} {k : ℕ} {lent left : List ℕ} (h : HasRounds (grid_of c) list)
     (put : (rounds : List (List ℕ)) → HeldRounds list rounds → Put lent 0 (round_numbers rounds) left k) where
   numbers : k ≡ length (round_numbers h.rounds)
   numbers = put_count (put h.rounds h.held)
@@ -52,9 +52,9 @@ module _ (c : Case) {list : RoundSets} {k : ℕ} {lent left : List ℕ} (h : Has
   pub no_room : (room : List ℕ) → length room < k → RoundsFit c room → ⊥
   no_room room l fits = omega (arith, numbers, fits h.rounds h.are)
 
-  pub has_room : (room : List ℕ) → k ≤ length room → RoundsFit c room
-  has_room room l rounds p =
-      let same = rounds-unique (gridOf c) empty rounds h.rounds p h.are in
+  pub has_room_lem : (room : List ℕ) → k ≤ length room → RoundsFit c room
+  has_room_lem room l rounds p =
+      let same = rounds-unique (grid_of c) empty rounds h.rounds p h.are in
       omega (arith, numbers, ap (λ (r : List (List ℕ)). length (round_numbers r)) same)
 
   pub rounds_written : RoundsFit c lent → RoundsWritten c lent left k list.count

@@ -2,7 +2,7 @@
 use Rattle.std.specs.Prelude.{◌≡◌, List, [], ◌∷◌, ◌++◌, ℕ, ◌≤◌, length, drop}
 use Rattle.rules.specs.Rounds.{RoundsOf}
 use Rattle.grid.specs.declared.Case.{Case}
-use Rattle.grid.specs.Cases.{gridOf, Valid}
+use Rattle.grid.specs.Cases.{grid_of, Valid}
 use Rattle.refusals.specs.Refusals.{Check, check_that, Passed, Failed}
 use Rattle.refusals.specs.Calls.{Call, Refuses}
 use Rattle.round_calls.specs.declared.RoundsAnswer.{RoundsAnswer}
@@ -15,7 +15,7 @@ round_numbers (r ∷ rounds) = (length r ∷ r) ++ round_numbers rounds
 
 -- the list of the rounds has room
 abbrev pub RoundsFit : Case → List ℕ → Type 0
-RoundsFit c room = (rounds : List (List ℕ)) → RoundsOf (gridOf c) rounds → length (round_numbers rounds) ≤ length room
+RoundsFit c room = (rounds : List (List ℕ)) → RoundsOf (grid_of c) rounds → length (round_numbers rounds) ≤ length room
 
 -- 5; the list has room, or 6
 abbrev pub rounds_checks : Case → List ℕ → List Check
@@ -24,7 +24,7 @@ rounds_checks c room = check_that (Valid c) 5 0 ∷ check_that (RoundsFit c room
 -- the list of the rounds, so many numbers and so many rounds, stands first in the room, and the rest of it stays
 pub record RoundsWritten (c : Case) (entry exit : List ℕ) (numbers count : ℕ) : Type 0 where
   pub rounds : List (List ℕ)
-  pub are : RoundsOf (gridOf c) rounds
+  pub are : RoundsOf (grid_of c) rounds
   pub long : numbers ≡ length (round_numbers rounds)
   pub many : count ≡ length rounds
   pub written : exit ≡ round_numbers rounds ++ drop numbers entry

@@ -5,7 +5,7 @@ ghost use Rattle.busset.specs.Sets.{Bus, width, set_of};
 ghost use Rattle.busset.specs.Held.{SetWord};
 ghost use Rattle.rules.specs.Grids.{Proper};
 ghost use Rattle.rules.specs.Rounds.{Gives};
-ghost use Rattle.grid.specs.Cases.{grid_with, gridOf, Valid};
+ghost use Rattle.grid.specs.Cases.{grid_with, grid_of, Valid};
 ghost use Rattle.round_list.specs.Rounds.{SomeReason, RoundSet, HasRounds};
 
 use busset::BusSet;
@@ -73,7 +73,7 @@ fn round(n: usize, nbr: &Rows, zero: BusSet, units: BusSet, s: BusSet) -> BusSet
 // Round after round, until one adds no bus.
 pub fn rounds(case: Case) -> RoundSets
     requires { Valid case }
-    ensures { HasRounds (gridOf case) result }
+    ensures { HasRounds (grid_of case) result }
 {
     let nbr = case.nbr;
     let mut sets: [BusSet; MOST_BUSES] = [0; MOST_BUSES];

@@ -5,7 +5,7 @@ use Prim.Native.Nat.{ℕ, ◌<◌}
 use native.Mathlib.Omega.{arith}
 use borrow.Author.Tests.{eq-eqb, ne_eqb}
 use lib.ListN.{length, get_or}
-use Rattle.step.specs.Reasons.{letter_of, named_by, ifLetter, reasonOf, letters, turn_of}
+use Rattle.step.specs.Reasons.{letter_of, named_by, if_letter, reason_of, letters, turn_of}
 use Rattle.step.specs.declared.Reason.{Reason}
 use Rattle.step.specs.declared.Reason.TheVariants.{OwnUnit, NeighbourOf, ZeroInjection}
 use Rattle.step.specs.declared.NamedBus.{NamedBus}
@@ -15,13 +15,13 @@ use Rattle.step.specs.declared.Given.TheVariants.{Is, Wrong}
 
 -- ---- letters
 
-pub letter_hit : {l k : ℕ} (r : Reason) (other : Given) → k ≡ letter_of r → l ≡ k → Is r ≡ ifLetter l r other
+pub letter_hit : {l k : ℕ} (r : Reason) (other : Given) → k ≡ letter_of r → l ≡ k → Is r ≡ if_letter l r other
 letter_hit {l} {k} r other e h = rw (eq-eqb l (letter_of r) (h ∙ e))
 
-pub letter_miss : {l k : ℕ} (r : Reason) (other : Given) → k ≡ letter_of r → (l ≡ k → ⊥) → other ≡ ifLetter l r other
+pub letter_miss : {l k : ℕ} (r : Reason) (other : Given) → k ≡ letter_of r → (l ≡ k → ⊥) → other ≡ if_letter l r other
 letter_miss {l} {k} r other e n = rw (ne_eqb l (letter_of r) (λ h. n (h ∙ sym e)))
 
-there_and_back : (r : Reason) → reasonOf (letter_of r) (named_by r) ≡ Is r
+there_and_back : (r : Reason) → reason_of (letter_of r) (named_by r) ≡ Is r
 there_and_back OwnUnit = refl
 there_and_back (NeighbourOf p) = refl
 there_and_back (ZeroInjection w) = refl
@@ -70,18 +70,18 @@ given-wrong : {r : Reason} → Wrong ≡ Is r → ⊥
 given-wrong e = let z : ◌≡◌ {A = ℕ} 0 1 = cc in omega arith
 
 -- what the turn of q has, by the bus that is named
-by_turn : (q r : Reason) → turn_of r ≡ turn_of q → reasonOf (letter_of q) (named_by r) ≡ Is r
+by_turn : (q r : Reason) → turn_of r ≡ turn_of q → reason_of (letter_of q) (named_by r) ≡ Is r
 by_turn q r e = rw (← same-letter r q e) (there_and_back r)
 
-alone : (q : Reason) → reasonOf (letter_of q) Nothing ≡ Is q → ((p : ℕ) → reasonOf (letter_of q) (Bus p) ≡ Wrong) → Alone q
+alone : (q : Reason) → reason_of (letter_of q) Nothing ≡ Is q → ((p : ℕ) → reason_of (letter_of q) (Bus p) ≡ Wrong) → Alone q
 alone q none some = record { only = λ r e. go r (named_by r) (by_turn q r e) }
   where
-    go : (r : Reason) (x : NamedBus) → reasonOf (letter_of q) x ≡ Is r → r ≡ q
+    go : (r : Reason) (x : NamedBus) → reason_of (letter_of q) x ≡ Is r → r ≡ q
     go r Nothing e = given-same (sym none ∙ e)
     go r (Bus p) e = absurd (given-wrong (sym (some p) ∙ e))
 
 naming : (f : ℕ → Reason) → ((p : ℕ) → named_by (f p) ≡ Bus p) → ((p : ℕ) → letter_of (f p) ≡ letter_of (f 0))
-    → reasonOf (letter_of (f 0)) Nothing ≡ Wrong → ((p : ℕ) → reasonOf (letter_of (f 0)) (Bus p) ≡ Is (f p))
+    → reason_of (letter_of (f 0)) Nothing ≡ Wrong → ((p : ℕ) → reason_of (letter_of (f 0)) (Bus p) ≡ Is (f p))
     → Naming f
 naming f names letter none some = record {
   names = names;
@@ -89,7 +89,7 @@ naming f names letter none some = record {
   only = λ r e. go r (named_by r) (by_turn (f 0) r e);
 }
   where
-    go : (r : Reason) (x : NamedBus) → reasonOf (letter_of (f 0)) x ≡ Is r → OfTurn f r
+    go : (r : Reason) (x : NamedBus) → reason_of (letter_of (f 0)) x ≡ Is r → OfTurn f r
     go r Nothing e = absurd (given-wrong (sym none ∙ e))
     go r (Bus p) e = record { bus = p; is = given-same (sym (some p) ∙ e) }
 

@@ -23,13 +23,13 @@ named_by (ZeroInjection w) = Bus w
 -- ---- the way back
 
 -- the reason r if l is its letter, else `other`
-abbrev pub ifLetter : ℕ → Reason → Given → Given
-ifLetter l r other = cond (eqb l (letter_of r)) (Is r) other
+abbrev pub if_letter : ℕ → Reason → Given → Given
+if_letter l r other = cond (eqb l (letter_of r)) (Is r) other
 
 -- the reason with the letter l that names this bus
-abbrev pub reasonOf : ℕ → NamedBus → Given
-reasonOf l Nothing = ifLetter l OwnUnit Wrong
-reasonOf l (Bus b) = ifLetter l (NeighbourOf b) (ifLetter l (ZeroInjection b) Wrong)
+abbrev pub reason_of : ℕ → NamedBus → Given
+reason_of l Nothing = if_letter l OwnUnit Wrong
+reason_of l (Bus b) = if_letter l (NeighbourOf b) (if_letter l (ZeroInjection b) Wrong)
 
 -- ---- the fixed order
 

@@ -12,6 +12,6 @@ abbrev pub written_into : List Step → List Step → List Step
 written_into xs before = xs ++ drop (length xs) before
 
 -- the records with the first k steps in their places, where the step at each place, counted from 0, is told
-abbrev pub putFirst : ℕ → (ℕ → Step) → List Step → List Step
-putFirst zero told before = before
-putFirst (suc k) told before = set (putFirst k told before) k (told k)
+abbrev pub put_first : ℕ → (ℕ → Step) → List Step → List Step
+put_first zero told before = before
+put_first (suc k) told before = set (put_first k told before) k (told k)

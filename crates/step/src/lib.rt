@@ -1,7 +1,7 @@
 // A step, as a desk's record holds it, and what each reason has: its letter, and the bus that it names.
 // Buses are numbered as the grid numbers them, and any number may stand in a record.
 ghost use Rattle.std.specs.Prelude.{◌≡◌};
-ghost use Rattle.step.specs.Reasons.{letter_of, named_by, ifLetter, reasonOf};
+ghost use Rattle.step.specs.Reasons.{letter_of, named_by, if_letter, reason_of};
 
 // Why a bus is observed.
 #[derive(Drop)]
@@ -58,7 +58,7 @@ pub fn named(r: Reason) -> NamedBus
 
 // The reason r if l is its letter, else `other`.
 fn if_letter(l: u8, r: Reason, other: Given) -> Given
-    ensures { result ≡ ifLetter l r other }
+    ensures { result ≡ if_letter l r other }
 {
     if l == letter(r) {
         return Given::Is(r);
@@ -68,7 +68,7 @@ fn if_letter(l: u8, r: Reason, other: Given) -> Given
 
 // The reason with the letter l that names this bus, or that there is none.
 pub fn reason_of(l: u8, bus: NamedBus) -> Given
-    ensures { result ≡ reasonOf l bus }
+    ensures { result ≡ reason_of l bus }
 {
     match bus {
         NamedBus::Nothing => if_letter(l, Reason::OwnUnit, Given::Wrong),

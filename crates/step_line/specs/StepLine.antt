@@ -10,8 +10,8 @@ use Rattle.step.specs.declared.NamedBus.TheVariants.{Nothing, Bus}
 use Rattle.step.specs.declared.Given.{Given}
 use Rattle.step.specs.declared.Given.TheVariants.{Is as By, Wrong as NoReason}
 use Rattle.step.specs.declared.Step as step
-use Rattle.step.specs.Reasons.{letter_of, named_by, reasonOf}
-use Rattle.case_line.specs.Fields.{if_no_field, oneNumber}
+use Rattle.step.specs.Reasons.{letter_of, named_by, reason_of}
+use Rattle.case_line.specs.Fields.{if_no_field, one_number}
 use Rattle.step_line.specs.declared.StepWord.{StepWord}
 use Rattle.step_line.specs.declared.StepWord.TheVariants.{Step as TheStep, End as EndWord, Other as OtherWord}
 use Rattle.step_line.specs.declared.StepLine.{StepLine}
@@ -20,8 +20,8 @@ use Rattle.step_line.specs.declared.StepLine.TheVariants.{Step, End, Wrong}
 -- ---- words
 
 -- the word that a field is
-unfoldable pub stepWordOf : List ℕ → StepWord
-stepWordOf f =
+unfoldable pub step_word_of : List ℕ → StepWord
+step_word_of f =
     cond (same f (bytes "step")) TheStep
     (cond (same f (bytes "end")) EndWord
     OtherWord)
@@ -30,24 +30,24 @@ stepWordOf f =
 
 -- the reason with the letter l that names the bus of this number
 abbrev pub numbered_reason : ℕ → Numeral → Given
-numbered_reason l (Number b) = reasonOf l (Bus b)
+numbered_reason l (Number b) = reason_of l (Bus b)
 numbered_reason l NoNumber = NoReason
 
 -- the reason with the letter l: no field follows it, or the number of the bus that it names
-unfoldable pub letteredFields : ℕ → List (List ℕ) → Given
-letteredFields l [] = reasonOf l Nothing
-letteredFields l (f ∷ fs) = numbered_reason l (oneNumber (f ∷ fs))
+unfoldable pub lettered_fields : ℕ → List (List ℕ) → Given
+lettered_fields l [] = reason_of l Nothing
+lettered_fields l (f ∷ fs) = numbered_reason l (one_number (f ∷ fs))
 
 -- the letter, which is one byte, and the fields after it
 abbrev pub by_letter : List ℕ → List (List ℕ) → Given
 by_letter [] fs = NoReason
-by_letter (l ∷ []) fs = letteredFields l fs
+by_letter (l ∷ []) fs = lettered_fields l fs
 by_letter (l ∷ m ∷ f) fs = NoReason
 
 -- the fields after the bus
-unfoldable pub reasonFields : List (List ℕ) → Given
-reasonFields [] = NoReason
-reasonFields (f ∷ fs) = by_letter f fs
+unfoldable pub reason_fields : List (List ℕ) → Given
+reason_fields [] = NoReason
+reason_fields (f ∷ fs) = by_letter f fs
 
 -- a bus and its reason
 abbrev pub step_of : Numeral → Given → StepLine
@@ -56,23 +56,23 @@ step_of (Number b) NoReason = Wrong
 step_of NoNumber given = Wrong
 
 -- the fields after `step`
-unfoldable pub stepFields : List (List ℕ) → StepLine
-stepFields [] = Wrong
-stepFields (b ∷ fs) = step_of (numeral_of b) (reasonFields fs)
+unfoldable pub step_fields : List (List ℕ) → StepLine
+step_fields [] = Wrong
+step_fields (b ∷ fs) = step_of (numeral_of b) (reason_fields fs)
 
 -- `end`, which no field follows
-abbrev pub endFields : List (List ℕ) → StepLine
-endFields = if_no_field Wrong End
+abbrev pub end_fields : List (List ℕ) → StepLine
+end_fields = if_no_field Wrong End
 
 -- the word, and the fields after it
 abbrev pub by_step_word : StepWord → List (List ℕ) → StepLine
-by_step_word TheStep fs = stepFields fs
-by_step_word EndWord fs = endFields fs
+by_step_word TheStep fs = step_fields fs
+by_step_word EndWord fs = end_fields fs
 by_step_word OtherWord fs = Wrong
 
 -- the step that a line is
-unfoldable pub stepLineOf : List ℕ → StepLine
-stepLineOf l = by_step_word (stepWordOf (split tab l).first) (split tab l).rest
+unfoldable pub step_line_of : List ℕ → StepLine
+step_line_of l = by_step_word (step_word_of (split tab l).first) (split tab l).rest
 
 -- ---- a step's text
 
@@ -86,5 +86,5 @@ abbrev pub reason_texts : Reason → List (List ℕ)
 reason_texts r = (letter_of r ∷ []) ∷ named_texts (named_by r)
 
 -- the line that a step is
-unfoldable pub stepText : step.Step → List ℕ
-stepText x = join tab (bytes "step") (number_text x.bus ∷ reason_texts x.reason)
+unfoldable pub step_text : step.Step → List ℕ
+step_text x = join tab (bytes "step") (number_text x.bus ∷ reason_texts x.reason)

@@ -1,8 +1,8 @@
 // One line of a step text, read as a step.
 ghost use Rattle.std.specs.Prelude.{◌≡◌};
 ghost use Rattle.text_field.specs.Split.{after};
-ghost use Rattle.step_line.specs.StepLine.{stepWordOf, numbered_reason, letteredFields, reasonFields};
-ghost use Rattle.step_line.specs.StepLine.{step_of, stepFields, endFields, stepLineOf};
+ghost use Rattle.step_line.specs.StepLine.{step_word_of, numbered_reason, lettered_fields, reason_fields};
+ghost use Rattle.step_line.specs.StepLine.{step_of, step_fields, end_fields, step_line_of};
 
 pub mod put;
 
@@ -26,7 +26,7 @@ pub enum StepWord {
 }
 
 fn step_word_of(f: &[u8]) -> StepWord
-    ensures { result ≡ stepWordOf f.now }
+    ensures { result ≡ step_word_of f.now }
 {
     if text_field::is_same(f, b"step") {
         return StepWord::Step;
@@ -61,7 +61,7 @@ fn step_of(bus: Numeral, given: Given) -> StepLine
 
 // The reason with the letter l, which ends at `at`: no field follows it, or the number of the bus that it names.
 fn lettered_fields(line: &[u8], at: usize, l: u8) -> Given
-    ensures { result ≡ letteredFields l (after 9 line.now at) }
+    ensures { result ≡ lettered_fields l (after 9 line.now at) }
 {
     if line.len() <= at {
         return step::reason_of(l, NamedBus::Nothing);
@@ -71,7 +71,7 @@ fn lettered_fields(line: &[u8], at: usize, l: u8) -> Given
 
 // The reason in the fields that follow the one that ends at `at`: a letter of one byte comes first.
 fn reason_fields(line: &[u8], at: usize) -> Given
-    ensures { result ≡ reasonFields (after 9 line.now at) }
+    ensures { result ≡ reason_fields (after 9 line.now at) }
 {
     if line.len() <= at {
         return Given::Wrong;
@@ -85,7 +85,7 @@ fn reason_fields(line: &[u8], at: usize) -> Given
 }
 
 fn step_fields(line: &[u8], at: usize) -> StepLine
-    ensures { result ≡ stepFields (after 9 line.now at) }
+    ensures { result ≡ step_fields (after 9 line.now at) }
 {
     if line.len() <= at {
         return StepLine::Wrong;
@@ -96,7 +96,7 @@ fn step_fields(line: &[u8], at: usize) -> StepLine
 }
 
 fn end_fields(line: &[u8], at: usize) -> StepLine
-    ensures { result ≡ endFields (after 9 line.now at) }
+    ensures { result ≡ end_fields (after 9 line.now at) }
 {
     if at < line.len() {
         return StepLine::Wrong;
@@ -106,7 +106,7 @@ fn end_fields(line: &[u8], at: usize) -> StepLine
 
 // The step that a line of a step text is.
 pub fn step_line_of(line: &[u8]) -> StepLine
-    ensures { result ≡ stepLineOf line.now }
+    ensures { result ≡ step_line_of line.now }
 {
     let e = text_field::piece_end(line, 0, b'\t');
     match step_word_of(&line[0..e]) {

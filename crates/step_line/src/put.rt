@@ -3,7 +3,7 @@ ghost use Rattle.std.specs.Prelude.{[], ◌∷◌, ◌++◌, ◌<◌, ◌^◌};
 ghost use Rattle.busset.specs.Sets.{width};
 ghost use Rattle.rules.specs.Steps.{Names};
 ghost use Rattle.text_field.specs.Split.{line_feed};
-ghost use Rattle.step_line.specs.StepLine.{stepText};
+ghost use Rattle.step_line.specs.StepLine.{step_text};
 ghost use Rattle.text_put.specs.Put.{Put};
 
 use step::{NamedBus, Step};
@@ -11,7 +11,7 @@ use step::{NamedBus, Step};
 // A step and its line feed.
 pub fn put_step(out: &mut [u8], at: usize, x: Step) -> usize
     requires { (at < 2 ^ 29) × Names width x }
-    ensures { Put out.old at (stepText x ++ line_feed ∷ []) out.new result }
+    ensures { Put out.old at (step_text x ++ line_feed ∷ []) out.new result }
 {
     let b = x.bus;
     let reason = x.reason;

@@ -14,7 +14,7 @@ use Rattle.list_follow.specs.declared.Following.{Following}
 use Rattle.list_follow.specs.declared.Task.TheVariants.{Replay}
 use Rattle.list_follow.specs.declared.Replayed.{Replayed}
 use Rattle.list_follow.proofs.Going.{follows-none, bad-stays}
-use Rattle.step_text.specs.Steps.{readSteps, steps_from, steps_of, StepHere}
+use Rattle.step_text.specs.Steps.{read_steps, steps_from, steps_of, StepHere}
 use Rattle.step_text.specs.Taking.{StepAt}
 use Rattle.step_text.specs.declared.taking.NextStep.{NextStep}
 use Rattle.step_text.specs.declared.taking.NextStep.TheVariants.{At, Nothing}
@@ -73,7 +73,7 @@ onward-bad {text = text} {at = at} l o e = onward-last l o (bad-stays (steps_fro
 
 -- ---- the answer
 
-module _ (c : Case) (text : List ℕ) {a : StepsRead} (is : a ≡ readSteps text) where
+module _ (c : Case) (text : List ℕ) {a : StepsRead} (is : a ≡ read_steps text) where
   -- a text that reads
   pub replied : {n : ℕ} {st : Following} {r w : Replayed} → length (steps_of text) ≡ n → a ≡ read.Steps n
       → StandsAfter c Replay n (steps_of text) st → AnswersReplay c st r → r ≡ w → TextReplayReply c text (text_answer w)

@@ -7,7 +7,7 @@ use Rattle.refusals.specs.Calls.{Call}
 use Rattle.list_follow.specs.Replies.{replay_checks, ReplayReply}
 use Rattle.list_follow.specs.declared.Replayed.{Replayed}
 use Rattle.list_follow.specs.declared.Replayed.TheVariants as replayed
-use Rattle.step_text.specs.Steps.{readSteps, steps_of}
+use Rattle.step_text.specs.Steps.{read_steps, steps_of}
 use Rattle.step_text.specs.Checks.{step_text_checks}
 use Rattle.step_text.specs.declared.StepsRead.{StepsRead}
 use Rattle.step_text.specs.declared.StepsRead.TheVariants as read
@@ -26,7 +26,7 @@ TextReplayAt c text (read.Refused q) r = r ≡ Unread q
 
 -- a step text that reads is replayed as the list of its steps; else its refusal is given
 abbrev pub TextReplayReply : Case → List ℕ → TextReplayed → Type 0
-TextReplayReply c text r = TextReplayAt c text (readSteps text) r
+TextReplayReply c text r = TextReplayAt c text (read_steps text) r
 
 -- ---- the call
 

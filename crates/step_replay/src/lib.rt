@@ -1,6 +1,6 @@
 // A step text replayed straight from the text: no list is stored.
 ghost use Rattle.std.specs.Prelude.{◌≡◌, length};
-ghost use Rattle.grid.specs.Rows.{rowsLength};
+ghost use Rattle.grid.specs.Rows.{rows_length};
 ghost use Rattle.grid.specs.Cases.{case_of};
 ghost use Rattle.step_text.specs.Steps.{steps_of};
 ghost use Rattle.list_follow.specs.Following.{StandsAfter};
@@ -32,7 +32,7 @@ fn follow_text(
     text: &[u8],
     count: usize,
 ) -> Following
-    requires { (length nbr.now ≡ rowsLength) × (length (steps_of text.now) ≡ count) }
+    requires { (length nbr.now ≡ rows_length) × (length (steps_of text.now) ≡ count) }
     ensures { StandsAfter (case_of n nbr.now zero site units) Replay count
         (steps_of text.now) result }
 {

@@ -15,16 +15,16 @@ use Rattle.step.specs.declared.NamedBus.TheVariants.{Nothing, Bus}
 use Rattle.step.specs.declared.Step.{Step}
 use Rattle.step.specs.Reasons.{named_by}
 use Rattle.rules.specs.Steps.{BusIfNamed, Names}
-use Rattle.step_line.specs.StepLine.{stepLineOf}
+use Rattle.step_line.specs.StepLine.{step_line_of}
 use Rattle.step_line.specs.declared.StepLine.{StepLine}
 use Rattle.step_line.specs.declared.StepLine.TheVariants.{Step as StepOf, End, Wrong}
 use Rattle.grid.specs.Limits.{most_buses, most_steps, most_step_bytes}
 use Rattle.refusals.specs.declared.Refusal.{Refusal}
 use Rattle.refusals.specs.declared.Refusal.TheVariants.{TextTooLong, OutOfRange, TooManySteps}
-use Rattle.case_judge.specs.Judging.{isBus}
+use Rattle.case_judge.specs.Judging.{is_bus}
 use Rattle.case_judge.proofs.Judged.{inside, not_one}
-use Rattle.step_text.specs.Steps.{named_in_range, reasonInRange, stepInRange, ended, lineSaid, step_lines}
-use Rattle.step_text.specs.Steps.{readSteps, and_steps, steps_in, steps_from, steps_of}
+use Rattle.step_text.specs.Steps.{named_in_range, reason_in_range, step_in_range, ended, line_said, step_lines}
+use Rattle.step_text.specs.Steps.{read_steps, and_steps, steps_in, steps_from, steps_of}
 use Rattle.step_text.specs.declared.StepsRead.{StepsRead}
 use Rattle.step_text.specs.declared.StepsRead.TheVariants.{Steps, Refused}
 
@@ -32,10 +32,10 @@ named-bus : (y : NamedBus) → named_in_range y ≡ true → BusIfNamed most_bus
 named-bus Nothing e = tt
 named-bus (Bus b) e = inside most_buses b e
 
-names : (x : Step) → stepInRange x ≡ true → Names most_buses x
-unfolding stepInRange
+names : (x : Step) → step_in_range x ≡ true → Names most_buses x
+unfolding step_in_range
 names x e =
-    let p = both (isBus most_buses x.bus) (reasonInRange x.reason) e in
+    let p = both (is_bus most_buses x.bus) (reason_in_range x.reason) e in
     record { bus = inside most_buses x.bus p.0; reason = named-bus (named_by x.reason) p.1 }
 
 -- n steps are found from line k on
@@ -52,7 +52,7 @@ found_end k n [] [] h l e = let f : k - 1 ≡ n = cc in record { count = omega a
 found_end k n [] (m ∷ ms) h l e = absurd (not_steps _ e)
 found_end k n (b ∷ m) ms h l e = absurd (not_steps _ e)
 
-found-step : (k n : ℕ) (x : Step) (xs : List Step) (on : StepsRead) (a b : Bool) → stepInRange x ≡ a → ltb most_steps k ≡ b →
+found-step : (k n : ℕ) (x : Step) (xs : List Step) (on : StepsRead) (a b : Bool) → step_in_range x ≡ a → ltb most_steps k ≡ b →
     cond a (cond b (Refused (TooManySteps k)) on) (Refused (OutOfRange k)) ≡ Steps n
     → (k ≤ most_steps → on ≡ Steps n → StepsFound (k + 1) n xs)
     → StepsFound k n (x ∷ xs)
@@ -63,8 +63,8 @@ found-step k n x xs on true false p q e ih =
 found-step k n x xs on false b p q e ih = absurd (not_steps _ e)
 
 found-line : (k n : ℕ) (r : StepLine) (m : List ℕ) (ms : List (List ℕ)) (xs : List Step) (on : StepsRead) → 1 ≤ k → k ≤ most_steps + 1 →
-    lineSaid r k on (ended k m ms) ≡ Steps n → (k ≤ most_steps → on ≡ Steps n → StepsFound (k + 1) n xs) → StepsFound k n (and_steps r xs)
-found-line k n (StepOf x) m ms xs on h l e ih = found-step k n x xs on (stepInRange x) (ltb most_steps k) refl refl e ih
+    line_said r k on (ended k m ms) ≡ Steps n → (k ≤ most_steps → on ≡ Steps n → StepsFound (k + 1) n xs) → StepsFound k n (and_steps r xs)
+found-line k n (StepOf x) m ms xs on h l e ih = found-step k n x xs on (step_in_range x) (ltb most_steps k) refl refl e ih
 found-line k n End m ms xs on h l e ih = found_end k n m ms h l e
 found-line k n Wrong m ms xs on h l e ih = absurd (not_steps _ e)
 
@@ -73,12 +73,12 @@ found-lines : (ps : List (List ℕ)) (k n : ℕ) (l : List ℕ) → 1 ≤ k → 
 unfolding step_lines steps_in
 found-lines [] k n l h b e = absurd (not_steps _ e)
 found-lines (m ∷ ms) k n l h b e =
-    found-line k n (stepLineOf l) m ms (steps_in m ms) (step_lines (k + 1) m ms) h b e
+    found-line k n (step_line_of l) m ms (steps_in m ms) (step_lines (k + 1) m ms) h b e
     (λ g f. found-lines ms (k + 1) n m (omega arith) (omega arith) f)
 
 -- a text found to have n steps
-pub steps-found : (text : List ℕ) (n : ℕ) → readSteps text ≡ Steps n → StepsFound 1 n (steps_of text)
-unfolding readSteps steps_from
+pub steps-found : (text : List ℕ) (n : ℕ) → read_steps text ≡ Steps n → StepsFound 1 n (steps_of text)
+unfolding read_steps steps_from
 steps-found text n e = go (ltb most_step_bytes (length text)) e
   where
     go : (b : Bool) → cond b (Refused TextTooLong) (step_lines 1 (split 10 text).first (split 10 text).rest) ≡ Steps n
@@ -87,5 +87,5 @@ steps-found text n e = go (ltb most_step_bytes (length text)) e
     go false e = found-lines (split 10 text).rest 1 n (split 10 text).first (omega arith) (omega arith) e
 
 -- and as many as it says
-pub steps-count : (text : List ℕ) (n : ℕ) → readSteps text ≡ Steps n → length (steps_of text) ≡ n
+pub steps-count : (text : List ℕ) (n : ℕ) → read_steps text ≡ Steps n → length (steps_of text) ≡ n
 steps-count text n e = let f = steps-found text n e in omega (arith, f.count)

@@ -6,14 +6,14 @@ use Prim.Native.Nat.{ℕ, ◌+◌, ◌-◌, ◌≤◌}
 use native.Mathlib.Omega.{arith}
 use lib.Dec.{T, ltb, ltb→lt, nltb→le}
 use Rattle.text_field.specs.Split.{split, line_feed}
-use Rattle.step_line.specs.StepLine.{stepLineOf}
+use Rattle.step_line.specs.StepLine.{step_line_of}
 use Rattle.step_line.specs.declared.StepLine.{StepLine}
 use Rattle.step_line.specs.declared.StepLine.TheVariants as line
 use Rattle.grid.specs.Limits.{most_steps, most_step_bytes}
 use Rattle.refusals.specs.declared.Refusal.TheVariants.{WrongForm, OutOfRange, TooManySteps}
 use Rattle.refusals.specs.Refusals.{Check, check_that}
 use Rattle.refusals.proofs.Orders.{itself}
-use Rattle.step_text.specs.Steps.{stepInRange, ended, lineSaid, step_lines, readSteps}
+use Rattle.step_text.specs.Steps.{step_in_range, ended, line_said, step_lines, read_steps}
 use Rattle.step_text.specs.declared.StepsRead.{StepsRead}
 use Rattle.step_text.specs.declared.StepsRead.TheVariants.{Steps, Refused}
 use Rattle.refusals.proofs.Judging.{SaidBy, good, passing, failing, within_limit}
@@ -49,8 +49,8 @@ step-judged k true on ons h = passing (true ≡ true) 3 k refl (go (ltb most_ste
 -- a line: 2, and then the lines after it, or after `end` nothing
 line-judged : (x : StepLine) (k : ℕ) (on end : StepsRead) (ons ends : List Check) → StepsBy ons on → StepsBy ends end
     → StepsBy (check_that (is_formed x ≡ true) 2 k ∷ check_that (is_ranged x ≡ true) 3 k ∷ check_that (HasTurn x k) 12 k ∷ after_step x ends ons)
-    (lineSaid x k on end)
-line-judged (line.Step x) k on end ons ends p q = passing (true ≡ true) 2 k refl (step-judged k (stepInRange x) on ons p)
+    (line_said x k on end)
+line-judged (line.Step x) k on end ons ends p q = passing (true ≡ true) 2 k refl (step-judged k (step_in_range x) on ons p)
 line-judged line.End k on end ons ends p q =
     passing (true ≡ true) 2 k refl (passing (true ≡ true) 3 k refl (passing (HasTurn line.End k) 12 k tt q))
 line-judged line.Wrong k on end ons ends p q = failing (false ≡ true) 2 k (WrongForm k) (λ e. true≢false (sym e)) (itself (WrongForm k))
@@ -59,11 +59,11 @@ lines-judged : (k : ℕ) (l : List ℕ) (ms : List (List ℕ)) → StepsBy (step
 unfolding step_lines
 lines-judged k l [] = failing ⊥ 2 k (WrongForm k) (λ h. h) (itself (WrongForm k))
 lines-judged k l (m ∷ ms) =
-    line-judged (stepLineOf l) k (step_lines (k + 1) m ms) (ended k m ms) (step_line_checks (k + 1) m ms)
+    line-judged (step_line_of l) k (step_lines (k + 1) m ms) (ended k m ms) (step_line_checks (k + 1) m ms)
     (check_that (NothingFollows m ms) 2 (k + 1) ∷ []) (lines-judged (k + 1) m ms) (end_judged k m ms)
 
-pub steps-judged : (text : List ℕ) → StepsBy (step_text_checks text) (readSteps text)
-unfolding readSteps
+pub steps-judged : (text : List ℕ) → StepsBy (step_text_checks text) (read_steps text)
+unfolding read_steps
 steps-judged text =
     let l = (split line_feed text).first in
     let ms = (split line_feed text).rest in

@@ -9,12 +9,12 @@ use lib.Dec.{ltb}
 use lib.ListN.{length, take, drop, get_or, drop_of_length-le}
 use lib.Seq.{take-length, get_or-drop, drop-drop}
 use Rattle.text_field.specs.Split.{split}
-use Rattle.step.specs.Records.{no_step, putFirst}
+use Rattle.step.specs.Records.{no_step, put_first}
 use Rattle.step.specs.declared.Step.{Step}
-use Rattle.step.proofs.Records.{put_first}
+use Rattle.step.proofs.Records.{put_first_lem}
 use Rattle.refusals.specs.declared.Refusal.{Refusal}
 use Rattle.refusals.specs.declared.Refusal.TheVariants.{NoRoom}
-use Rattle.step_text.specs.Steps.{readSteps, steps_in, steps_from, steps_of, StepHere}
+use Rattle.step_text.specs.Steps.{read_steps, steps_in, steps_from, steps_of, StepHere}
 use Rattle.step_text.specs.Taking.{StepAt, with_room, leaves, StepsReadReply, count_read, Takes}
 use Rattle.step_text.specs.declared.StepsRead.{StepsRead}
 use Rattle.step_text.specs.declared.StepsRead.TheVariants.{Steps, Refused}
@@ -86,17 +86,17 @@ takes-next i xs e t = (
 )
 
 -- the reply, where as many of the text's steps are put into the records as it says
-pub read_law : (text : List ℕ) (before : List Step) (r : StepsRead) → r ≡ with_room (length before) (readSteps text)
-    → StepsReadReply text before (putFirst (count_read r) (nth_step (steps_of text)) before) r
+pub read_law : (text : List ℕ) (before : List Step) (r : StepsRead) → r ≡ with_room (length before) (read_steps text)
+    → StepsReadReply text before (put_first (count_read r) (nth_step (steps_of text)) before) r
 read_law text before r e = (e, go r e)
   where
     xs : List Step
     xs = steps_of text
 
-    go : (r : StepsRead) → r ≡ with_room (length before) (readSteps text) → putFirst (count_read r) (nth_step xs) before ≡ leaves r xs before
+    go : (r : StepsRead) → r ≡ with_room (length before) (read_steps text) → put_first (count_read r) (nth_step xs) before ≡ leaves r xs before
     go (Steps n) e =
-        let f = said_fits (length before) n (readSteps text) e in
+        let f = said_fits (length before) n (read_steps text) e in
         let c = steps-count text n f.0 in
-        put_first xs before (nth_step xs) n (λ i l. refl) (omega (arith, c)) f.1
+        put_first_lem xs before (nth_step xs) n (λ i l. refl) (omega (arith, c)) f.1
         ∙ ap (λ (k : ℕ). take k xs ++ drop k before) (sym c) ∙ ap (λ (l : List Step). l ++ drop (length xs) before) (take-length xs)
     go (Refused q) e = refl

@@ -1,13 +1,13 @@
 -- What reading a step text checks, line after line.
 use Rattle.std.specs.Prelude.{◌≡◌, Bool, true, false, List, [], ◌∷◌, ◌++◌, ℕ, ◌+◌, ◌≤◌, length}
 use Rattle.text_field.specs.Split.{split, line_feed}
-use Rattle.step_line.specs.StepLine.{stepLineOf}
+use Rattle.step_line.specs.StepLine.{step_line_of}
 use Rattle.step_line.specs.declared.StepLine.{StepLine}
 use Rattle.step_line.specs.declared.StepLine.TheVariants as line
 use Rattle.grid.specs.Limits.{most_steps, most_step_bytes}
 use Rattle.refusals.specs.Refusals.{Check, check_that}
 use Rattle.case_read.specs.Checks.{NothingFollows}
-use Rattle.step_text.specs.Steps.{stepInRange, steps_of}
+use Rattle.step_text.specs.Steps.{step_in_range, steps_of}
 
 -- the line is a step or `end`; if not, refusal 2
 abbrev pub is_formed : StepLine → Bool
@@ -17,7 +17,7 @@ is_formed line.Wrong = false
 
 -- a step's numbers are 1 to 64; if not, refusal 3
 abbrev pub is_ranged : StepLine → Bool
-is_ranged (line.Step x) = stepInRange x
+is_ranged (line.Step x) = step_in_range x
 is_ranged line.End = true
 is_ranged line.Wrong = true
 
@@ -37,10 +37,10 @@ after_step line.Wrong end on = on
 abbrev pub step_line_checks : ℕ → List ℕ → List (List ℕ) → List Check
 step_line_checks k l [] = check_that ⊥ 2 k ∷ []
 step_line_checks k l (m ∷ ms) =
-    check_that (is_formed (stepLineOf l) ≡ true) 2 k
-    ∷ check_that (is_ranged (stepLineOf l) ≡ true) 3 k
-    ∷ check_that (HasTurn (stepLineOf l) k) 12 k
-    ∷ after_step (stepLineOf l) (check_that (NothingFollows m ms) 2 (k + 1) ∷ []) (step_line_checks (k + 1) m ms)
+    check_that (is_formed (step_line_of l) ≡ true) 2 k
+    ∷ check_that (is_ranged (step_line_of l) ≡ true) 3 k
+    ∷ check_that (HasTurn (step_line_of l) k) 12 k
+    ∷ after_step (step_line_of l) (check_that (NothingFollows m ms) 2 (k + 1) ∷ []) (step_line_checks (k + 1) m ms)
 
 -- 1, then the first bad line
 abbrev pub step_text_checks : List ℕ → List Check

@@ -6,12 +6,12 @@ use Rattle.step.specs.declared.NamedBus.{NamedBus}
 use Rattle.step.specs.declared.NamedBus.TheVariants.{Nothing, Bus}
 use Rattle.step.specs.declared.Step.{Step}
 use Rattle.step.specs.Reasons.{named_by}
-use Rattle.step_line.specs.StepLine.{stepLineOf}
+use Rattle.step_line.specs.StepLine.{step_line_of}
 use Rattle.step_line.specs.declared.StepLine.{StepLine}
 use Rattle.step_line.specs.declared.StepLine.TheVariants.{Step as StepOf, End, Wrong}
 use Rattle.grid.specs.Limits.{most_buses, most_steps, most_step_bytes}
 use Rattle.refusals.specs.declared.Refusal.TheVariants.{TextTooLong, WrongForm, OutOfRange, TooManySteps}
-use Rattle.case_judge.specs.Judging.{isBus}
+use Rattle.case_judge.specs.Judging.{is_bus}
 use Rattle.step_text.specs.declared.StepsRead.{StepsRead}
 use Rattle.step_text.specs.declared.StepsRead.TheVariants.{Steps, Refused}
 
@@ -20,15 +20,15 @@ use Rattle.step_text.specs.declared.StepsRead.TheVariants.{Steps, Refused}
 -- the bus that is named, if one is, is 1 to 64; if not, refusal 3
 abbrev pub named_in_range : NamedBus → Bool
 named_in_range Nothing = true
-named_in_range (Bus b) = isBus most_buses b
+named_in_range (Bus b) = is_bus most_buses b
 
 -- the bus that a reason names, if it names one, is 1 to 64; if not, refusal 3
-abbrev pub reasonInRange : Reason → Bool
-reasonInRange r = named_in_range (named_by r)
+abbrev pub reason_in_range : Reason → Bool
+reason_in_range r = named_in_range (named_by r)
 
 -- a step's numbers are 1 to 64; if not, refusal 3
-unfoldable pub stepInRange : Step → Bool
-stepInRange x = isBus most_buses x.bus && reasonInRange x.reason
+unfoldable pub step_in_range : Step → Bool
+step_in_range x = is_bus most_buses x.bus && reason_in_range x.reason
 
 -- after `end`, on line k, nothing follows: k - 1 steps were read
 abbrev pub ended : ℕ → List ℕ → List (List ℕ) → StepsRead
@@ -41,21 +41,21 @@ abbrev pub ended_after : ℕ → List ℕ → ℕ → StepsRead
 ended_after k text e = ended k (split line_feed (drop (e + 1) text)).first (split line_feed (drop (e + 1) text)).rest
 
 -- what is said of line k, which holds step k: 2 before 3 before 12
-abbrev pub lineSaid : StepLine → ℕ → StepsRead → StepsRead → StepsRead
-lineSaid (StepOf x) k on end = cond (stepInRange x) (cond (ltb most_steps k) (Refused (TooManySteps k)) on) (Refused (OutOfRange k))
-lineSaid End k on end = end
-lineSaid Wrong k on end = Refused (WrongForm k)
+abbrev pub line_said : StepLine → ℕ → StepsRead → StepsRead → StepsRead
+line_said (StepOf x) k on end = cond (step_in_range x) (cond (ltb most_steps k) (Refused (TooManySteps k)) on) (Refused (OutOfRange k))
+line_said End k on end = end
+line_said Wrong k on end = Refused (WrongForm k)
 
 -- ---- line after line
 
 -- line k, and the pieces after its line feed; where there are none, its line feed is missing
 unfoldable pub step_lines : ℕ → List ℕ → List (List ℕ) → StepsRead
 step_lines k l [] = Refused (WrongForm k)
-step_lines k l (m ∷ ms) = lineSaid (stepLineOf l) k (step_lines (k + 1) m ms) (ended k m ms)
+step_lines k l (m ∷ ms) = line_said (step_line_of l) k (step_lines (k + 1) m ms) (ended k m ms)
 
 -- a step text: how many steps it has, or its refusal
-unfoldable pub readSteps : List ℕ → StepsRead
-readSteps text =
+unfoldable pub read_steps : List ℕ → StepsRead
+read_steps text =
     cond (ltb most_step_bytes (length text)) (Refused TextTooLong)
     (step_lines 1 (split line_feed text).first (split line_feed text).rest)
 
@@ -70,7 +70,7 @@ and_steps Wrong xs = []
 -- the steps of ended lines, as far as each is one
 unfoldable pub steps_in : List ℕ → List (List ℕ) → List Step
 steps_in l [] = []
-steps_in l (m ∷ ms) = and_steps (stepLineOf l) (steps_in m ms)
+steps_in l (m ∷ ms) = and_steps (step_line_of l) (steps_in m ms)
 
 -- the steps of a text from index a on
 unfoldable pub steps_from : List ℕ → ℕ → List Step

@@ -4,7 +4,7 @@ use Rattle.step.specs.Records.{no_step, written_into}
 use Rattle.step.specs.declared.Step.{Step}
 use Rattle.refusals.specs.declared.Refusal.TheVariants.{NoRoom}
 use Rattle.refusals.specs.Calls.{Call, Refuses}
-use Rattle.step_text.specs.Steps.{readSteps, steps_from, steps_of, StepHere}
+use Rattle.step_text.specs.Steps.{read_steps, steps_from, steps_of, StepHere}
 use Rattle.step_text.specs.Checks.{steps_read_checks}
 use Rattle.step_text.specs.declared.StepsRead.{StepsRead}
 use Rattle.step_text.specs.declared.StepsRead.TheVariants.{Steps, Refused}
@@ -33,7 +33,7 @@ leaves (Refused q) xs before = before
 
 -- the reply, and what every record lent holds afterwards
 abbrev pub StepsReadReply : List ℕ → List Step → List Step → StepsRead → Type 0
-StepsReadReply text before after r = (r ≡ with_room (length before) (readSteps text)) × (after ≡ leaves r (steps_of text) before)
+StepsReadReply text before after r = (r ≡ with_room (length before) (read_steps text)) × (after ≡ leaves r (steps_of text) before)
 
 -- `read_steps`
 abbrev pub read_steps_call : Call

@@ -1,7 +1,7 @@
 // The step text, checked line after line.
 ghost use Rattle.std.specs.Prelude.{◌≡◌, suc, ◌≤◌, ◌<◌, length};
 ghost use Rattle.grid.specs.Limits.{most_step_bytes};
-ghost use Rattle.step_text.specs.Steps.{reasonInRange, stepInRange, ended_after, readSteps};
+ghost use Rattle.step_text.specs.Steps.{reason_in_range, step_in_range, ended_after, read_steps};
 
 pub mod taking;
 
@@ -20,7 +20,7 @@ pub enum StepsRead {
 }
 
 fn reason_in_range(r: Reason) -> bool
-    ensures { result ≡ reasonInRange r }
+    ensures { result ≡ reason_in_range r }
 {
     match step::named(r) {
         NamedBus::Nothing => true,
@@ -29,7 +29,7 @@ fn reason_in_range(r: Reason) -> bool
 }
 
 fn step_in_range(x: Step) -> bool
-    ensures { result ≡ stepInRange x }
+    ensures { result ≡ step_in_range x }
 {
     let reason = x.reason;
     if !is_bus(MOST_BUSES, x.bus) {
@@ -51,7 +51,7 @@ fn at_end(text: &[u8], e: usize, k: usize) -> StepsRead
 
 // How many steps a text has.
 pub fn check_steps(text: &[u8]) -> StepsRead
-    ensures { result ≡ readSteps text.now }
+    ensures { result ≡ read_steps text.now }
 {
     if MOST_STEP_BYTES < text.len() {
         return StepsRead::Refused(Refusal::TextTooLong);

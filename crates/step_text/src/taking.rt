@@ -1,6 +1,6 @@
 // The steps of a step text, taken one after another, and whether there is room for them.
 ghost use Rattle.std.specs.Prelude.{◌≡◌, ◌≤◌, length};
-ghost use Rattle.step_text.specs.Steps.{readSteps};
+ghost use Rattle.step_text.specs.Steps.{read_steps};
 ghost use Rattle.step_text.specs.Taking.{StepAt, Takes, with_room, count_read};
 
 use crate::{StepsRead, check_steps};
@@ -61,7 +61,7 @@ pub fn take(text: &[u8], at: usize) -> Taken
 
 // How many steps a text has, where there is room for so many records.
 pub fn check_room(text: &[u8], room: usize) -> StepsRead
-    ensures { result ≡ with_room room (readSteps text.now) }
+    ensures { result ≡ with_room room (read_steps text.now) }
 {
     let answer = check_steps(text);
     match answer {

@@ -7,11 +7,11 @@ use Rattle.busset.specs.Sets.{add, lack, less, up_to, set_of}
 use Rattle.busset.specs.Held.{word_of, hold}
 use Rattle.rules.specs.Grids.{total}
 use Rattle.rules.specs.Observation.{ObservedSet}
-use Rattle.tables.proofs.Tests.{gap, is_one, above, withinTest, given, sub_test}
+use Rattle.tables.proofs.Tests.{gap, is_one, above, within_test, given, sub_test}
 use Rattle.tables.proofs.Tests.{closed_test}
 use Rattle.grid.specs.Rows.{set_at, neighbours}
 use Rattle.grid.specs.Cases.{Valid}
-use Rattle.tables.proofs.Drawn.{written_row, row_test, lines_test, validTest, filled_passes}
+use Rattle.tables.proofs.Drawn.{written_row, row_test, lines_test, valid_test, filled_passes}
 use Rattle.tables.specs.Starred.{Drawing, short_case, drawn_case, seven, path}
 use Rattle.tables.specs.Drawings.{set, drawn_grid, path_with, sweep, onward, leaf, lone, ring}
 use Rattle.tables.proofs.Deriving.{holds_test, accepted_test, least_test, least_passes, derived, pick, reason_for, reason_at, step_for}
@@ -23,7 +23,7 @@ pub record ObservedIn (d : Drawing) (s : ℕ) : Type 0 where
   pub least : ObservedSet (drawn_grid d) s
 
 -- from two tests, where the list that derives the set is found
-observed : (d : Drawing) (s : ℕ) → validTest (short_case d) ≡ 0 → least_test (drawn_grid d) (derived (drawn_grid d)) s ≡ 0 → ObservedIn d s
+observed : (d : Drawing) (s : ℕ) → valid_test (short_case d) ≡ 0 → least_test (drawn_grid d) (derived (drawn_grid d)) s ≡ 0 → ObservedIn d s
 observed d s v e =
     let ok : Valid (drawn_case d) = filled_passes (short_case d) v in
     record { valid = ok; least = least_passes (drawn_grid d) (derived (drawn_grid d)) s ok.proper e }
@@ -48,7 +48,7 @@ pub record Known : Type 0 where
   pub lone1 : ObservedIn lone (set (1 ∷ []))
 
 pub known : Known
-unfolding validTest lines_test withinTest row_test above least_test accepted_test holds_test closed_test sub_test is_one gap given total
+unfolding valid_test lines_test within_test row_test above least_test accepted_test holds_test closed_test sub_test is_one gap given total
     neighbours hold word_of set_of up_to less lack add ones ones_in pick reason_for reason_at step_for pass_from extended derive set_at written_row
 known = record {
   none = observed (seven []) (set []) refl refl;

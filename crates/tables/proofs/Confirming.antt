@@ -12,10 +12,10 @@ use Rattle.busset.proofs.Words.{set-zero}
 use Rattle.rules.specs.Grids.{total}
 use Rattle.rules.specs.Confirming.{Confirm, joined, share, UnconfirmedSet}
 use Rattle.rules.proofs.Choices.{unconfirmed-unique}
-use Rattle.tables.proofs.Tests.{gap, above, withinTest, within_passes, given}
-use Rattle.tables.proofs.Sought.{confirm_test, alone_test, unconfirmedTest, unconfirmed_passes}
+use Rattle.tables.proofs.Tests.{gap, above, within_test, within_passes, given}
+use Rattle.tables.proofs.Sought.{confirm_test, alone_test, unconfirmed_test, unconfirmed_passes}
 use Rattle.grid.specs.Rows.{set_at, neighbours}
-use Rattle.tables.proofs.Drawn.{written_row, row_test, lines_test, validTest, filled_passes}
+use Rattle.tables.proofs.Drawn.{written_row, row_test, lines_test, valid_test, filled_passes}
 use Rattle.tables.specs.Starred.{Drawing, word_with, short_case, seven}
 use Rattle.tables.proofs.Rows.{◌&◌}
 use Rattle.tables.specs.Tables.{AllRight}
@@ -40,8 +40,8 @@ confirm-right =
     & tt
 
 -- the units of a drawing that no other unit confirms
-alone : (d : Drawing) (bs : List ℕ) → validTest (short_case d) ≡ 0 → withinTest d.n (set bs) ≡ 0
-    → unconfirmedTest (drawn_grid d) (set bs) ≡ 0
+alone : (d : Drawing) (bs : List ℕ) → valid_test (short_case d) ≡ 0 → within_test d.n (set bs) ≡ 0
+    → unconfirmed_test (drawn_grid d) (set bs) ≡ 0
     → UnconfirmedSet (drawn_grid d).neighbours (drawn_grid d).units (set bs)
 alone d bs v w e =
     unconfirmed_passes (drawn_grid d) (filled_passes (short_case d) v).proper (set bs)
@@ -49,12 +49,12 @@ alone d bs v w e =
 
 -- no units, and a unit alone
 pub nobody : UnconfirmedSet (seven_grid []).neighbours (set []) (set [])
-unfolding validTest lines_test withinTest above row_test unconfirmedTest alone_test confirm_test gap given total meet up_to neighbours hold
+unfolding valid_test lines_test within_test above row_test unconfirmed_test alone_test confirm_test gap given total meet up_to neighbours hold
     word_of add set_of ones ones_in lack set_at written_row
 nobody = alone (seven []) [] refl refl refl
 
 pub itself : UnconfirmedSet (seven_grid []).neighbours (set (3 ∷ [])) (set (3 ∷ []))
-unfolding validTest lines_test withinTest above row_test unconfirmedTest alone_test confirm_test gap given total meet up_to neighbours hold
+unfolding valid_test lines_test within_test above row_test unconfirmed_test alone_test confirm_test gap given total meet up_to neighbours hold
     word_of add set_of ones ones_in lack set_at written_row
 itself = alone (seven (3 ∷ [])) (3 ∷ []) refl refl refl
 
@@ -67,7 +67,7 @@ unconfirmed-right =
     & tt
 
 pub sets_right : AllRight tables.unconfirmed_set_table
-unfolding validTest lines_test withinTest above row_test unconfirmedTest alone_test confirm_test gap given total meet up_to neighbours hold
+unfolding valid_test lines_test within_test above row_test unconfirmed_test alone_test confirm_test gap given total meet up_to neighbours hold
     word_of add set_of ones ones_in lack set_at written_row
 sets_right =
     nobody

@@ -7,11 +7,11 @@ use lib.ListN.{length}
 use Rattle.busset.specs.Sets.{add, lack, less, up_to, set_of}
 use Rattle.busset.specs.Held.{word_of, hold}
 use Rattle.rules.specs.Grids.{total, line_count}
-use Rattle.tables.proofs.Tests.{above, withinTest}
+use Rattle.tables.proofs.Tests.{above, within_test}
 use Rattle.grid.specs.Limits.{most_buses, most_lines}
 use Rattle.grid.specs.Rows.{bus_sets, set_at, neighbours}
 use Rattle.grid.specs.Cases.{Valid}
-use Rattle.tables.proofs.Drawn.{written_row, written_is, row_test, lines_test, lines-counted, validTest, filled_passes}
+use Rattle.tables.proofs.Drawn.{written_row, written_is, row_test, lines_test, lines-counted, valid_test, filled_passes}
 use Rattle.tables.proofs.Rows.{◌&◌}
 use Rattle.tables.specs.Tables.{AllRight}
 use Rattle.tables.specs.Grids.{short_crowd, crowd, most_lines_table}
@@ -26,5 +26,5 @@ too_many v =
     omega (arith, v.few, one-too_many, ap (line_count 24) same)
 
 pub most-right : AllRight most_lines_table
-unfolding validTest lines_test withinTest above row_test total neighbours hold word_of add less lack up_to set_of ones ones_in set_at written_row
+unfolding valid_test lines_test within_test above row_test total neighbours hold word_of add less lack up_to set_of ones ones_in set_at written_row
 most-right = filled_passes (short_crowd 3) refl & too_many & tt

@@ -149,27 +149,27 @@ allowed_passes g s x e =
 -- ---- steps that are not
 
 -- no p below k, or no w, is a reason for b
-unfoldable pub noUnit : Grid → ℕ → ℕ → ℕ → ℕ
-noUnit g s b k = total k (λ p. 1 - holds_test g s b (NeighbourOf p))
+unfoldable pub no_unit : Grid → ℕ → ℕ → ℕ → ℕ
+no_unit g s b k = total k (λ p. 1 - holds_test g s b (NeighbourOf p))
 
-unfoldable pub noZero : Grid → ℕ → ℕ → ℕ → ℕ
-noZero g s b k = total k (λ w. 1 - holds_test g s b (ZeroInjection w))
+unfoldable pub no_zero : Grid → ℕ → ℕ → ℕ → ℕ
+no_zero g s b k = total k (λ w. 1 - holds_test g s b (ZeroInjection w))
 
 -- no reason holds for b, unless it is observed
-unfoldable pub noReason : Grid → ℕ → ℕ → ℕ
-noReason g s b = given (1 - bit s b) ((1 - holds_test g s b OwnUnit) + noUnit g s b g.n + noZero g s b g.n)
+unfoldable pub no_reason : Grid → ℕ → ℕ → ℕ
+no_reason g s b = given (1 - bit s b) ((1 - holds_test g s b OwnUnit) + no_unit g s b g.n + no_zero g s b g.n)
 
 -- no reason that is taken before r holds for b
 unfoldable pub no_sooner : Grid → ℕ → ℕ → Reason → ℕ
 no_sooner g s b OwnUnit = 0
-no_sooner g s b (NeighbourOf p) = (1 - holds_test g s b OwnUnit) + noUnit g s b (p - 1)
-no_sooner g s b (ZeroInjection w) = (1 - holds_test g s b OwnUnit) + noUnit g s b g.n + noZero g s b (w - 1)
+no_sooner g s b (NeighbourOf p) = (1 - holds_test g s b OwnUnit) + no_unit g s b (p - 1)
+no_sooner g s b (ZeroInjection w) = (1 - holds_test g s b OwnUnit) + no_unit g s b g.n + no_zero g s b (w - 1)
 
 unfoldable pub next_test : Grid → ℕ → Step → ℕ
-next_test g s x = allowed_test g s x + total (x.bus - 1) (noReason g s) + no_sooner g s x.bus x.reason
+next_test g s x = allowed_test g s x + total (x.bus - 1) (no_reason g s) + no_sooner g s x.bus x.reason
 
 unfoldable pub derived_test : Grid → ℕ → List Step → ℕ
-derived_test g s [] = total g.n (noReason g s)
+derived_test g s [] = total g.n (no_reason g s)
 derived_test g s (x ∷ xs) = next_test g s x + derived_test g (add s x.bus) xs
 
 -- what is wanted where the digit is 0
@@ -183,14 +183,14 @@ not_below : (p q : ℕ) → 1 ≤ q → (Bus (p - 1) q → ⊥) → p ≤ q
 not_below p q l h = ⊎_elim (λ (m : q < p). absurd (h (record { some = l; most = omega arith }))) (λ (m : p ≤ q). m) (below_or q p)
 
 module _ (g : Grid) (v : Proper g) where
-  no-unit : (s b k p : ℕ) → noUnit g s b k ≡ 0 → Bus k p → Holds g s b (NeighbourOf p) → ⊥
-  unfolding noUnit
+  no-unit : (s b k p : ℕ) → no_unit g s b k ≡ 0 → Bus k p → Holds g s b (NeighbourOf p) → ⊥
+  unfolding no_unit
   no-unit s b k p e h r =
       omega (arith, total-none k (λ p. 1 - holds_test g s b (NeighbourOf p)) e p h, holds_tests g s b v (NeighbourOf p) r)
 
-  no_zero : (s b k w : ℕ) → noZero g s b k ≡ 0 → Bus k w → Holds g s b (ZeroInjection w) → ⊥
-  unfolding noZero
-  no_zero s b k w e h r =
+  no_zero_lem : (s b k w : ℕ) → no_zero g s b k ≡ 0 → Bus k w → Holds g s b (ZeroInjection w) → ⊥
+  unfolding no_zero
+  no_zero_lem s b k w e h r =
       omega (arith, total-none k (λ w. 1 - holds_test g s b (ZeroInjection w)) e w h, holds_tests g s b v (ZeroInjection w) r)
 
   no_own : (s b : ℕ) → 1 - holds_test g s b OwnUnit ≡ 0 → Holds g s b OwnUnit → ⊥
@@ -200,36 +200,36 @@ module _ (g : Grid) (v : Proper g) where
   own_fails : (s b : ℕ) → 1 - holds_test g s b OwnUnit ≡ 0 → FailsBefore g s b 1
   own_fails s b e = fails-alone own_turn (fails-none g s b) (no_own s b e)
 
-  units_lack : (s b k : ℕ) → noUnit g s b (k - 1) ≡ 0 → Lacks (λ p. Holds g s b (NeighbourOf p)) k
+  units_lack : (s b k : ℕ) → no_unit g s b (k - 1) ≡ 0 → Lacks (λ p. Holds g s b (NeighbourOf p)) k
   units_lack s b k e = record {
     below =
         λ p l h. no-unit s b (k - 1) p e
         (let n = (holds-names g s b v (NeighbourOf p) h).some in record { some = n; most = omega arith }) h;
   }
 
-  zeros_lack : (s b k : ℕ) → noZero g s b (k - 1) ≡ 0 → Lacks (λ w. Holds g s b (ZeroInjection w)) k
+  zeros_lack : (s b k : ℕ) → no_zero g s b (k - 1) ≡ 0 → Lacks (λ w. Holds g s b (ZeroInjection w)) k
   zeros_lack s b k e = record {
     below =
-        λ w l h. no_zero s b (k - 1) w e
+        λ w l h. no_zero_lem s b (k - 1) w e
         (let n = (holds-names g s b v (ZeroInjection w) h).some in record { some = n; most = omega arith }) h;
   }
 
-  units_fail : (s b : ℕ) → FailsBefore g s b 1 → noUnit g s b g.n ≡ 0 → FailsBefore g s b 2
+  units_fail : (s b : ℕ) → FailsBefore g s b 1 → no_unit g s b g.n ≡ 0 → FailsBefore g s b 2
   units_fail s b f e =
-      fails-named neighbour-turn v f (omega arith) (units_lack s b (g.n + 1) (ap (noUnit g s b) (omega arith) ∙ e))
+      fails-named neighbour-turn v f (omega arith) (units_lack s b (g.n + 1) (ap (no_unit g s b) (omega arith) ∙ e))
 
-  zeros_fail : (s b : ℕ) → FailsBefore g s b 2 → noZero g s b g.n ≡ 0 → FailsBefore g s b 3
-  zeros_fail s b f e = fails-named zero_turn v f (omega arith) (zeros_lack s b (g.n + 1) (ap (noZero g s b) (omega arith) ∙ e))
+  zeros_fail : (s b : ℕ) → FailsBefore g s b 2 → no_zero g s b g.n ≡ 0 → FailsBefore g s b 3
+  zeros_fail s b f e = fails-named zero_turn v f (omega arith) (zeros_lack s b (g.n + 1) (ap (no_zero g s b) (omega arith) ∙ e))
 
-  pub no-reason : (s b : ℕ) (r : Reason) → noReason g s b ≡ 0 → Out s b → Holds g s b r → ⊥
-  unfolding noReason
+  pub no-reason : (s b : ℕ) (r : Reason) → no_reason g s b ≡ 0 → Out s b → Holds g s b r → ⊥
+  unfolding no_reason
   no-reason s b r e o =
-      let z = given_out (bit s b) ((1 - holds_test g s b OwnUnit) + noUnit g s b g.n + noZero g s b g.n) o e in
+      let z = given_out (bit s b) ((1 - holds_test g s b OwnUnit) + no_unit g s b g.n + no_zero g s b g.n) o e in
       none-holds (zeros_fail s b (units_fail s b (own_fails s b (omega arith)) (omega arith)) (omega arith)) r
 
-  finished_passes : (s : ℕ) → total g.n (noReason g s) ≡ 0 → Finished g s
+  finished_passes : (s : ℕ) → total g.n (no_reason g s) ≡ 0 → Finished g s
   finished_passes s e x a =
-      no-reason s x.bus x.reason (total-none g.n (noReason g s) e x.bus (allowed-bus v a)) a.new a.holds
+      no-reason s x.bus x.reason (total-none g.n (no_reason g s) e x.bus (allowed-bus v a)) a.new a.holds
 
   first_passes : (s b : ℕ) (r q : Reason) → no_sooner g s b r ≡ 0 → Holds g s b q → TakenFirst r q
   unfolding no_sooner
@@ -244,7 +244,7 @@ module _ (g : Grid) (v : Proper g) where
     allowed = allowed_passes g s x (omega arith);
     lowest =
         λ y a. not_below x.bus y.bus (allowed-bus v a).some
-        (λ l. no-reason s y.bus y.reason (total-none (x.bus - 1) (noReason g s) (omega arith) y.bus l) a.new a.holds);
+        (λ l. no-reason s y.bus y.reason (total-none (x.bus - 1) (no_reason g s) (omega arith) y.bus l) a.new a.holds);
     first =
         λ y a q. let h : Holds g s x.bus y.reason =
         subst (λ (b : ℕ). Holds g s b y.reason) q a.holds in

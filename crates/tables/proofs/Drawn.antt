@@ -12,7 +12,7 @@ use Rattle.basics.proofs.Tests.{below_or}
 use Rattle.busset.proofs.Digits.{bit-zero}
 use Rattle.busset.proofs.Words.{set-zero, set-empty}
 use Rattle.rules.specs.Grids.{Proper, total, line_count}
-use Rattle.tables.proofs.Tests.{total-same, total-past, total-none, total_pass, withinTest, within_passes, size-up_to}
+use Rattle.tables.proofs.Tests.{total-same, total-past, total-none, total_pass, within_test, within_passes, size-up_to}
 use Rattle.grid.specs.declared.Case.{Case}
 use Rattle.grid.specs.Limits.{most_buses, most_lines}
 use Rattle.grid.specs.Rows.{Rows, bus_sets, set_at, neighbours, circuits}
@@ -41,18 +41,18 @@ written-bus ws b = set-zero (get_or (empty_word ∷ ws) b empty_word)
 -- ---- the sets of a case value: the neighbours, and once more as the lowest digit
 
 -- set i where these are the neighbours
-abbrev setIn : SetWord → ℕ → SetWord
-setIn w zero = w
-setIn w (suc zero) = w
-setIn w (suc (suc i)) = empty_word
+abbrev set_in : SetWord → ℕ → SetWord
+set_in w zero = w
+set_in w (suc zero) = w
+set_in w (suc (suc i)) = empty_word
 
-none_in : (i : ℕ) → setIn empty_word i ≡ empty_word
+none_in : (i : ℕ) → set_in empty_word i ≡ empty_word
 none_in zero = refl
 none_in (suc zero) = refl
 none_in (suc (suc i)) = refl
 
 word_in : (ws : List SetWord) (m k i : ℕ) → i < bus_sets
-    → get_or (singles ws ++ replicate m empty_word) (bus_sets * k + i) empty_word ≡ setIn (get_or ws k empty_word) i
+    → get_or (singles ws ++ replicate m empty_word) (bus_sets * k + i) empty_word ≡ set_in (get_or ws k empty_word) i
 word_in [] m k i l = no_words 0 m (bus_sets * k + i) ∙ sym (none_in i)
 word_in (w ∷ ws) m zero zero l = refl
 word_in (w ∷ ws) m zero (suc zero) l = refl
@@ -68,7 +68,7 @@ module _ (ws : List SetWord) (m : ℕ) where
   abbrev rows : Rows
   rows = singles ws ++ replicate m empty_word
 
-  set-in : (b i : ℕ) → i < bus_sets → set_at rows b i ≡ set_of (setIn (get_or (empty_word ∷ ws) b empty_word) i)
+  set-in : (b i : ℕ) → i < bus_sets → set_at rows b i ≡ set_of (set_in (get_or (empty_word ∷ ws) b empty_word) i)
   set-in zero i l = set-none rows i l ∙ sym set-empty ∙ ap set_of (sym (none_in i))
   set-in (suc b) i l =
       let e : bus_sets * (suc b - 1) + i ≡ bus_sets * b + i = omega arith in
@@ -82,7 +82,7 @@ module _ (ws : List SetWord) (m : ℕ) where
   pub one_circuit : (a b : ℕ) → circuits rows a b ≡ bit (written_row ws a) b
   unfolding circuits written_row
   one_circuit a b =
-      let at : (i : ℕ) → i < bus_sets → bit (set_at rows a i) b ≡ bit (set_of (setIn (get_or (empty_word ∷ ws) a empty_word) i)) b =
+      let at : (i : ℕ) → i < bus_sets → bit (set_at rows a i) b ≡ bit (set_of (set_in (get_or (empty_word ∷ ws) a empty_word) i)) b =
       λ i l. ap (λ (s : ℕ). bit s b) (set-in a i l) in
       let none : bit (set_of empty_word) b ≡ 0 = ap (λ (s : ℕ). bit s b) set-empty ∙ bit-zero b in
       omega (arith, at 1 (omega arith), at 2 (omega arith), at 3 (omega arith), at 4 (omega arith), none)
@@ -91,7 +91,7 @@ module _ (ws : List SetWord) (m : ℕ) where
 
 -- all that bus a is joined to is joined to it by a line
 unfoldable pub row_test : ℕ → (ℕ → ℕ) → ℕ → ℕ
-row_test n nbr a = withinTest n (nbr a) + bit (nbr a) a + total n (λ b. bit (nbr a) b - bit (nbr b) a)
+row_test n nbr a = within_test n (nbr a) + bit (nbr a) a + total n (λ b. bit (nbr a) b - bit (nbr b) a)
 
 -- how many lines there are: the buses up to b that b is joined to, for each b
 unfoldable pub lines_test : ℕ → (ℕ → ℕ) → ℕ
@@ -133,13 +133,13 @@ filled-valid c buses lines zeros sites units few =
       alike = λ a b. omega (arith, one a b, one b a, both_ends c.n (written_row c.nbr) lines a b);
     }
 
-unfoldable pub validTest : Case → ℕ
-validTest c =
+unfoldable pub valid_test : Case → ℕ
+valid_test c =
     (1 - c.n) + (c.n - most_buses) + total (length c.nbr) (row_test c.n (written_row c.nbr))
-    + withinTest c.n (set_of c.zero) + withinTest c.n (set_of c.site) + withinTest c.n (set_of c.units)
+    + within_test c.n (set_of c.zero) + within_test c.n (set_of c.site) + within_test c.n (set_of c.units)
     + (lines_test (length c.nbr) (written_row c.nbr) - most_lines)
 
-module _ (c : Case) (ok : validTest c ≡ 0) where
+module _ (c : Case) (ok : valid_test c ≡ 0) where
   -- a bus with a neighbour has a row
   has_row : (a b : ℕ) → In (written_row c.nbr a) b → Bus (length c.nbr) a
   has_row zero b h = absurd (omega (arith, ap (λ (s : ℕ). bit s b) (written-zero c.nbr), bit-zero b))
@@ -150,7 +150,7 @@ module _ (c : Case) (ok : validTest c ≡ 0) where
       (below_or (length c.nbr) (suc a))
 
   row_ok : (a b : ℕ) → In (written_row c.nbr a) b → row_test c.n (written_row c.nbr) a ≡ 0
-  unfolding validTest
+  unfolding valid_test
   row_ok a b h = total-none (length c.nbr) (row_test c.n (written_row c.nbr)) (omega arith) a (has_row a b h)
 
   to : (a b : ℕ) → In (written_row c.nbr a) b → Bus c.n b
@@ -173,7 +173,7 @@ module _ (c : Case) (ok : validTest c ≡ 0) where
   }
 
   pub filled_passes : Valid (filled c)
-  unfolding validTest
+  unfolding valid_test
   filled_passes = filled-valid c (record { some = omega arith; most = omega arith }) lines_pass
       (within_passes c.n (set_of c.zero) (set-zero c.zero) (omega arith))
       (within_passes c.n (set_of c.site) (set-zero c.site) (omega arith))

@@ -17,15 +17,15 @@ use Rattle.rules.proofs.Choices.{best-unique, greedy-unique}
 use Rattle.rules.proofs.Covering.{covers-full, full-covers}
 use Rattle.rules.proofs.Leasts.{least-unique}
 use Rattle.rules.proofs.Ordering.{before_antisym, earlier_antisym, fewest-set-unique, fewest-some}
-use Rattle.tables.proofs.Tests.{gap, is_one, above, withinTest, given, sub_test, closed_test}
+use Rattle.tables.proofs.Tests.{gap, is_one, above, within_test, given, sub_test, closed_test}
 use Rattle.tables.proofs.Sought.{Sought, PlanIs}
-use Rattle.tables.proofs.Sought.{noBetter, best_test, none_test, greedy_test, greedy_passes, none, some}
+use Rattle.tables.proofs.Sought.{no_better, best_test, none_test, greedy_test, greedy_passes, none, some}
 use Rattle.tables.proofs.Sought.{sought_from, judge, or_else, choose, seek, first_of, smallest, fewest_passes}
 use Rattle.grid.specs.declared.Case.{Case}
 use Rattle.grid.specs.Limits.{largest_budget, most_budget}
 use Rattle.grid.specs.Rows.{set_at, neighbours}
-use Rattle.grid.specs.Cases.{gridOf}
-use Rattle.tables.proofs.Drawn.{written_row, row_test, lines_test, validTest, filled_passes}
+use Rattle.grid.specs.Cases.{grid_of}
+use Rattle.tables.proofs.Drawn.{written_row, row_test, lines_test, valid_test, filled_passes}
 use Rattle.tables.specs.Starred.{filled, short_case, seven}
 use Rattle.tables.proofs.Rows.{◌&◌}
 use Rattle.tables.proofs.Computed.{known}
@@ -144,16 +144,16 @@ earlier-right =
 -- ---- the fewest and greedy, computed
 
 -- what the search finds on a valid case
-found : (c : Case) (budget : ℕ) (a : Sought) → validTest c ≡ 0
-    → smallest (gridOf (filled c)) (lack (gridOf c).sites (gridOf c).units) (budget + 1) 0 ≡ a → PlanIs (gridOf (filled c)) budget a
+found : (c : Case) (budget : ℕ) (a : Sought) → valid_test c ≡ 0
+    → smallest (grid_of (filled c)) (lack (grid_of c).sites (grid_of c).units) (budget + 1) 0 ≡ a → PlanIs (grid_of (filled c)) budget a
 found c budget a v e =
-    fewest_passes (gridOf (filled c)) (filled_passes c v).proper (lack (gridOf c).sites (gridOf c).units)
-    (record { at = lack-at (gridOf c).sites (gridOf c).units }) budget a e
+    fewest_passes (grid_of (filled c)) (filled_passes c v).proper (lack (grid_of c).sites (grid_of c).units)
+    (record { at = lack-at (grid_of c).sites (grid_of c).units }) budget a e
 
 -- what greedy adds on a valid case
-adds : (c : Case) (budget : ℕ) (xs : List ℕ) → validTest c ≡ 0 → greedy_test (gridOf (filled c)) budget xs ≡ 0
-    → GreedyList (gridOf (filled c)) budget xs
-adds c budget xs v e = greedy_passes (gridOf (filled c)) budget xs (filled_passes c v).proper e
+adds : (c : Case) (budget : ℕ) (xs : List ℕ) → valid_test c ≡ 0 → greedy_test (grid_of (filled c)) budget xs ≡ 0
+    → GreedyList (grid_of (filled c)) budget xs
+adds c budget xs v e = greedy_passes (grid_of (filled c)) budget xs (filled_passes c v).proper e
 
 -- those that the tables speak of
 pub record Placed : Type 0 where
@@ -174,9 +174,9 @@ pub record Placed : Type 0 where
   pub greedy_barred : GreedyList (barred []) 1 (2 ∷ [])
 
 pub known_places : Placed
-unfolding validTest lines_test withinTest row_test above least_test accepted_test holds_test closed_test sub_test is_one gap given total
+unfolding valid_test lines_test within_test row_test above least_test accepted_test holds_test closed_test sub_test is_one gap given total
     neighbours hold word_of set_of up_to less lack add ones ones_in pick reason_for reason_at step_for pass_from extended derive sought_from judge
-    or_else choose seek first_of smallest noBetter best_test none_test greedy_test set_at written_row
+    or_else choose seek first_of smallest no_better best_test none_test greedy_test set_at written_row
 known_places = record {
   fewest1 = found (short_case (seven [])) 1 none refl refl;
   fewest2 = found (short_case (seven [])) 2 (some (set (1 ∷ 4 ∷ []))) refl refl;

@@ -14,22 +14,22 @@ use Rattle.busset.specs.Held as held
 use Rattle.step.specs.Records.{no_step}
 use Rattle.step.specs.declared.Step.{Step}
 use Rattle.text_field.specs.Split.{split, join, same, bytes}
-use Rattle.text_field.specs.Number.{isDigit, takes_digit, number_from, numeral_of, digits}
+use Rattle.text_field.specs.Number.{is_digit, takes_digit, number_from, numeral_of, digits}
 use Rattle.case_line.specs.Fields.{mark_of, if_one_field, if_no_field}
-use Rattle.case_line.specs.Record.{record_word_of, lineFields, busFields, recordOf, record_text}
-use Rattle.step_line.specs.StepLine.{letteredFields, stepWordOf, reasonFields, stepFields, stepLineOf, stepText}
+use Rattle.case_line.specs.Record.{record_word_of, line_fields, bus_fields, record_of, record_text}
+use Rattle.step_line.specs.StepLine.{lettered_fields, step_word_of, reason_fields, step_fields, step_line_of, step_text}
 use Rattle.rules.proofs.Ordering.{fewest-some}
 use Rattle.refusals.specs.declared.Refusal.{Refusal}
 use Rattle.refusals.specs.declared.Refusal.TheVariants.{WrongForm, OutOfRange, ReasonFails, OverBudget, NoCover}
 use Rattle.refusals.proofs.Orders.{itself}
 use Rattle.case_line.specs.CaseText.{members, lines_text}
-use Rattle.grid.specs.Rows.{set_at, neighbours, with_bit, with_circuits, with_end, withLine}
-use Rattle.case_judge.specs.Judging.{isBus, isSeveral, isAfter, past_buses, judged}
-use Rattle.case_read.specs.Reading.{read_lines, readText, readCase}
+use Rattle.grid.specs.Rows.{set_at, neighbours, with_bit, with_circuits, with_end, with_line}
+use Rattle.case_judge.specs.Judging.{is_bus, is_several, is_after, past_buses, judged}
+use Rattle.case_read.specs.Reading.{read_lines, read_text, read_case}
 use Rattle.report_lines.specs.Printing.{refused_text}
 use Rattle.report_day.specs.Day.{DayPrinted, steps_text}
 use Rattle.report_day.proofs.Days.{day-unique}
-use Rattle.step_text.specs.Steps.{stepInRange, step_lines, readSteps, steps_in, steps_from}
+use Rattle.step_text.specs.Steps.{step_in_range, step_lines, read_steps, steps_in, steps_from}
 use Rattle.list_follow.specs.declared.Replayed.{Replayed}
 use Rattle.list_follow.specs.declared.Replayed.TheVariants as listed
 use Rattle.step_replay.specs.Replying.{text_answer}
@@ -42,7 +42,7 @@ use Rattle.estimator_reply.specs.Results.{result_of, left_by, Answered}
 use Rattle.estimator_reply.specs.declared.Answer.{Answer}
 use Rattle.estimator_reply.specs.declared.Answer.TheVariants.{Set, Refused, Unread}
 use Rattle.report_plan.specs.Plan.{PlanPrinted, found, none as no-plan}
-use Rattle.plan_input.specs.Asking.{planFields, budgetOf, plan_lines, readPlan}
+use Rattle.plan_input.specs.Asking.{plan_fields, budget_of, plan_lines, read_plan}
 use Rattle.report_plan.proofs.Unique.{plan_unique}
 use Rattle.tables.proofs.Rows.{◌&◌, ◌then◌, stop}
 use Rattle.tables.proofs.Computed.{known}
@@ -66,9 +66,9 @@ other : (i : ℕ) (s t : List ℕ) → s ≡ t → (get_or s i 0 ≡ get_or t i 
 other i s t e ne = ne (ap (λ (x : List ℕ). get_or x i 0) e)
 
 pub days_right : AllRight tables.day_printed_table
-unfolding readCase readText read_lines judged isBus isAfter past_buses recordOf record_word_of lineFields busFields mark_of if_one_field
-    if_no_field split same isDigit takes_digit number_from numeral_of add held.hold held.word_of set_of neighbours steps_text stepText refused_text
-    join digits ones ones_in set_at isSeveral withLine with_end with_circuits with_bit less lack
+unfolding read_case read_text read_lines judged is_bus is_after past_buses record_of record_word_of line_fields bus_fields mark_of if_one_field
+    if_no_field split same is_digit takes_digit number_from numeral_of add held.hold held.word_of set_of neighbours steps_text step_text refused_text
+    join digits ones ones_in set_at is_several with_line with_end with_circuits with_bit less lack
 days_right =
     day
     & day_none
@@ -101,9 +101,9 @@ days_right =
     }
 
 pub plans_right : AllRight tables.plan_printed_table
-unfolding readPlan plan_lines budgetOf planFields readCase readText read_lines judged isBus isAfter past_buses recordOf record_word_of
-    lineFields busFields mark_of if_one_field if_no_field split same isDigit takes_digit number_from numeral_of add held.hold held.word_of set_of
-    neighbours refused_text members lines_text record_text join digits ones ones_in set_at isSeveral withLine with_end with_circuits with_bit less
+unfolding read_plan plan_lines budget_of plan_fields read_case read_text read_lines judged is_bus is_after past_buses record_of record_word_of
+    line_fields bus_fields mark_of if_one_field if_no_field split same is_digit takes_digit number_from numeral_of add held.hold held.word_of set_of
+    neighbours refused_text members lines_text record_text join digits ones ones_in set_at is_several with_line with_end with_circuits with_bit less
     lack
 plans_right =
     found (set (1 ∷ 4 ∷ [])) (omega arith, (fewest-some known_places.fewest2, tt)) known_places.fewest2 refl
@@ -125,8 +125,8 @@ not_unread (listed.Reached s f) q e = let z : ◌≡◌ {A = ℕ} 0 1 = cc in om
 not_unread (listed.Refused r) q e = let z : ◌≡◌ {A = ℕ} 0 1 = cc in omega arith
 
 pub replays_right : AllRight tables.text_replay_table
-unfolding readSteps step_lines stepInRange steps_from steps_in stepLineOf stepWordOf letteredFields reasonFields stepFields if_one_field
-    if_no_field split same isBus isDigit takes_digit number_from numeral_of
+unfolding read_steps step_lines step_in_range steps_from steps_in step_line_of step_word_of lettered_fields reason_fields step_fields if_one_field
+    if_no_field split same is_bus is_digit takes_digit number_from numeral_of
 replays_right =
     (listed.Reached _ true, (replies.replays_right).0, refl)
     & refl
@@ -138,8 +138,8 @@ replays_right =
     & tt
 
 pub readings_right : AllRight tables.steps_read_table
-unfolding readSteps step_lines stepInRange steps_from steps_in stepLineOf stepWordOf letteredFields reasonFields stepFields if_one_field
-    if_no_field split same isBus isDigit takes_digit number_from numeral_of
+unfolding read_steps step_lines step_in_range steps_from steps_in step_line_of step_word_of lettered_fields reason_fields step_fields if_one_field
+    if_no_field split same is_bus is_digit takes_digit number_from numeral_of
 readings_right =
     (refl, refl)
     & (refl, refl)
@@ -176,9 +176,9 @@ abbrev five : SetWord
 five = word_with (1 ∷ 2 ∷ 3 ∷ 4 ∷ 7 ∷ [])
 
 pub calls-right : AllRight tables.estimator_table
-unfolding readCase readText read_lines judged isBus isAfter past_buses recordOf record_word_of lineFields busFields mark_of if_one_field
-    if_no_field split same isDigit takes_digit number_from numeral_of add held.hold held.word_of set_of neighbours readSteps step_lines
-    stepInRange steps_from steps_in stepLineOf stepWordOf letteredFields reasonFields stepFields byte_of bytes_from set_at isSeveral withLine
+unfolding read_case read_text read_lines judged is_bus is_after past_buses record_of record_word_of line_fields bus_fields mark_of if_one_field
+    if_no_field split same is_digit takes_digit number_from numeral_of add held.hold held.word_of set_of neighbours read_steps step_lines
+    step_in_range steps_from steps_in step_line_of step_word_of lettered_fields reason_fields step_fields byte_of bytes_from set_at is_several with_line
     with_end with_circuits with_bit less lack
 calls-right =
     gives tables.lent (Set five) (says (observed.Set five) (replies.sets_right).0)

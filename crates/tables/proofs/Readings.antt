@@ -9,21 +9,21 @@ use Rattle.busset.specs.Held as held
 use Rattle.step.specs.Records.{no_step}
 use Rattle.step.specs.declared.Step.{Step}
 use Rattle.text_field.specs.Split.{split, join, same, line_feed}
-use Rattle.text_field.specs.Number.{isDigit, takes_digit, number_from, numeral_of, digits}
+use Rattle.text_field.specs.Number.{is_digit, takes_digit, number_from, numeral_of, digits}
 use Rattle.case_line.specs.Fields.{mark_of, if_one_field, if_no_field}
-use Rattle.case_line.specs.Record.{record_word_of, lineFields, busFields, recordOf, record_text}
-use Rattle.step_line.specs.StepLine.{letteredFields, stepWordOf, reasonFields, stepFields, stepLineOf, stepText}
+use Rattle.case_line.specs.Record.{record_word_of, line_fields, bus_fields, record_of, record_text}
+use Rattle.step_line.specs.StepLine.{lettered_fields, step_word_of, reason_fields, step_fields, step_line_of, step_text}
 use Rattle.grid.specs.Limits.{most_buses}
-use Rattle.grid.specs.Rows.{set_at, neighbours, circuits, with_bit, with_circuits, with_end, withLine}
+use Rattle.grid.specs.Rows.{set_at, neighbours, circuits, with_bit, with_circuits, with_end, with_line}
 use Rattle.case_inverse.proofs.Grammars.{reads-read, not_got, read-reads}
-use Rattle.case_judge.specs.Judging.{isBus, isSeveral, isAfter, past_buses, judged}
-use Rattle.case_read.specs.Reading.{start, read_lines, readText, readCase}
-use Rattle.case_line.specs.CaseText.{bus_records, members, lineRecords, lines_text}
-use Rattle.step_text.specs.Steps.{stepInRange, step_lines, readSteps, steps_in, steps_from}
+use Rattle.case_judge.specs.Judging.{is_bus, is_several, is_after, past_buses, judged}
+use Rattle.case_read.specs.Reading.{start, read_lines, read_text, read_case}
+use Rattle.case_line.specs.CaseText.{bus_records, members, line_records, lines_text}
+use Rattle.step_text.specs.Steps.{step_in_range, step_lines, read_steps, steps_in, steps_from}
 use Rattle.case_write.specs.Lines.{line_text}
 use Rattle.report_lines.specs.Printing.{refused_text}
 use Rattle.report_day.specs.Day.{steps_text}
-use Rattle.plan_input.specs.Asking.{planFields, budgetOf, plan_lines, readPlan}
+use Rattle.plan_input.specs.Asking.{plan_fields, budget_of, plan_lines, read_plan}
 use Rattle.tables.proofs.Rows.{◌&◌}
 use Rattle.tables.specs.Tables.{AllRight, block}
 use Rattle.tables.specs.Drawings.{own, near}
@@ -35,19 +35,19 @@ use Rattle.tables.proofs.Deriving.{names_pass}
 -- ---- case texts
 
 pub cases-right : case.CasesRight
-unfolding readCase readText read_lines judged isBus isAfter past_buses recordOf record_word_of lineFields busFields mark_of if_one_field
-    if_no_field split same isDigit takes_digit number_from numeral_of add held.hold held.word_of set_of neighbours set_at isSeveral withLine
+unfolding read_case read_text read_lines judged is_bus is_after past_buses record_of record_word_of line_fields bus_fields mark_of if_one_field
+    if_no_field split same is_digit takes_digit number_from numeral_of add held.hold held.word_of set_of neighbours set_at is_several with_line
     with_end with_circuits with_bit less lack
 cases-right = refl
 
 pub texts_right : case.CaseTextsRight
-unfolding bus_records members lineRecords lines_text record_text join digits neighbours held.hold held.word_of add set_of set_at circuits
-    withLine with_end with_circuits with_bit less lack
+unfolding bus_records members line_records lines_text record_text join digits neighbours held.hold held.word_of add set_of set_at circuits
+    with_line with_end with_circuits with_bit less lack
 texts_right = refl
 
 pub allowed-right : AllRight case.grammar_table
-unfolding read_lines judged isBus isAfter past_buses recordOf record_word_of lineFields busFields mark_of if_one_field if_no_field split join same
-    isDigit takes_digit number_from numeral_of isSeveral
+unfolding read_lines judged is_bus is_after past_buses record_of record_word_of line_fields bus_fields mark_of if_one_field if_no_field split join same
+    is_digit takes_digit number_from numeral_of is_several
 allowed-right =
     read-reads (split line_feed (block case.one_input)).rest start 1 (split line_feed (block case.one_input)).first case.one_case refl
     & (λ h. not_got _ (reads-read start _ _ 1 (omega arith) h))
@@ -55,59 +55,59 @@ allowed-right =
     & tt
 
 pub wired_right : case.WiredRight
-unfolding withLine with_end with_circuits with_bit set_at neighbours less lack add set_of held.hold held.word_of
+unfolding with_line with_end with_circuits with_bit set_at neighbours less lack add set_of held.hold held.word_of
 wired_right = refl
 
 pub whole-right : case.WholeTextsRight
-unfolding readCase readText read_lines judged isBus isAfter past_buses recordOf record_word_of lineFields busFields mark_of if_one_field
-    if_no_field split same isDigit takes_digit number_from numeral_of isSeveral
+unfolding read_case read_text read_lines judged is_bus is_after past_buses record_of record_word_of line_fields bus_fields mark_of if_one_field
+    if_no_field split same is_digit takes_digit number_from numeral_of is_several
 whole-right = refl
 
 pub bus_limits_right : case.BusLimitsRight
-unfolding readCase readText read_lines judged isBus isAfter past_buses recordOf record_word_of record_text join digits if_one_field split same
-    isDigit takes_digit number_from numeral_of isSeveral
+unfolding read_case read_text read_lines judged is_bus is_after past_buses record_of record_word_of record_text join digits if_one_field split same
+    is_digit takes_digit number_from numeral_of is_several
 bus_limits_right = refl
 
 pub later-right : case.LaterLinesRight
-unfolding readCase readText read_lines judged isBus isAfter past_buses recordOf record_word_of lineFields busFields mark_of if_one_field
-    if_no_field split same isDigit takes_digit number_from numeral_of isSeveral
+unfolding read_case read_text read_lines judged is_bus is_after past_buses record_of record_word_of line_fields bus_fields mark_of if_one_field
+    if_no_field split same is_digit takes_digit number_from numeral_of is_several
 later-right = refl
 
 pub case_limits_right : case.CaseLimitsRight
-unfolding readCase readText read_lines judged recordOf record_word_of split same
+unfolding read_case read_text read_lines judged record_of record_word_of split same
 case_limits_right = refl
 
 pub verdicts_right : case.JudgementsRight
-unfolding judged isBus isAfter past_buses isSeveral
+unfolding judged is_bus is_after past_buses is_several
 verdicts_right = refl
 
 -- ---- step texts
 
 pub ranges_right : steps.StepRangesRight
-unfolding stepInRange isBus
+unfolding step_in_range is_bus
 ranges_right = refl
 
 pub readings_right : steps.ReadStepsRight
-unfolding readSteps step_lines stepInRange isBus stepLineOf stepWordOf letteredFields reasonFields stepFields if_one_field if_no_field split
-    same isDigit takes_digit number_from numeral_of
+unfolding read_steps step_lines step_in_range is_bus step_line_of step_word_of lettered_fields reason_fields step_fields if_one_field if_no_field split
+    same is_digit takes_digit number_from numeral_of
 readings_right = refl
 
 pub beyond-right : steps.BeyondRight
-unfolding step_lines stepInRange isBus stepLineOf stepWordOf letteredFields reasonFields stepFields if_one_field if_no_field split same isDigit
+unfolding step_lines step_in_range is_bus step_line_of step_word_of lettered_fields reason_fields step_fields if_one_field if_no_field split same is_digit
     takes_digit number_from numeral_of
 beyond-right = refl
 
 pub step_limits_right : steps.StepLimitsRight
-unfolding readSteps step_lines stepLineOf stepWordOf split same
+unfolding read_steps step_lines step_line_of step_word_of split same
 step_limits_right = refl
 
 pub lists-right : steps.StepsOfRight
-unfolding steps_from steps_in stepLineOf stepWordOf letteredFields reasonFields stepFields if_one_field if_no_field split same isDigit
+unfolding steps_from steps_in step_line_of step_word_of lettered_fields reason_fields step_fields if_one_field if_no_field split same is_digit
     takes_digit number_from numeral_of
 lists-right = refl
 
 pub found_right : AllRight steps.step_at_table
-unfolding steps_from steps_in stepLineOf stepWordOf letteredFields reasonFields stepFields if_one_field if_no_field split same isDigit
+unfolding steps_from steps_in step_line_of step_word_of lettered_fields reason_fields step_fields if_one_field if_no_field split same is_digit
     takes_digit number_from numeral_of
 found_right =
     (names_pass most_buses (own 1) refl, (names_pass most_buses (near most_buses 1) refl, tt))
@@ -137,7 +137,7 @@ unfolding line_text record_text join digits
 lines-right = refl
 
 pub days_right : reports.DayTextsRight
-unfolding steps_text stepText join digits
+unfolding steps_text step_text join digits
 days_right = refl
 
 pub xv_right : reports.VerdictFieldsRight
@@ -147,22 +147,22 @@ xv_right = refl
 -- ---- the planning program
 
 pub budgets_right : reports.BudgetsRight
-unfolding budgetOf planFields split same isDigit takes_digit number_from numeral_of
+unfolding budget_of plan_fields split same is_digit takes_digit number_from numeral_of
 budgets_right = refl
 
 pub inputs_right : reports.InputsRight
-unfolding readPlan plan_lines budgetOf planFields read_lines judged isBus isAfter past_buses recordOf record_word_of lineFields busFields
-    mark_of if_one_field if_no_field split same isDigit takes_digit number_from numeral_of isSeveral
+unfolding read_plan plan_lines budget_of plan_fields read_lines judged is_bus is_after past_buses record_of record_word_of line_fields bus_fields
+    mark_of if_one_field if_no_field split same is_digit takes_digit number_from numeral_of is_several
 inputs_right = refl
 
 pub asked-right : reports.AskedRight
-unfolding readPlan plan_lines budgetOf planFields read_lines judged isBus isAfter past_buses recordOf record_word_of lineFields busFields
-    mark_of if_one_field if_no_field split same isDigit takes_digit number_from numeral_of add held.hold held.word_of set_of neighbours set_at
-    isSeveral withLine with_end with_circuits with_bit less lack
+unfolding read_plan plan_lines budget_of plan_fields read_lines judged is_bus is_after past_buses record_of record_word_of line_fields bus_fields
+    mark_of if_one_field if_no_field split same is_digit takes_digit number_from numeral_of add held.hold held.word_of set_of neighbours set_at
+    is_several with_line with_end with_circuits with_bit less lack
 asked-right = refl
 
 pub plan_limits_right : reports.PlanLimitsRight
-unfolding readPlan plan_lines budgetOf planFields read_lines judged recordOf record_word_of split same
+unfolding read_plan plan_lines budget_of plan_fields read_lines judged record_of record_word_of split same
 plan_limits_right = refl
 
 pub plans_right : reports.PlanTextsRight

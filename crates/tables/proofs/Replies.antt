@@ -24,20 +24,20 @@ use Rattle.rules.proofs.Derivations.{derived-accepted}
 use Rattle.rules.proofs.Leasts.{least-unique}
 use Rattle.rules.proofs.Lists.{closed-finished}
 use Rattle.rules.proofs.Ordering.{fewest-some}
-use Rattle.tables.proofs.Tests.{above, withinTest, bus_passes}
+use Rattle.tables.proofs.Tests.{above, within_test, bus_passes}
 use Rattle.refusals.specs.declared.Refusal.TheVariants.{InvalidCase, NoSuchBus, ReasonFails, OverBudget, NoCover}
 use Rattle.grid.specs.Limits.{most_budget}
-use Rattle.grid.specs.Rows.{set_at, neighbours, circuits, with_bit, with_circuits, with_end, withLine}
+use Rattle.grid.specs.Rows.{set_at, neighbours, circuits, with_bit, with_circuits, with_end, with_line}
 use Rattle.grid.specs.Cases.{Valid}
 use Rattle.refusals.specs.Refusals.{Failed, number_of}
 use Rattle.refusals.proofs.Orders.{itself, failed_or_passed, failed-unique}
-use Rattle.tables.proofs.Drawn.{written_row, row_test, lines_test, validTest, filled_passes}
+use Rattle.tables.proofs.Drawn.{written_row, row_test, lines_test, valid_test, filled_passes}
 use Rattle.case_line.specs.Fields.{if_no_field}
-use Rattle.step_line.specs.StepLine.{stepWordOf, stepLineOf}
+use Rattle.step_line.specs.StepLine.{step_word_of, step_line_of}
 use Rattle.step_text.specs.Taking.{count_read}
-use Rattle.step_text.specs.Steps.{step_lines, readSteps}
-use Rattle.case_read.specs.Reading.{read_lines, readText, readCase}
-use Rattle.case_line.specs.CaseText.{bus_records, members, lineRecords, lines_text}
+use Rattle.step_text.specs.Steps.{step_lines, read_steps}
+use Rattle.case_read.specs.Reading.{read_lines, read_text, read_case}
+use Rattle.case_line.specs.CaseText.{bus_records, members, line_records, lines_text}
 use Rattle.list_follow.specs.Replies.{replay_checks}
 use Rattle.observe_calls.specs.Replies.{observed_checks}
 use Rattle.place_calls.specs.Replies.{fewest_checks}
@@ -244,9 +244,9 @@ fewests_right =
     over = v then stop (λ h. omega arith) (itself _)
 
 pub texts_right : AllRight tables.text_reply_table
-unfolding readCase readText read_lines readSteps step_lines stepLineOf stepWordOf if_no_field split same validTest lines_test withinTest above
-    row_test total bus_records members lineRecords lines_text record_text join digits neighbours set_of ones ones_in lack set_at written_row
-    withLine
+unfolding read_case read_text read_lines read_steps step_lines step_line_of step_word_of if_no_field split same valid_test lines_test within_test above
+    row_test total bus_records members line_records lines_text record_text join digits neighbours set_of ones ones_in lack set_at written_row
+    with_line
     with_end with_circuits with_bit less circuits
 texts_right =
     refl

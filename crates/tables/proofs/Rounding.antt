@@ -11,7 +11,7 @@ use Rattle.rules.specs.Placing.{Rising, placed}
 use Rattle.rules.specs.Rounds.{Gives, RoundsFrom}
 use Rattle.rules.proofs.Reasons.{allowed-bus}
 use Rattle.tables.proofs.Tests.{total-none, gap, gap-none, given}
-use Rattle.tables.proofs.Deriving.{allowed_test, allowed_passes, noReason, no-reason}
+use Rattle.tables.proofs.Deriving.{allowed_test, allowed_passes, no_reason, no-reason}
 
 -- the buses of steps
 abbrev pub buses_of : List Step → List ℕ
@@ -47,14 +47,14 @@ among_passes b (x ∷ xs) e = go (gap x b) refl (λ h. among_passes b xs h) e
 
 -- no reason holds for a bus that is not one of these
 unfoldable pub others_test : Grid → ℕ → List ℕ → ℕ
-others_test g s xs = total g.n (λ b. given (among_test b xs) (noReason g s b))
+others_test g s xs = total g.n (λ b. given (among_test b xs) (no_reason g s b))
 
 others_pass : (g : Grid) (s : ℕ) (xs : List ℕ) → Proper g → others_test g s xs ≡ 0 → (b : ℕ) → Gives g s b → Some (λ x. x ≡ b) xs
 unfolding others_test given
 others_pass g s xs v e b h =
-    go (among_test b xs) refl (total-none g.n (λ b. given (among_test b xs) (noReason g s b)) e b (allowed-bus v h.allowed))
+    go (among_test b xs) refl (total-none g.n (λ b. given (among_test b xs) (no_reason g s b)) e b (allowed-bus v h.allowed))
   where
-    go : (d : ℕ) → among_test b xs ≡ d → given d (noReason g s b) ≡ 0 → Some (λ x. x ≡ b) xs
+    go : (d : ℕ) → among_test b xs ≡ d → given d (no_reason g s b) ≡ 0 → Some (λ x. x ≡ b) xs
     go zero q z = among_passes b xs q
     go (suc d) q z = absurd (no-reason g v s b h.reason z h.allowed.new h.allowed.holds)
 

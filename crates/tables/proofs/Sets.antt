@@ -12,7 +12,7 @@ use Rattle.basics.proofs.Tests.{decides-yes, decides-no}
 use Rattle.busset.proofs.Members.{add-there, less-there}
 use Rattle.busset.proofs.Words.{set-zero}
 use Rattle.rules.specs.Grids.{total}
-use Rattle.tables.proofs.Tests.{gap, above, withinTest, within_passes, sub_test, sub_passes}
+use Rattle.tables.proofs.Tests.{gap, above, within_test, within_passes, sub_test, sub_passes}
 use Rattle.tables.proofs.Listed.{by_bus, all-buses}
 use Rattle.tables.proofs.Rows.{◌&◌}
 use Rattle.tables.specs.Starred.{word_with}
@@ -69,17 +69,17 @@ sizes_right = refl
 -- ---- what is said of sets
 
 -- the buses of a list are 1 to 3
-inside : (bs : List ℕ) → withinTest 3 (set bs) ≡ 0 → Within 3 (set bs)
+inside : (bs : List ℕ) → within_test 3 (set bs) ≡ 0 → Within 3 (set bs)
 inside bs e = within_passes 3 (set bs) (set-zero (word_with bs)) e
 
 -- what an operation on digits says of three such lists
-listed : (f : ℕ → ℕ → ℕ) (bs cs ds : List ℕ) → f 0 0 ≡ 0 → withinTest 3 (set bs) ≡ 0 → withinTest 3 (set cs) ≡ 0 → withinTest 3 (set ds) ≡ 0
+listed : (f : ℕ → ℕ → ℕ) (bs cs ds : List ℕ) → f 0 0 ≡ 0 → within_test 3 (set bs) ≡ 0 → within_test 3 (set cs) ≡ 0 → within_test 3 (set ds) ≡ 0
     → total 3 (λ b. gap (bit (set ds) b) (f (bit (set bs) b) (bit (set cs) b))) ≡ 0
     → (b : ℕ) → bit (set ds) b ≡ f (bit (set bs) b) (bit (set cs) b)
 listed f bs cs ds z wb wc wd e = by_bus 3 f (set bs) (set cs) (set ds) z (inside bs wb) (inside cs wc) (inside ds wd) e
 
 pub said-right : AllRight sets.set_table
-unfolding withinTest above sub_test gap total held.hold held.word_of set_of add less lack up_to ones ones_in
+unfolding within_test above sub_test gap total held.hold held.word_of set_of add less lack up_to ones ones_in
 said-right =
     record { some = omega arith; most = omega arith }
     & record { some = omega arith; most = omega arith }

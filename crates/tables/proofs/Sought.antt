@@ -66,8 +66,8 @@ confirm_test g b a = given (bit g.units a) (given (gap a b) (bit (g.neighbours a
 unfoldable pub alone_test : Grid → ℕ → ℕ
 alone_test g b = given (bit g.units b) (1 - total g.n (confirm_test g b))
 
-unfoldable pub unconfirmedTest : Grid → ℕ → ℕ
-unconfirmedTest g s = total g.n (λ b. gap (bit s b) (alone_test g b))
+unfoldable pub unconfirmed_test : Grid → ℕ → ℕ
+unconfirmed_test g s = total g.n (λ b. gap (bit s b) (alone_test g b))
 
 module _ (g : Grid) (v : Proper g) where
   apart : (a b : ℕ) → (a ≡ b → ⊥) → 0 < gap a b
@@ -109,8 +109,8 @@ module _ (g : Grid) (v : Proper g) where
           (let e = meet-at (g.neighbours a) (g.neighbours b) x in omega arith)))) in
           omega (arith, ap size nothing, size-empty)
 
-  pub unconfirmed_passes : (s : ℕ) → Within g.n s → unconfirmedTest g s ≡ 0 → UnconfirmedSet g.neighbours g.units s
-  unfolding unconfirmedTest alone_test given
+  pub unconfirmed_passes : (s : ℕ) → Within g.n s → unconfirmed_test g s ≡ 0 → UnconfirmedSet g.neighbours g.units s
+  unfolding unconfirmed_test alone_test given
   unconfirmed_passes s w e = record { all = all; only = only }
     where
       at_bus : (b : ℕ) → Bus g.n b → bit s b ≡ alone_test g b
@@ -134,8 +134,8 @@ module _ (g : Grid) (v : Proper g) where
 
 -- how far from allowed, observed and no better than `most` a unit at y is: 0 where y is not free, or with it at most `most` buses are
 -- observed
-unfoldable pub noBetter : Grid → ℕ → ℕ → ℕ
-noBetter g most y =
+unfoldable pub no_better : Grid → ℕ → ℕ → ℕ
+no_better g most y =
     given (bit g.sites y - bit g.units y)
     (seen_test (with_units g (add g.units y)) + (size (seen (with_units g (add g.units y))) - most))
 
@@ -144,11 +144,11 @@ unfoldable pub best_test : Grid → ℕ → ℕ
 best_test g x =
     let most = size (seen (with_units g (add g.units x))) in
     seen_test g + (1 - (bit g.sites x - bit g.units x)) + seen_test (with_units g (add g.units x)) + (suc (size (seen g)) - most)
-    + total g.n (noBetter g most) + total (x - 1) (noBetter g (most - 1))
+    + total g.n (no_better g most) + total (x - 1) (no_better g (most - 1))
 
 -- no site adds a bus
 unfoldable pub none_test : Grid → ℕ
-none_test g = seen_test g + total g.n (noBetter g (size (seen g)))
+none_test g = seen_test g + total g.n (no_better g (size (seen g)))
 
 unfoldable pub greedy_test : Grid → ℕ → List ℕ → ℕ
 greedy_test g zero [] = 0
@@ -157,8 +157,8 @@ greedy_test g (suc k) [] = none_test g
 greedy_test g (suc k) (x ∷ xs) = best_test g x + greedy_test (with_units g (add g.units x)) k xs
 
 -- a site that is no better than most makes at most so many buses observed
-no-better : (g : Grid) (most y t : ℕ) → Proper g → noBetter g most y ≡ 0 → choosing.WithSite g y t → size t ≤ most
-unfolding noBetter
+no-better : (g : Grid) (most y t : ℕ) → Proper g → no_better g most y ≡ 0 → choosing.WithSite g y t → size t ≤ most
+unfolding no_better
 no-better g most y t v e w =
     let f = given-some (bit g.sites y - bit g.units y)
     (seen_test (with_units g (add g.units y)) + (size (seen (with_units g (add g.units y))) - most))
@@ -174,7 +174,7 @@ greedy_passes g (suc k) [] v e = λ y s t l w.
     let base = seen-least g v (omega arith) in
     omega (
       arith,
-      no-better g (size (seen g)) y t v (total-none g.n (noBetter g (size (seen g))) (omega arith) y (v.sites y w.free.site)) w,
+      no-better g (size (seen g)) y t v (total-none g.n (no_better g (size (seen g))) (omega arith) y (v.sites y w.free.site)) w,
       ap size (least-unique g s (seen g) l base),
     )
 greedy_passes g (suc k) (x ∷ xs) v e =
@@ -186,11 +186,11 @@ greedy_passes g (suc k) (x ∷ xs) v e =
         observed = seen-least g v (omega arith);
         with = record { free = free; observed = seen-least (with_units g (add g.units x)) (proper-with x v free.site) (omega arith) };
         adds = omega arith;
-        largest = λ y t w. no-better g most y t v (total-none g.n (noBetter g most) (omega arith) y (v.sites y w.free.site)) w;
+        largest = λ y t w. no-better g most y t v (total-none g.n (no_better g most) (omega arith) y (v.sites y w.free.site)) w;
         lowest =
             λ y t w b. omega (
               arith,
-              no-better g (most - 1) y t v (total-none (x - 1) (noBetter g (most - 1)) (omega arith) y
+              no-better g (most - 1) y t v (total-none (x - 1) (no_better g (most - 1)) (omega arith) y
                   (record { some = (v.sites y w.free.site).some; most = omega arith })) w,
             );
       },

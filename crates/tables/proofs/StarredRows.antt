@@ -13,16 +13,16 @@ use Rattle.busset.proofs.Holding.{word_own}
 use Rattle.busset.proofs.Digits.{bit-zero}
 use Rattle.rules.specs.Grids.{total}
 use Rattle.rules.specs.Figures.{figure}
-use Rattle.tables.proofs.Tests.{gap, gap-none, is_one, above, withinTest, given, sub_test}
+use Rattle.tables.proofs.Tests.{gap, gap-none, is_one, above, within_test, given, sub_test}
 use Rattle.tables.proofs.Tests.{closed_test, bus_test, bus_passes}
 use Rattle.tables.proofs.Sought.{Sought, confirm_test}
-use Rattle.tables.proofs.Sought.{alone_test, unconfirmedTest, noBetter, best_test, none_test, greedy_test, none}
+use Rattle.tables.proofs.Sought.{alone_test, unconfirmed_test, no_better, best_test, none_test, greedy_test, none}
 use Rattle.tables.proofs.Sought.{some, unsure, sought_from, judge, or_else, choose, seek, first_of, smallest}
 use Rattle.refusals.proofs.Orders.{itself}
 use Rattle.grid.specs.Limits.{most_budget, most_greedy_budget}
 use Rattle.grid.specs.Rows.{set_at, neighbours}
 use Rattle.grid.specs.Cases.{Valid}
-use Rattle.tables.proofs.Drawn.{written_row, row_test, lines_test, validTest, filled_passes}
+use Rattle.tables.proofs.Drawn.{written_row, row_test, lines_test, valid_test, filled_passes}
 use Rattle.observe_calls.specs.Replies.{stated}
 use Rattle.tables.specs.Drawings.{set, drawn_grid}
 use Rattle.tables.proofs.StarredSites.{free, verdict-right, greedy-right, fewest-right, uncovered-right}
@@ -73,17 +73,17 @@ gap_sought-none a b e = told_inj a b (gap-none (told a) (told b) e)
 
 -- the test of a row
 unfoldable wrong : StarredRow → ℕ
-wrong (observes d bs) = validTest (short_case d) + least_test (drawn_grid d) (derived (drawn_grid d)) (set bs)
+wrong (observes d bs) = valid_test (short_case d) + least_test (drawn_grid d) (derived (drawn_grid d)) (set bs)
 wrong (figures d bs i j z) =
-    validTest (short_case d) + bus_test d.n i + bus_test d.n j + (1 - bit (neighbours (drawn_case d).nbr i) j)
+    valid_test (short_case d) + bus_test d.n i + bus_test d.n j + (1 - bit (neighbours (drawn_case d).nbr i) j)
     + gap_z (figure (neighbours (drawn_case d).nbr) (stated (drawn_case d) (word_with bs)) i j) z
-wrong (fails d x) = validTest (short_case d) + names_test d.n x + (1 - holds_test (drawn_grid d) empty x.bus x.reason)
-wrong (unconfirmed d bs) = validTest (short_case d) + withinTest d.n (set bs) + unconfirmedTest (drawn_grid d) (set bs)
-wrong (adds d budget ss) = validTest (short_case d) + (budget - most_greedy_budget) + greedy_test (drawn_grid d) budget ss
+wrong (fails d x) = valid_test (short_case d) + names_test d.n x + (1 - holds_test (drawn_grid d) empty x.bus x.reason)
+wrong (unconfirmed d bs) = valid_test (short_case d) + within_test d.n (set bs) + unconfirmed_test (drawn_grid d) (set bs)
+wrong (adds d budget ss) = valid_test (short_case d) + (budget - most_greedy_budget) + greedy_test (drawn_grid d) budget ss
 wrong (fewest_is d budget bs) =
-    validTest (short_case d) + (budget - most_budget d.n) + gap_sought (smallest (drawn_grid d) (free d) (budget + 1) 0) (some (set bs))
+    valid_test (short_case d) + (budget - most_budget d.n) + gap_sought (smallest (drawn_grid d) (free d) (budget + 1) 0) (some (set bs))
 wrong (uncovered d budget) =
-    validTest (short_case d) + (budget - most_budget d.n) + gap_sought (smallest (drawn_grid d) (free d) (budget + 1) 0) none
+    valid_test (short_case d) + (budget - most_budget d.n) + gap_sought (smallest (drawn_grid d) (free d) (budget + 1) 0) none
 
 row-right : (r : StarredRow) → wrong r ≡ 0 → StarredRight r
 unfolding wrong
@@ -134,8 +134,8 @@ all_right (r ∷ rs) e = (row-right r (omega arith), all_right rs (omega arith))
 
 -- every row of the table is right
 pub table_right : AllStarredRight starred_table
-unfolding all_wrong wrong gap_sought validTest lines_test withinTest row_test least_test accepted_test holds_test closed_test sub_test is_one gap
+unfolding all_wrong wrong gap_sought valid_test lines_test within_test row_test least_test accepted_test holds_test closed_test sub_test is_one gap
     given total neighbours hold word_of set_of figure up_to less lack meet add ones ones_in pick reason_for reason_at step_for pass_from extended
-    derive confirm_test alone_test unconfirmedTest noBetter best_test none_test greedy_test above sought_from judge or_else choose seek first_of
+    derive confirm_test alone_test unconfirmed_test no_better best_test none_test greedy_test above sought_from judge or_else choose seek first_of
     smallest set_at written_row
 table_right = all_right starred_table refl

@@ -11,13 +11,13 @@ use Rattle.busset.proofs.Holding.{word_own}
 use Rattle.busset.proofs.Words.{set-zero}
 use Rattle.rules.proofs.Choices.{greedy-unique}
 use Rattle.rules.proofs.Ordering.{fewest-some}
-use Rattle.tables.proofs.Tests.{withinTest, within_passes}
-use Rattle.tables.proofs.Sought.{unconfirmedTest, unconfirmed_passes, greedy_test, greedy_passes, none, some, smallest, fewest_passes}
+use Rattle.tables.proofs.Tests.{within_test, within_passes}
+use Rattle.tables.proofs.Sought.{unconfirmed_test, unconfirmed_passes, greedy_test, greedy_passes, none, some, smallest, fewest_passes}
 use Rattle.refusals.specs.declared.Refusal.TheVariants.{NoCover}
 use Rattle.grid.specs.Limits.{most_budget, most_greedy_budget}
 use Rattle.grid.specs.Cases.{Valid}
 use Rattle.refusals.proofs.Orders.{itself}
-use Rattle.tables.proofs.Drawn.{validTest, filled_passes}
+use Rattle.tables.proofs.Drawn.{valid_test, filled_passes}
 use Rattle.place_calls.specs.declared.Verdict.TheVariants as verdict
 use Rattle.place_calls.specs.declared.Greedy.TheVariants as greedy
 use Rattle.place_calls.specs.declared.Fewest.TheVariants as fewest
@@ -32,7 +32,7 @@ abbrev pub free : Drawing → ℕ
 free d = lack (drawn_grid d).sites (drawn_grid d).units
 
 pub verdict-right : (d : Drawing) (bs : List ℕ)
-    → validTest (short_case d) + withinTest d.n (set bs) + unconfirmedTest (drawn_grid d) (set bs) ≡ 0
+    → valid_test (short_case d) + within_test d.n (set bs) + unconfirmed_test (drawn_grid d) (set bs) ≡ 0
     → VerdictReply (drawn_case d) (verdict.Unconfirmed (word_with bs))
 verdict-right d bs e =
     let v : Valid (drawn_case d) = filled_passes (short_case d) (omega arith) in (
@@ -43,7 +43,7 @@ verdict-right d bs e =
     )
 
 pub greedy-right : (d : Drawing) (budget : ℕ) (xs : List ℕ)
-    → validTest (short_case d) + (budget - most_greedy_budget) + greedy_test (drawn_grid d) budget xs ≡ 0
+    → valid_test (short_case d) + (budget - most_greedy_budget) + greedy_test (drawn_grid d) budget xs ≡ 0
     → (entry : List ℕ) → length xs ≤ length entry
     → GreedyReply (drawn_case d) budget entry (xs ++ drop (length xs) entry) (greedy.Added (length xs))
 greedy-right d budget xs e entry room =
@@ -62,7 +62,7 @@ greedy-right d budget xs e entry room =
       record { list = xs; greedy = added; count = refl; written = refl },
     )
 
-pub fewest-right : (d : Drawing) (budget : ℕ) (bs : List ℕ) → validTest (short_case d) + (budget - most_budget d.n) ≡ 0
+pub fewest-right : (d : Drawing) (budget : ℕ) (bs : List ℕ) → valid_test (short_case d) + (budget - most_budget d.n) ≡ 0
     → smallest (drawn_grid d) (free d) (budget + 1) 0 ≡ some (set bs)
     → FewestReply (drawn_case d) budget (fewest.Sites (word_with bs))
 fewest-right d budget bs e found =
@@ -71,7 +71,7 @@ fewest-right d budget bs e found =
     (some (set bs)) found in
     ((v, (omega arith, (fewest-some f, tt))), f, word_own _)
 
-pub uncovered-right : (d : Drawing) (budget : ℕ) → validTest (short_case d) + (budget - most_budget d.n) ≡ 0
+pub uncovered-right : (d : Drawing) (budget : ℕ) → valid_test (short_case d) + (budget - most_budget d.n) ≡ 0
     → smallest (drawn_grid d) (free d) (budget + 1) 0 ≡ none → FewestReply (drawn_case d) budget (fewest.Refused NoCover)
 uncovered-right d budget e found =
     let v : Valid (drawn_case d) = filled_passes (short_case d) (omega arith) in

@@ -19,7 +19,7 @@ use Rattle.rules.specs.Grids.{Line, total, line_count}
 use Rattle.rules.specs.Figures.{figure}
 use Rattle.grid.specs.Limits.{most_buses}
 use Rattle.grid.specs.Rows.{bus_sets}
-use Rattle.grid.specs.Cases.{gridOf, Lines, Valid}
+use Rattle.grid.specs.Cases.{grid_of, Lines, Valid}
 use Rattle.tables.proofs.Listed.{all-buses, size-buses}
 use Rattle.tables.proofs.Tests.{bus_passes}
 use Rattle.tables.proofs.Drawn.{written_row, written-zero, written-past, written-bus, written_is, filled-valid}
@@ -164,10 +164,10 @@ figure-from nbr s i j a d b p q r =
     ap₂ (λ (x y : ℕ). pos 1 -ℤ pos x +ℤ pos (bit s i) +ℤ pos y) p r ∙ ap (λ (x : ℕ). pos 1 -ℤ pos a +ℤ pos x +ℤ pos b) q
 
 -- the neighbours that the case value has are those that are written
-star-near : (gridOf star).neighbours ≡ near (most_buses - 1)
+star-near : (grid_of star).neighbours ≡ near (most_buses - 1)
 star-near = written_is (star_rows (most_buses - 1)) (bus_sets * (most_buses - length (star_rows (most_buses - 1))))
 
-star-figure : (s : ℕ) (z : ℤ) → figure (near (most_buses - 1)) s 1 2 ≡ z → figure (gridOf star).neighbours s 1 2 ≡ z
+star-figure : (s : ℕ) (z : ℤ) → figure (near (most_buses - 1)) s 1 2 ≡ z → figure (grid_of star).neighbours s 1 2 ≡ z
 star-figure s z e = ap (λ (nbr : ℕ → ℕ). figure nbr s 1 2) star-near ∙ e
 
 pub ends-right : AllRight figure_end_table

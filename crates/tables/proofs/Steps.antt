@@ -21,7 +21,7 @@ use Rattle.grid.specs.Rows.{set_at, neighbours}
 use Rattle.list_value.specs.declared.StepList.{StepList}
 use Rattle.tables.proofs.Rows.{◌&◌}
 use Rattle.tables.proofs.Computed.{known}
-use Rattle.tables.proofs.Deriving.{reason_test, allowed_test, allowed_passes, noUnit, noZero, noReason}
+use Rattle.tables.proofs.Deriving.{reason_test, allowed_test, allowed_passes, no_unit, no_zero, no_reason}
 use Rattle.tables.proofs.Deriving.{no_sooner, next_test, next_passes, derived_test, derived_passes}
 use Rattle.tables.specs.Tables.{AllRight}
 use Rattle.tables.specs.Drawings.{set, own, near, zero_at, drawn_grid, seven_grid, sweep, ring}
@@ -100,13 +100,13 @@ names-right =
 
 -- document 01's derivation
 pub is-derivation : Derivation (seven_grid (3 ∷ [])) steps.derivation_steps
-unfolding derived_test next_test no_sooner noReason noUnit noZero allowed_test reason_test holds_test sub_test given gap total neighbours add
+unfolding derived_test next_test no_sooner no_reason no_unit no_zero allowed_test reason_test holds_test sub_test given gap total neighbours add
     lack less hold word_of set_of ones ones_in set_at
 is-derivation = derived_passes (seven_grid (3 ∷ [])) known.at3.valid.proper (set []) steps.derivation_steps refl
 
 -- and that of no units
 pub no_steps : Derivation (seven_grid []) []
-unfolding derived_test noReason noUnit noZero holds_test sub_test given total neighbours less lack hold word_of add set_of set_at
+unfolding derived_test no_reason no_unit no_zero holds_test sub_test given total neighbours less lack hold word_of add set_of set_at
 no_steps = derived_passes (seven_grid []) known.none.valid.proper (set []) [] refl
 
 pub accepted-right : AllRight steps.accepted_table
@@ -153,7 +153,7 @@ before-right =
     & tt
 
 pub next-right : AllRight derivation.next_step_table
-unfolding next_test no_sooner noReason noUnit noZero allowed_test reason_test holds_test sub_test given gap total neighbours lack less hold
+unfolding next_test no_sooner no_reason no_unit no_zero allowed_test reason_test holds_test sub_test given gap total neighbours lack less hold
     word_of add set_of ones ones_in set_at
 next-right =
     next_passes (seven_grid (3 ∷ [])) known.at3.valid.proper (set []) (near 2 3) refl
@@ -181,7 +181,7 @@ other : (g : Grid) (i : ℕ) (xs ys : List Step) → Derivation g xs
 other g i xs ys d ne h = let e = derived-unique d ys h in ne (ap length e) (ap (λ (zs : List Step). (get_or zs i no_step).bus) e)
 
 pub derivations_right : AllRight derivation.derivation_table
-unfolding derived_test next_test no_sooner noReason noUnit noZero allowed_test reason_test holds_test sub_test given gap total neighbours add
+unfolding derived_test next_test no_sooner no_reason no_unit no_zero allowed_test reason_test holds_test sub_test given gap total neighbours add
     lack less hold word_of set_of ones ones_in set_at
 derivations_right =
     is-derivation

@@ -77,11 +77,11 @@ unfolding above
 after-out x s b l = omega (arith, lack-at s (up_to x s) b, up_to_in x s b l)
 
 -- the buses of s are 1 to n: there is none above n
-unfoldable pub withinTest : ℕ → ℕ → ℕ
-withinTest n s = size (above n s)
+unfoldable pub within_test : ℕ → ℕ → ℕ
+within_test n s = size (above n s)
 
-pub within_passes : (n s : ℕ) → Out s 0 → withinTest n s ≡ 0 → Within n s
-unfolding withinTest
+pub within_passes : (n s : ℕ) → Out s 0 → within_test n s ≡ 0 → Within n s
+unfolding within_test
 within_passes n s o e zero h = absurd (omega arith)
 within_passes n s o e (suc b) h =
     ⊎_elim

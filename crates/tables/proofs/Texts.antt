@@ -3,10 +3,10 @@ use mathlib.Core.Path.{refl, ap}
 use native.Mathlib.Omega.{arith}
 use lib.ListN.{length}
 use Rattle.text_field.specs.Split.{split, join, after, same, Pieces}
-use Rattle.text_field.specs.Number.{isDigit, takes_digit, number_from, numeral_of, digits}
+use Rattle.text_field.specs.Number.{is_digit, takes_digit, number_from, numeral_of, digits}
 use Rattle.case_line.specs.Fields.{mark_of, if_one_field, if_no_field}
-use Rattle.case_line.specs.Record.{record_word_of, lineFields, busFields, recordOf, record_text}
-use Rattle.step_line.specs.StepLine.{letteredFields, stepWordOf, reasonFields, stepFields, stepLineOf, stepText}
+use Rattle.case_line.specs.Record.{record_word_of, line_fields, bus_fields, record_of, record_text}
+use Rattle.step_line.specs.StepLine.{lettered_fields, step_word_of, reason_fields, step_fields, step_line_of, step_text}
 use Rattle.tables.proofs.Rows.{◌&◌}
 use Rattle.tables.specs.Tables.{AllRight}
 use Rattle.tables.specs.Fields as fields
@@ -38,7 +38,7 @@ ends-right =
     & tt
 
 pub numbers-right : fields.NumbersRight
-unfolding isDigit takes_digit number_from numeral_of
+unfolding is_digit takes_digit number_from numeral_of
 numbers-right = refl
 
 pub numerals_right : fields.NumeralsRight
@@ -56,7 +56,7 @@ unfolding mark_of
 sites-right = refl
 
 pub records-right : records.RecordsRight
-unfolding recordOf record_word_of lineFields busFields mark_of if_one_field if_no_field split same isDigit takes_digit number_from numeral_of
+unfolding record_of record_word_of line_fields bus_fields mark_of if_one_field if_no_field split same is_digit takes_digit number_from numeral_of
 records-right = refl
 
 pub record_lines-right : records.RecordTextsRight
@@ -79,10 +79,10 @@ formed-right =
     & tt
 
 pub step-lines-right : records.StepLinesRight
-unfolding stepLineOf stepWordOf letteredFields reasonFields stepFields if_one_field if_no_field split same isDigit takes_digit number_from
+unfolding step_line_of step_word_of lettered_fields reason_fields step_fields if_one_field if_no_field split same is_digit takes_digit number_from
     numeral_of
 step-lines-right = refl
 
 pub step_texts_right : records.StepTextsRight
-unfolding stepText join digits
+unfolding step_text join digits
 step_texts_right = refl

@@ -8,11 +8,11 @@ use Rattle.case_line.specs.declared.Record.{Record}
 use Rattle.case_line.specs.declared.Record.TheVariants.{Grid, Line, Circuits, Pmu, End, Wrong}
 use Rattle.grid.specs.declared.Case.{Case}
 use Rattle.grid.specs.Limits.{most_buses, most_lines, most_circuits, least_several, most_bytes}
-use Rattle.grid.specs.Rows.{Rows, bus_sets, withLine}
+use Rattle.grid.specs.Rows.{Rows, bus_sets, with_line}
 use Rattle.grid.specs.Cases.{line_added}
 use Rattle.refusals.specs.declared.Refusal.TheVariants.{TextTooLong, WrongForm, OutOfRange, OutOfOrder}
 use Rattle.case_judge.specs.Judging.{judged}
-use Rattle.case_read.specs.Reading.{start, readCase, got}
+use Rattle.case_read.specs.Reading.{start, read_case, got}
 use Rattle.case_inverse.specs.Grammar as grammar
 use Rattle.case_line.specs.CaseText.{case_text}
 use Rattle.case_read.specs.declared.CaseRead.{CaseRead}
@@ -93,7 +93,7 @@ case_table =
 
 -- every row is right
 abbrev pub CasesRight : Type 0
-CasesRight = Right readCase case_table
+CasesRight = Right read_case case_table
 
 -- cases, and the text of each
 abbrev pub case_text_table : List (Case × List ℕ)
@@ -130,7 +130,7 @@ wired_table =
 
 -- every row is right
 abbrev pub WiredRight : Type 0
-WiredRight = Right (λ q. withLine (replicate (bus_sets * 3) empty_word) q.0 q.1 q.2) wired_table
+WiredRight = Right (λ q. with_line (replicate (bus_sets * 3) empty_word) q.0 q.1 q.2) wired_table
 
 -- ---- refusals
 
@@ -163,7 +163,7 @@ whole_text_table =
 
 -- every row is right
 abbrev pub WholeTextsRight : Type 0
-WholeTextsRight = Reads (λ s. (readCase s).answer) whole_text_table
+WholeTextsRight = Reads (λ s. (read_case s).answer) whole_text_table
 
 -- `grid` alone: up to the most buses the next record is missing, one more is out of range
 abbrev pub bus_limit_table : List (ℕ × ReadAnswer)
@@ -171,7 +171,7 @@ bus_limit_table = (most_buses, Refused (WrongForm 2)) ∷ (suc most_buses, Refus
 
 -- every row is right
 abbrev pub BusLimitsRight : Type 0
-BusLimitsRight = Right (λ n. (readCase (record_text (Grid n) ++ line_feed ∷ [])).answer) bus_limit_table
+BusLimitsRight = Right (λ n. (read_case (record_text (Grid n) ++ line_feed ∷ [])).answer) bus_limit_table
 
 -- how a text goes on after the seven-bus grid's `grid` and every `bus`, from line 9 on
 abbrev pub later_line_table : List (String × ReadAnswer)
@@ -220,7 +220,7 @@ later_line_table =
 
 -- every row is right
 abbrev pub LaterLinesRight : Type 0
-LaterLinesRight = Right (λ s. (readCase (block seven_buses ++ bytes s)).answer) later_line_table
+LaterLinesRight = Right (λ s. (read_case (block seven_buses ++ bytes s)).answer) later_line_table
 
 -- line feeds alone: the most bytes of them are 2 at line 1, one more is 1
 abbrev pub case_limit_table : List (ℕ × ReadAnswer)
@@ -228,7 +228,7 @@ case_limit_table = (most_bytes, Refused (WrongForm 1)) ∷ (suc most_bytes, Refu
 
 -- every row is right
 abbrev pub CaseLimitsRight : Type 0
-CaseLimitsRight = Right (λ k. (readCase (replicate k line_feed)).answer) case_limit_table
+CaseLimitsRight = Right (λ k. (read_case (replicate k line_feed)).answer) case_limit_table
 
 -- ---- one line more than the most
 

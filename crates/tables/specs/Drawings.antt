@@ -6,7 +6,7 @@ use Rattle.step.specs.declared.Step.{Step}
 use Rattle.rules.specs.Grids.{Grid}
 use Rattle.grid.specs.declared.Case.{Case}
 use Rattle.grid.specs.Rows.{with_circuits}
-use Rattle.grid.specs.Cases.{gridOf}
+use Rattle.grid.specs.Cases.{grid_of}
 use Rattle.tables.specs.Starred.{Drawing, word_with, filled, drawn_case, seven, path}
 
 -- the set of the buses of a list
@@ -45,7 +45,7 @@ counts c a b k = record { n = c.n; nbr = with_circuits c.nbr a b k; zero = c.zer
 
 -- the grid that a drawing says
 abbrev pub drawn_grid : Drawing → Grid
-drawn_grid d = gridOf (drawn_case d)
+drawn_grid d = grid_of (drawn_case d)
 
 -- document 01's seven-bus grid with these units
 abbrev pub seven_grid : List ℕ → Grid
@@ -85,7 +85,7 @@ four_apart = record { n = 4; lines = []; zeros = []; units = [] }
 
 -- two buses, joined, of which 1 has site N, with these units
 abbrev pub barred : List ℕ → Grid
-barred units = gridOf (value 2 ((2 ∷ []) ∷ (1 ∷ []) ∷ []) [] (2 ∷ []) units)
+barred units = grid_of (value 2 ((2 ∷ []) ∷ (1 ∷ []) ∷ []) [] (2 ∷ []) units)
 
 -- the path 1-2-3 with these units, where no bus is Z
 abbrev pub trio : List ℕ → Drawing

@@ -5,7 +5,7 @@ use Rattle.busset.specs.Held.{SetWord, empty_word, word_of}
 use Rattle.rules.specs.Figures.{figure, Runs}
 use Rattle.grid.specs.declared.Case.{Case}
 use Rattle.grid.specs.Limits.{most_buses}
-use Rattle.grid.specs.Cases.{gridOf, Valid}
+use Rattle.grid.specs.Cases.{grid_of, Valid}
 use Rattle.tables.specs.Starred.{word_with, buses_to, filled, drawn_case, seven}
 use Rattle.observe_calls.specs.Replies.{stated}
 use Rattle.tables.specs.Tables.{Right, Row, holds, fails}
@@ -51,8 +51,8 @@ star = filled short_star
 abbrev pub figure_end_table : List Row
 figure_end_table =
     holds (Valid star)
-    ∷ holds (figure (gridOf star).neighbours (set []) 1 2 ≡ negsuc (most_buses - 3))
-    ∷ holds (figure (gridOf star).neighbours (set (buses_to most_buses)) 1 2 ≡ pos 1)
+    ∷ holds (figure (grid_of star).neighbours (set []) 1 2 ≡ negsuc (most_buses - 3))
+    ∷ holds (figure (grid_of star).neighbours (set (buses_to most_buses)) 1 2 ≡ pos 1)
     ∷ []
 
 -- where the figure runs: from 2 less the most buses, up to 1

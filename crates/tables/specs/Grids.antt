@@ -1,14 +1,14 @@
 -- The grid that a case value says, and which case values are valid: one row for each clause of refusal 5.
 use Rattle.std.specs.Prelude.{List, [], ◌∷◌, ◌++◌, ℕ, zero, suc, leb}
 use Rattle.busset.specs.Sets.{width, less}
-use Rattle.busset.specs.Held.{SetWord, empty_word, word_of, holdIf}
-use Rattle.busset.specs.Bytes.{setLength}
+use Rattle.busset.specs.Held.{SetWord, empty_word, word_of, hold_if}
+use Rattle.busset.specs.Bytes.{set_length}
 use Rattle.rules.specs.Grids.{Line, Proper, total, line_count}
 use Rattle.grid.specs.declared.Case.{Case}
 use Rattle.grid.specs.Limits.{most_buses, most_lines, most_circuits, least_several, most_steps, largest_budget, most_budget, most_greedy_budget}
 use Rattle.grid.specs.Limits.{most_bytes, most_step_bytes}
 use Rattle.grid.specs.Rows.{neighbours, circuits}
-use Rattle.grid.specs.Cases.{gridOf, line_added, LinesAt, Lines, Valid}
+use Rattle.grid.specs.Cases.{grid_of, line_added, LinesAt, Lines, Valid}
 use Rattle.plan_input.specs.Asking.{default_budget}
 use Rattle.tables.specs.Starred.{word_with, buses_to, filled, drawn_case, seven, path}
 use Rattle.tables.specs.Tables.{Right, Row, holds, fails}
@@ -30,7 +30,7 @@ limit_table =
     ∷ (largest_budget, 8)
     ∷ (most_budget 7, 8)
     ∷ (most_greedy_budget, 64)
-    ∷ (setLength, 8)
+    ∷ (set_length, 8)
     ∷ (default_budget, 3)
     ∷ []
 
@@ -194,7 +194,7 @@ valid_table =
 -- the neighbours of m buses from b on: each is joined to all of 1 to 23 but itself, and to bus 24 where it is one of the first k
 abbrev pub crowd_rows : ℕ → ℕ → ℕ → List SetWord
 crowd_rows k b zero = []
-crowd_rows k b (suc m) = holdIf (leb b k) (word_of (less (set (buses_to 23)) b)) 24 ∷ crowd_rows k (suc b) m
+crowd_rows k b (suc m) = hold_if (leb b k) (word_of (less (set (buses_to 23)) b)) 24 ∷ crowd_rows k (suc b) m
 
 -- 24 buses, 1 to 23 all joined to one another by 253 lines, and bus 24 to the first k; the neighbours alone for rows
 abbrev pub short_crowd : ℕ → Case
@@ -218,6 +218,6 @@ most_lines_table = holds (Valid (crowd 3)) ∷ fails (Valid (crowd 4)) ∷ []
 abbrev pub proper_table : List Row
 proper_table =
     holds (Proper (seven_grid (3 ∷ [])))
-    ∷ fails (Proper (gridOf (value 2 one_sided [] [] [])))
-    ∷ fails (Proper (gridOf (value 2 pair [] [] (3 ∷ []))))
+    ∷ fails (Proper (grid_of (value 2 one_sided [] [] [])))
+    ∷ fails (Proper (grid_of (value 2 pair [] [] (3 ∷ []))))
     ∷ []

@@ -1,6 +1,6 @@
 -- From text to text: document 01's two programs, the four C functions, and the calls on step texts.
 use Rattle.std.specs.Prelude.{true, List, [], ◌∷◌, ◌++◌, ℕ, suc, replicate}
-use Rattle.busset.specs.Bytes.{setLength, set_bytes}
+use Rattle.busset.specs.Bytes.{set_length, set_bytes}
 use Rattle.text_field.specs.Split.{bytes}
 use Rattle.refusals.specs.declared.Refusal.TheVariants.{WrongForm, OutOfRange, InvalidCase, NoRoom, NoSuchBus}
 use Rattle.grid.specs.Limits.{largest_budget}
@@ -95,7 +95,7 @@ print_table =
 
 -- bytes lent, one more than a set has
 abbrev pub lent : List ℕ
-lent = replicate (suc setLength) 5
+lent = replicate (suc set_length) 5
 
 -- the same bytes after a set of these buses
 abbrev pub left : List ℕ → List ℕ

@@ -2,8 +2,8 @@
 use Rattle.std.specs.Prelude.{true, false, List, [], ◌∷◌}
 use Prim.Native.String.{String}
 use Rattle.case_line.specs.Fields.{class_of, site_of}
-use Rattle.case_line.specs.Record.{recordOf, record_text, Formed}
-use Rattle.step_line.specs.StepLine.{stepLineOf, stepText}
+use Rattle.case_line.specs.Record.{record_of, record_text, Formed}
+use Rattle.step_line.specs.StepLine.{step_line_of, step_text}
 use Rattle.case_line.specs.declared.Record.{Record}
 use Rattle.case_line.specs.declared.Record.TheVariants.{Grid, Bus, Line, Circuits, Pmu, End, Wrong}
 use Rattle.case_line.specs.declared.Mark.{Mark}
@@ -88,7 +88,7 @@ record_table =
 
 -- every row is right
 abbrev pub RecordsRight : Type 0
-RecordsRight = Reads recordOf record_table
+RecordsRight = Reads record_of record_table
 
 -- records, and the line that each is
 abbrev pub record_text_table : List (Record × String)
@@ -157,7 +157,7 @@ step_line_table =
 
 -- every row is right
 abbrev pub StepLinesRight : Type 0
-StepLinesRight = Reads stepLineOf step_line_table
+StepLinesRight = Reads step_line_of step_line_table
 
 -- steps, and the line that each is
 abbrev pub step_text_table : List (Step × String)
@@ -165,4 +165,4 @@ step_text_table = (near 2 3, "step\t2\tN\t3") ∷ (own 3, "step\t3\tO") ∷ (zer
 
 -- every row is right
 abbrev pub StepTextsRight : Type 0
-StepTextsRight = Writes stepText step_text_table
+StepTextsRight = Writes step_text step_text_table

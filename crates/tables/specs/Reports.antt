@@ -16,7 +16,7 @@ use Rattle.case_line.specs.declared.Record.TheVariants.{Pmu, End}
 use Rattle.case_write.specs.Lines.{line_text}
 use Rattle.report_lines.specs.Printing.{refused_text}
 use Rattle.report_day.specs.Day.{verdict_fields, day_text}
-use Rattle.plan_input.specs.Asking.{default_budget, budgetOf, readPlan}
+use Rattle.plan_input.specs.Asking.{default_budget, budget_of, read_plan}
 use Rattle.report_plan.specs.Plan.{plan_text}
 use Rattle.plan_input.specs.declared.Asked.{Asked}
 use Rattle.tables.specs.Starred.{drawn_case, seven}
@@ -97,7 +97,7 @@ budget_table =
 
 -- every row is right
 abbrev pub BudgetsRight : Type 0
-BudgetsRight = Reads budgetOf budget_table
+BudgetsRight = Reads budget_of budget_table
 
 -- inputs, and what reading says: the case text's lines count from 2
 abbrev pub input_table : List (List ℕ × ReadAnswer)
@@ -116,7 +116,7 @@ input_table =
 
 -- every row is right
 abbrev pub InputsRight : Type 0
-InputsRight = Right (λ s. (readPlan s).read.answer) input_table
+InputsRight = Right (λ s. (read_plan s).read.answer) input_table
 
 -- inputs, and all that is asked: the budget and the case; a refusal has neither
 abbrev pub asked_table : List (List ℕ × Asked)
@@ -128,7 +128,7 @@ asked_table =
 
 -- every row is right
 abbrev pub AskedRight : Type 0
-AskedRight = Right readPlan asked_table
+AskedRight = Right read_plan asked_table
 
 -- the whole input counts: how many bytes `plan` and line feeds are, and what reading says; the most, and one more
 abbrev pub plan_limit_table : List (ℕ × ReadAnswer)
@@ -136,7 +136,7 @@ plan_limit_table = (most_bytes, Refused (WrongForm 2)) ∷ (suc most_bytes, Refu
 
 -- every row is right
 abbrev pub PlanLimitsRight : Type 0
-PlanLimitsRight = Right (λ k. (readPlan (bytes "plan" ++ replicate (k - length (bytes "plan")) line_feed)).read.answer) plan_limit_table
+PlanLimitsRight = Right (λ k. (read_plan (bytes "plan" ++ replicate (k - length (bytes "plan")) line_feed)).read.answer) plan_limit_table
 
 -- n and the added sites, and what is printed
 abbrev pub plan_text_table : List ((ℕ × List ℕ) × String)

@@ -1,6 +1,6 @@
 -- What a C program gets: the result, and the bytes that it lent.
 use Rattle.std.specs.Prelude.{List, [], ◌∷◌, ◌++◌, ℕ, suc, ◌+◌, ◌-◌, ◌*◌, replicate}
-use Rattle.busset.specs.Bytes.{setLength, set_bytes}
+use Rattle.busset.specs.Bytes.{set_length, set_bytes}
 use Rattle.grid.specs.Limits.{most_buses, most_steps}
 use Rattle.refusals.specs.declared.Refusal.{Refusal}
 use Rattle.refusals.specs.declared.Refusal.TheVariants.{TextTooLong, WrongForm, OutOfRange, NoSuchBus, ReasonFails}
@@ -31,18 +31,18 @@ CodesRight = Right code_of code_table
 -- answers and how many bytes are lent, and the result: 50 is added in reading the step text, and 6 comes last
 abbrev pub result_table : List ((Answer × ℕ) × ℕ)
 result_table =
-    ((Set (word_with (1 ∷ 3 ∷ [])), setLength), 0)
-    ∷ ((Set (word_with (1 ∷ 3 ∷ [])), suc setLength), 0)
-    ∷ ((Set (word_with []), setLength), 0)
-    ∷ ((Set (word_with (1 ∷ 3 ∷ [])), setLength - 1), 6)
+    ((Set (word_with (1 ∷ 3 ∷ [])), set_length), 0)
+    ∷ ((Set (word_with (1 ∷ 3 ∷ [])), suc set_length), 0)
+    ∷ ((Set (word_with []), set_length), 0)
+    ∷ ((Set (word_with (1 ∷ 3 ∷ [])), set_length - 1), 6)
     ∷ ((Set (word_with (1 ∷ 3 ∷ [])), 0), 6)
-    ∷ ((Refused (WrongForm 1), setLength), 102)
+    ∷ ((Refused (WrongForm 1), set_length), 102)
     ∷ ((Refused (WrongForm 1), 0), 102)
-    ∷ ((Refused (NoSuchBus 2), setLength), 207)
-    ∷ ((Unread (WrongForm 5), setLength), 552)
+    ∷ ((Refused (NoSuchBus 2), set_length), 207)
+    ∷ ((Unread (WrongForm 5), set_length), 552)
     ∷ ((Unread (OutOfRange 1), 0), 153)
-    ∷ ((Unread TextTooLong, setLength), 51)
-    ∷ ((Unread (TooManySteps (suc most_steps)), setLength), 100 * suc most_steps + 62)
+    ∷ ((Unread TextTooLong, set_length), 51)
+    ∷ ((Unread (TooManySteps (suc most_steps)), set_length), 100 * suc most_steps + 62)
     ∷ []
 
 -- every row is right
@@ -54,12 +54,12 @@ ResultsRight = Right (λ q. result_of q.0 q.1) result_table
 -- sets, and their bytes: the lowest bus is in the lowest bit of the first
 abbrev pub set_bytes_table : List (List ℕ × List ℕ)
 set_bytes_table =
-    ([], replicate setLength 0)
-    ∷ (1 ∷ [], 1 ∷ replicate (setLength - 1) 0)
-    ∷ (8 ∷ [], 128 ∷ replicate (setLength - 1) 0)
-    ∷ (9 ∷ [], 0 ∷ 1 ∷ replicate (setLength - 2) 0)
-    ∷ (most_buses ∷ [], replicate (setLength - 1) 0 ++ 128 ∷ [])
-    ∷ (1 ∷ 2 ∷ 3 ∷ 4 ∷ 7 ∷ [], 79 ∷ replicate (setLength - 1) 0)
+    ([], replicate set_length 0)
+    ∷ (1 ∷ [], 1 ∷ replicate (set_length - 1) 0)
+    ∷ (8 ∷ [], 128 ∷ replicate (set_length - 1) 0)
+    ∷ (9 ∷ [], 0 ∷ 1 ∷ replicate (set_length - 2) 0)
+    ∷ (most_buses ∷ [], replicate (set_length - 1) 0 ++ 128 ∷ [])
+    ∷ (1 ∷ 2 ∷ 3 ∷ 4 ∷ 7 ∷ [], 79 ∷ replicate (set_length - 1) 0)
     ∷ []
 
 -- every row is right
@@ -69,11 +69,11 @@ SetBytesRight = Right (λ bs. set_bytes (word_with bs)) set_bytes_table
 -- answers and the bytes lent, and what these hold afterwards
 abbrev pub left_by_table : List ((Answer × List ℕ) × List ℕ)
 left_by_table =
-    ((Set (word_with (1 ∷ 2 ∷ [])), replicate setLength 9), 3 ∷ replicate (setLength - 1) 0)
-    ∷ ((Set (word_with (1 ∷ 2 ∷ [])), replicate setLength 9 ++ 5 ∷ 6 ∷ []), 3 ∷ replicate (setLength - 1) 0 ++ 5 ∷ 6 ∷ [])
-    ∷ ((Set (word_with (1 ∷ 2 ∷ [])), replicate (setLength - 1) 9), replicate (setLength - 1) 9)
-    ∷ ((Refused (ReasonFails 1), replicate setLength 9), replicate setLength 9)
-    ∷ ((Unread (WrongForm 1), replicate setLength 9), replicate setLength 9)
+    ((Set (word_with (1 ∷ 2 ∷ [])), replicate set_length 9), 3 ∷ replicate (set_length - 1) 0)
+    ∷ ((Set (word_with (1 ∷ 2 ∷ [])), replicate set_length 9 ++ 5 ∷ 6 ∷ []), 3 ∷ replicate (set_length - 1) 0 ++ 5 ∷ 6 ∷ [])
+    ∷ ((Set (word_with (1 ∷ 2 ∷ [])), replicate (set_length - 1) 9), replicate (set_length - 1) 9)
+    ∷ ((Refused (ReasonFails 1), replicate set_length 9), replicate set_length 9)
+    ∷ ((Unread (WrongForm 1), replicate set_length 9), replicate set_length 9)
     ∷ []
 
 -- every row is right

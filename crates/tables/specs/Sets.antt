@@ -3,7 +3,7 @@ use Rattle.std.specs.Prelude.{Bool, true, false, List, [], ◌∷◌, ℕ, suc, 
 use Rattle.busset.specs.Sets.{Bus, bit, In, Out, Sub, Within, add, meet, lack, less, up_to, size, set_of, width}
 use Rattle.busset.specs.Sets.{Union, Both, Minus, With, Without, Lowest, Counted, All}
 use Rattle.busset.specs.Held as held
-use Rattle.busset.specs.Bytes.{byte_of, setLength}
+use Rattle.busset.specs.Bytes.{byte_of, set_length}
 use Rattle.basics.specs.Deciding.{Decides}
 use Rattle.tables.specs.Tables.{Right, Row, holds, fails}
 use Rattle.tables.specs.Starred.{word_with}
@@ -52,7 +52,7 @@ hold_if_table = (true, 5) ∷ (false, 1) ∷ []
 
 -- every row is right
 abbrev pub HoldingIfRight : Type 0
-HoldingIfRight = Right (λ t. held.holdIf t 1 3) hold_if_table
+HoldingIfRight = Right (λ t. held.hold_if t 1 3) hold_if_table
 
 -- the buses of a word and a place from 0, and the byte there, the lowest first
 abbrev pub byte_table : List ((List ℕ × ℕ) × ℕ)
@@ -61,7 +61,7 @@ byte_table =
     ∷ ((1 ∷ 2 ∷ 3 ∷ 4 ∷ 7 ∷ [], 1), 0)
     ∷ ((9 ∷ [], 0), 0)
     ∷ ((9 ∷ [], 1), 1)
-    ∷ ((width ∷ [], setLength - 1), 128)
+    ∷ ((width ∷ [], set_length - 1), 128)
     ∷ []
 
 -- every row is right

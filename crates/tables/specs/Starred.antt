@@ -1,6 +1,6 @@
 -- The starred grids of document 01, as one table under one statement: each row asks a public call, and has the reply that it promises.
 use Rattle.std.specs.Prelude.{List, [], ◌∷◌, ◌++◌, ℕ, zero, suc, ◌-◌, ◌*◌, ◌≤◌, eqb, ℤ, pos, negsuc, length, drop, replicate}
-use Rattle.busset.specs.Held.{SetWord, empty_word, hold, holdIf}
+use Rattle.busset.specs.Held.{SetWord, empty_word, hold, hold_if}
 use Rattle.step.specs.declared.Reason.TheVariants.{ZeroInjection}
 use Rattle.step.specs.declared.Step.{Step}
 use Rattle.grid.specs.declared.Case.{Case}
@@ -39,7 +39,7 @@ buses_to (suc n) = suc n ∷ buses_to n
 -- the row of bus b: the other end of each line that has b at one end
 abbrev pub row_of : ℕ → List (ℕ × ℕ) → SetWord
 row_of b [] = empty_word
-row_of b (l ∷ ls) = holdIf (eqb l.0 b) (holdIf (eqb l.1 b) (row_of b ls) l.0) l.1
+row_of b (l ∷ ls) = hold_if (eqb l.0 b) (hold_if (eqb l.1 b) (row_of b ls) l.0) l.1
 
 -- the neighbours of k buses, from bus b on
 abbrev pub rows_from : ℕ → ℕ → List (ℕ × ℕ) → List SetWord

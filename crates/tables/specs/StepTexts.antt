@@ -7,7 +7,7 @@ use Rattle.basics.specs.Lists.{Each}
 use Rattle.text_field.specs.Split.{bytes, split, line_feed}
 use Rattle.step.specs.declared.Step.{Step}
 use Rattle.refusals.specs.declared.Refusal.TheVariants.{TextTooLong, WrongForm, OutOfRange, NoRoom, TooManySteps}
-use Rattle.step_text.specs.Steps.{stepInRange, step_lines, readSteps, steps_of}
+use Rattle.step_text.specs.Steps.{step_in_range, step_lines, read_steps, steps_of}
 use Rattle.step_text.specs.Taking.{StepAt, with_room, leaves, Takes}
 use Rattle.step_text.specs.declared.taking.NextStep.TheVariants.{At, Nothing}
 use Rattle.step_text.specs.declared.StepsRead.{StepsRead}
@@ -33,7 +33,7 @@ step_range_table =
 
 -- every row is right
 abbrev pub StepRangesRight : Type 0
-StepRangesRight = Right stepInRange step_range_table
+StepRangesRight = Right step_in_range step_range_table
 
 -- ---- whole texts
 
@@ -66,7 +66,7 @@ read_steps_table =
 
 -- every row is right
 abbrev pub ReadStepsRight : Type 0
-ReadStepsRight = Reads readSteps read_steps_table
+ReadStepsRight = Reads read_steps read_steps_table
 
 -- texts after the most steps: `end` is fine; a step is 12, after 2 and 3
 abbrev pub beyond_table : List (String × StepsRead)
@@ -89,7 +89,7 @@ step_limit_table = (most_step_bytes, Refused (WrongForm 1)) ∷ (suc most_step_b
 
 -- every row is right
 abbrev pub StepLimitsRight : Type 0
-StepLimitsRight = Right (λ k. readSteps (replicate k line_feed)) step_limit_table
+StepLimitsRight = Right (λ k. read_steps (replicate k line_feed)) step_limit_table
 
 -- ---- the steps
 

@@ -1,7 +1,7 @@
 -- Steps: when a reason holds, when a step is allowed, and lists of steps.
 use Rattle.std.specs.Prelude.{List, [], ◌∷◌, ℕ, ◌+◌, ◌-◌, replicate}
 use Rattle.grid.specs.Limits.{most_buses}
-use Rattle.step.specs.Records.{no_step, written_into, putFirst}
+use Rattle.step.specs.Records.{no_step, written_into, put_first}
 use Rattle.step.specs.declared.Reason.{Reason}
 use Rattle.step.specs.declared.Reason.TheVariants.{OwnUnit, NeighbourOf, ZeroInjection}
 use Rattle.step.specs.declared.Step.{Step}
@@ -153,7 +153,7 @@ put_first_table = (0, own 7 ∷ own 8 ∷ own 9 ∷ []) ∷ (2, own 1 ∷ own 2 
 
 -- every row is right
 abbrev pub PutFirstRight : Type 0
-PutFirstRight = Right (λ k. putFirst k (λ i. own (i + 1)) (own 7 ∷ own 8 ∷ own 9 ∷ [])) put_first_table
+PutFirstRight = Right (λ k. put_first k (λ i. own (i + 1)) (own 7 ∷ own 8 ∷ own 9 ∷ [])) put_first_table
 
 -- a place from 0 in the derivation's list by value, and the step there
 abbrev pub nth_of_table : List (ℕ × Step)

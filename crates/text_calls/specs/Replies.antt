@@ -4,11 +4,11 @@ use Rattle.grid.specs.declared.Case.{Case}
 use Rattle.grid.specs.Cases.{Valid}
 use Rattle.refusals.specs.Refusals.{Check, check_that, Passed, Failed}
 use Rattle.refusals.specs.Calls.{Call, Refuses}
-use Rattle.case_read.specs.Reading.{refused, readCase}
+use Rattle.case_read.specs.Reading.{refused, read_case}
 use Rattle.case_read.specs.Checks.{case_checks}
 use Rattle.case_line.specs.CaseText.{case_text}
 use Rattle.case_read.specs.declared.CaseRead.{CaseRead}
-use Rattle.step_text.specs.Steps.{readSteps}
+use Rattle.step_text.specs.Steps.{read_steps}
 use Rattle.step_text.specs.Checks.{step_text_checks}
 use Rattle.step_text.specs.declared.StepsRead.{StepsRead}
 use Rattle.step_text.specs.declared.StepsRead.TheVariants as steps
@@ -19,7 +19,7 @@ use Rattle.refusals.specs.declared.Written.TheVariants as written
 
 -- the case that the text says, or its refusal
 abbrev pub CaseReadReply : List ℕ → CaseRead → Type 0
-CaseReadReply text r = r ≡ readCase text
+CaseReadReply text r = r ≡ read_case text
 
 -- `read_case`
 abbrev pub read_case_call : Call
@@ -59,7 +59,7 @@ write_case_call = record {
 
 -- how many steps the text has, or its refusal
 abbrev pub StepsCheckedReply : List ℕ → StepsRead → Type 0
-StepsCheckedReply text r = r ≡ readSteps text
+StepsCheckedReply text r = r ≡ read_steps text
 
 -- `check_steps`
 abbrev pub check_steps_call : Call

@@ -8,14 +8,14 @@ use native.Mathlib.Omega.{arith}
 use borrow.Author.Tests.{le-leb, lt-ltb, le-ltb, ltb-true, ltb-false}
 use lib.Dec.{ltb}
 use lib.ListN.{length, length-append}
-use Rattle.text_field.specs.Number.{most_read, isDigit, takes_digit, number_from, numeral_of, most_digits, most_printed, digits, number_text}
+use Rattle.text_field.specs.Number.{most_read, is_digit, takes_digit, number_from, numeral_of, most_digits, most_printed, digits, number_text}
 use Rattle.text_field.specs.declared.Numeral.{Numeral}
 use Rattle.text_field.specs.declared.Numeral.TheVariants.{Is, Wrong}
 use Rattle.text_field.proofs.Numbers.{Digit, DigitTaken, digit-of, taken_of}
 use Rattle.text_field.proofs.Cutting.{FreeOf, free_append}
 
-digit-is : {d : ℕ} → Digit d → isDigit d ≡ true
-unfolding isDigit
+digit-is : {d : ℕ} → Digit d → is_digit d ≡ true
+unfolding is_digit
 digit-is {d} h = rw (le-leb 48 d h.low, le-leb d 57 h.high)
 
 takes-is : {v d : ℕ} → DigitTaken v d → takes_digit v d ≡ true
@@ -76,9 +76,9 @@ from_cons : (v d n : ℕ) (s : List ℕ) → number_from v (d ∷ s) ≡ Is n �
 unfolding number_from
 from_cons v d n s e = tested (takes_digit v d) _ n e
 
-of_cons : (d n : ℕ) (s : List ℕ) → numeral_of (d ∷ s) ≡ Is n → (isDigit d ≡ true) × (number_from (d - 48) s ≡ Is n)
+of_cons : (d n : ℕ) (s : List ℕ) → numeral_of (d ∷ s) ≡ Is n → (is_digit d ≡ true) × (number_from (d - 48) s ≡ Is n)
 unfolding numeral_of
-of_cons d n s e = tested (isDigit d) _ n e
+of_cons d n s e = tested (is_digit d) _ n e
 
 of_nil : (n : ℕ) → numeral_of [] ≡ Is n → ⊥
 unfolding numeral_of

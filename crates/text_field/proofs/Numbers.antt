@@ -8,7 +8,7 @@ use native.Mathlib.Omega.{arith}
 use borrow.Author.Tests.{leb-true, ltb-true}
 use lib.ListN.{length, get_or, drop, drop_of_length-le}
 use lib.Seq.{drop-cons}
-use Rattle.text_field.specs.Number.{most_read, isDigit, takes_digit, number_from, numeral_of}
+use Rattle.text_field.specs.Number.{most_read, is_digit, takes_digit, number_from, numeral_of}
 use Rattle.text_field.proofs.Tested.{both}
 use Rattle.text_field.specs.declared.Numeral.TheVariants.{Is, Wrong}
 
@@ -21,8 +21,8 @@ pub record DigitTaken (v d : ℕ) : Type 0 where
   pub some : 0 < v
   pub small : v < most_read / 10
 
-pub digit-of : (d : ℕ) → isDigit d ≡ true → Digit d
-unfolding isDigit
+pub digit-of : (d : ℕ) → is_digit d ≡ true → Digit d
+unfolding is_digit
 digit-of d e =
     let h = both _ _ e in
     record { low = leb-true _ _ h.0; high = leb-true _ _ h.1 }
@@ -44,12 +44,12 @@ unfolding numeral_of
 no-digits [] h = refl
 no-digits (d ∷ s) h = absurd (omega arith)
 
-pub first-wrong : (s : List ℕ) → isDigit (get_or s 0 0) ≡ false → Wrong ≡ numeral_of s
+pub first-wrong : (s : List ℕ) → is_digit (get_or s 0 0) ≡ false → Wrong ≡ numeral_of s
 unfolding numeral_of
 first-wrong [] e = refl
 first-wrong (d ∷ s) e = rw e
 
-pub first-digit : (s : List ℕ) (v : ℕ) → 0 < length s → isDigit (get_or s 0 0) ≡ true → v ≡ get_or s 0 0 → Sofar s (v - 48) 1
+pub first-digit : (s : List ℕ) (v : ℕ) → 0 < length s → is_digit (get_or s 0 0) ≡ true → v ≡ get_or s 0 0 → Sofar s (v - 48) 1
 unfolding numeral_of
 first-digit [] v h e f = absurd (omega arith)
 first-digit (d ∷ s) v h e f = record { is = rw (e, f); small = omega (arith, digit-of d e) }

@@ -10,12 +10,12 @@ abbrev pub most_read : ℕ
 most_read = 10 ^ 4
 
 -- the byte is a digit
-unfoldable pub isDigit : ℕ → Bool
-isDigit d = leb 48 d && leb d 57
+unfoldable pub is_digit : ℕ → Bool
+is_digit d = leb 48 d && leb d 57
 
 -- a number so far takes one more digit when it is neither 0 nor of 4 digits
 unfoldable pub takes_digit : ℕ → ℕ → Bool
-takes_digit v d = isDigit d && (ltb 0 v && ltb v (most_read / 10))
+takes_digit v d = is_digit d && (ltb 0 v && ltb v (most_read / 10))
 
 -- the number v so far, and the digits after it
 unfoldable pub number_from : ℕ → List ℕ → Numeral
@@ -25,7 +25,7 @@ number_from v (d ∷ s) = cond (takes_digit v d) (number_from (v * 10 + (d - 48)
 -- the number that a field is: a digit, and those after it
 unfoldable pub numeral_of : List ℕ → Numeral
 numeral_of [] = Wrong
-numeral_of (d ∷ s) = cond (isDigit d) (number_from (d - 48) s) Wrong
+numeral_of (d ∷ s) = cond (is_digit d) (number_from (d - 48) s) Wrong
 
 -- ---- written
 

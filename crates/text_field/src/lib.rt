@@ -1,7 +1,7 @@
 // The pieces of a text: lines separated by line feeds, fields separated by tabs, and the numbers that stand in fields.
 ghost use Rattle.std.specs.Prelude.{◌≡◌, ◌-◌, ◌<◌, ◌≤◌, length};
 ghost use Rattle.text_field.specs.Split.{PieceEnd, same};
-ghost use Rattle.text_field.specs.Number.{isDigit, takes_digit, numeral_of};
+ghost use Rattle.text_field.specs.Number.{is_digit, takes_digit, numeral_of};
 
 // A number that is read is below this: it has at most 4 digits.
 const MOST_READ: usize = 10000;
@@ -30,7 +30,7 @@ pub fn piece_end(s: &[u8], from: usize, c: u8) -> usize
 
 // Whether d is a digit.
 fn is_digit(d: u8) -> bool
-    ensures { result ≡ isDigit d }
+    ensures { result ≡ is_digit d }
 {
     48 <= d && d <= 57
 }

@@ -1,4 +1,4 @@
--- The two tests are those that `inOrder` joins.
+-- The two tests are those that `in_order` joins.
 use mathlib.Core.Path.{refl}
 use borrow.Author.Rules.{rules}
 use Rattle.case_judge.proofs.is_line_order.Statement.{statement}

@@ -1,13 +1,13 @@
 -- Two cuts at a tab give the number and the class; the fields after the second end are the site's. The other exits have too few.
-use Rattle.case_line.specs.Record.{busFields}
+use Rattle.case_line.specs.Record.{bus_fields}
 use Rattle.case_line.proofs.Fields.{by_none, by_one, bus-is}
 use borrow.Author.Rules.{rules}
 use Rattle.case_line.proofs.bus_fields.Statement.{statement}
 use Rattle.case_line.proofs.bus_fields.Tie as tie
 
 returns : tie.Need-returns
-unfolding busFields
-returns c = search (by_none busFields)
+unfolding bus_fields
+returns c = search (by_none bus_fields)
 
 add_a : tie.Need-overflow-add-a
 add_a c = search rules
@@ -16,8 +16,8 @@ piece-end-requires : tie.Need-piece-end-requires
 piece-end-requires c κs = search rules
 
 returns-2 : tie.Need-returns-2
-unfolding busFields
-returns-2 c = search (by_one busFields)
+unfolding bus_fields
+returns-2 c = search (by_one bus_fields)
 
 add-b : tie.Need-overflow-add-b
 add-b c = search rules

@@ -1,13 +1,13 @@
 -- Two cuts at a tab give the two buses. The line ends there, or the fields after the second end are the circuits' one.
-use Rattle.case_line.specs.Record.{lineFields}
+use Rattle.case_line.specs.Record.{line_fields}
 use Rattle.case_line.proofs.Fields.{by_none, by_one, line-two, line_three}
 use borrow.Author.Rules.{rules}
 use Rattle.case_line.proofs.line_fields.Statement.{statement}
 use Rattle.case_line.proofs.line_fields.Tie as tie
 
 returns : tie.Need-returns
-unfolding lineFields
-returns c = search (by_none lineFields)
+unfolding line_fields
+returns c = search (by_none line_fields)
 
 add_a : tie.Need-overflow-add-a
 add_a c = search rules
@@ -16,8 +16,8 @@ piece-end-requires : tie.Need-piece-end-requires
 piece-end-requires c κs = search rules
 
 returns-2 : tie.Need-returns-2
-unfolding lineFields
-returns-2 c = search (by_one lineFields)
+unfolding line_fields
+returns-2 c = search (by_one line_fields)
 
 add-b : tie.Need-overflow-add-b
 add-b c = search rules

@@ -1,5 +1,5 @@
 -- The word is the piece before the first tab, and the fields are the rest of the same split. Then each arm is a call's contract.
-use Rattle.case_line.specs.Record.{record_word_of, grid_record_of, pmu_record_of, by_word, recordOf}
+use Rattle.case_line.specs.Record.{record_word_of, grid_record_of, pmu_record_of, by_word, record_of}
 use Rattle.case_line.proofs.Answers.{in-arm, via}
 use Rattle.case_line.proofs.Fields.{by_first}
 use borrow.Author.Rules.{rules}
@@ -61,27 +61,27 @@ enum-told-6 : tie.Need-enum-told-6
 enum-told-6 c = search rules
 
 returns : tie.Need-returns
-unfolding recordOf
+unfolding record_of
 returns c = search (by_first (λ w. by_word (record_word_of w)), in-arm by_word, via grid_record_of)
 
 returns-2 : tie.Need-returns-2
-unfolding recordOf
+unfolding record_of
 returns-2 c = search (by_first (λ w. by_word (record_word_of w)), in-arm by_word)
 
 returns-3 : tie.Need-returns-3
-unfolding recordOf
+unfolding record_of
 returns-3 c = search (by_first (λ w. by_word (record_word_of w)), in-arm by_word)
 
 returns-4 : tie.Need-returns-4
-unfolding recordOf
+unfolding record_of
 returns-4 c = search (by_first (λ w. by_word (record_word_of w)), in-arm by_word, via pmu_record_of)
 
 returns-5 : tie.Need-returns-5
-unfolding recordOf
+unfolding record_of
 returns-5 c = search (by_first (λ w. by_word (record_word_of w)), in-arm by_word)
 
 returns-6 : tie.Need-returns-6
-unfolding recordOf
+unfolding record_of
 returns-6 c = search (by_first (λ w. by_word (record_word_of w)), in-arm by_word)
 
 pub record-of-spec : {M : Type 1} → statement M

@@ -2,17 +2,17 @@
 use borrow.Author.Rules.{rules}
 use Prim.Native.Nat.{◌-◌, ◌≤◌}
 use native.Mathlib.Omega.{arith}
-use Rattle.busset.specs.Bytes.{set_bytes, setLength}
+use Rattle.busset.specs.Bytes.{set_bytes, set_length}
 use Rattle.step.proofs.Writing.{WrittenSoFar, written_none}
 use Rattle.estimator_reply.proofs.Filling.{filled_more, filled-all}
 use Rattle.estimator_reply.proofs.fill.Statement.{statement}
 use Rattle.estimator_reply.proofs.fill.Tie as tie
 
 abbrev invariant-loop : tie.invariant-loop
-invariant-loop s set₀ i₀ set i = (i ≤ setLength) × WrittenSoFar (set_bytes s) set₀ set i
+invariant-loop s set₀ i₀ set i = (i ≤ set_length) × WrittenSoFar (set_bytes s) set₀ set i
 
 abbrev decreases-loop : tie.decreases-loop
-decreases-loop s set₀ i₀ set i = setLength - i
+decreases-loop s set₀ i₀ set i = set_length - i
 
 loop-holds : tie.Need-loop-init invariant-loop decreases-loop
 loop-holds c = (search rules, written_none _ _)

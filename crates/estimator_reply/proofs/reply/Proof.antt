@@ -4,7 +4,7 @@ use mathlib.Core.Path.{sym, ap, ◌∙◌}
 use mathlib.Core.List.{◌++◌}
 use Prim.Native.Nat.{ℕ}
 use lib.ListN.{drop}
-use Rattle.busset.specs.Bytes.{set_bytes, setLength}
+use Rattle.busset.specs.Bytes.{set_bytes, set_length}
 use Rattle.estimator_reply.proofs.Replying.{room_for, bytes-filled, bytes-kept}
 use Rattle.estimator_reply.proofs.reply.Statement.{statement}
 use Rattle.estimator_reply.proofs.reply.Tie as tie
@@ -34,7 +34,7 @@ returns c =
     record {
       result = at-result.result.ensures;
       bytes =
-          at_fill_lem.fill.ensures ∙ ap (λ (s : ℕ). set_bytes s ++ drop setLength at-args.args.set.now) at-set-of.set-of.ensures
+          at_fill_lem.fill.ensures ∙ ap (λ (s : ℕ). set_bytes s ++ drop set_length at-args.args.set.now) at-set-of.set-of.ensures
           ∙ bytes-filled at-args.args.answer at-args.args.set.now (sym at-result.result.ensures ∙ at-if1.if1.true);
     }
 

@@ -1,15 +1,15 @@
 -- One end, then the other.
 use mathlib.Core.Path.{◌≡◌}
 use Prim.Native.Nat.{ℕ}
-use Rattle.grid.specs.Rows.{Rows, with_end, withLine}
+use Rattle.grid.specs.Rows.{Rows, with_end, with_line}
 use borrow.Author.Rules.{rules}
 use Rattle.grid.proofs.add_line.Statement.{statement}
 use Rattle.grid.proofs.add_line.Tie as tie
 use Rattle.grid.proofs.add_end.Reads as add-end-reads
 
 -- the rows after both
-ends-put : (rows : Rows) (a b k : ℕ) {half new : Rows} → half ≡ with_end rows a b k → new ≡ with_end half b a k → new ≡ withLine rows a b k
-unfolding withLine
+ends-put : (rows : Rows) (a b k : ℕ) {half new : Rows} → half ≡ with_end rows a b k → new ≡ with_end half b a k → new ≡ with_line rows a b k
+unfolding with_line
 ends-put rows a b k e f = cc (e, f)
 
 add-end-requires : tie.Need-add-end-requires

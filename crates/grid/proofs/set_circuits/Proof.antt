@@ -2,7 +2,7 @@
 use mathlib.Core.Path.{◌≡◌}
 use mathlib.Core.Bool.{Bool}
 use Prim.Native.Nat.{ℕ, ◌/◌}
-use Rattle.grid.specs.Rows.{Rows, with_bit, isOdd, with_circuits}
+use Rattle.grid.specs.Rows.{Rows, with_bit, is_odd, with_circuits}
 use borrow.Author.Rules.{rules}
 use Rattle.grid.proofs.set_circuits.Statement.{statement}
 use Rattle.grid.proofs.set_circuits.Tie as tie
@@ -10,9 +10,9 @@ use Rattle.grid.proofs.is_odd.Reads as is-odd-reads
 use Rattle.grid.proofs.put_bit.Reads as put-bit-reads
 
 -- the rows after each digit
-digits : (rows : Rows) (a b k : ℕ) {one two three four : Rows} {s t u v : Bool} → one ≡ with_bit rows a 1 b s → s ≡ isOdd k
-    → two ≡ with_bit one a 2 b t → t ≡ isOdd (k / 2) → three ≡ with_bit two a 3 b u → u ≡ isOdd (k / 2 / 2)
-    → four ≡ with_bit three a 4 b v → v ≡ isOdd (k / 2 / 2 / 2) → four ≡ with_circuits rows a b k
+digits : (rows : Rows) (a b k : ℕ) {one two three four : Rows} {s t u v : Bool} → one ≡ with_bit rows a 1 b s → s ≡ is_odd k
+    → two ≡ with_bit one a 2 b t → t ≡ is_odd (k / 2) → three ≡ with_bit two a 3 b u → u ≡ is_odd (k / 2 / 2)
+    → four ≡ with_bit three a 4 b v → v ≡ is_odd (k / 2 / 2 / 2) → four ≡ with_circuits rows a b k
 unfolding with_circuits
 digits rows a b k e s f t g u h v = cc (e, s, f, t, g, u, h, v)
 

@@ -54,7 +54,7 @@ use Rattle.step.proofs.StepRow.{step_made, step_typed}
 use Rattle.step.proofs.Calling.{calls_lent}
 use Rattle.step.proofs.Counting.{next_fits, next_le, nearer, Nearer, nearer_wf, below, above}
 use Rattle.step.proofs.Walking.{let_go}
-use Rattle.grid.specs.Rows.{rowsLength}
+use Rattle.grid.specs.Rows.{rows_length}
 use Rattle.grid.specs.Cases.{case_of}
 use Rattle.grid.specs.declared.Case.{Case}
 use Rattle.list_follow.specs.Following.{StandsAfter, Follows}
@@ -105,7 +105,7 @@ module _ {M : Type 1} {𝓤 : Ura M} (𝓛 : Logic 𝓤) (mem : Memory → SProp
     (q₁ q : Share) (buses : ℕ) (gbuses : buses < 2 ^ 64) (b₁ o₁ : ℕ) (γ₁ : GName) (rows : List ℕ) (zero : ℕ) (gzero : zero < 2 ^ 64)
     (site : ℕ) (gsite : site < 2 ^ 64) (units : ℕ) (gunits : units < 2 ^ 64) (k : Task)
     (gk : Is K.the_row k (EL.vals K.the_type K'.the_laws k)) (b o : ℕ) (γ : GName)
-    (ys : List Step) (gn : Room T.the_row (length ys)) (sized : length rows ≡ rowsLength) where
+    (ys : List Step) (gn : Room T.the_row (length ys)) (sized : length rows ≡ rows_length) where
   open 𝓛 use {H}
 
   abbrev n : ℕ
@@ -407,7 +407,7 @@ module _ {M : Type 1} {𝓤 : Ura M} (𝓛 : Logic 𝓤) (mem : Memory → SProp
             ),
           ),
         ) tt
-        (fact_i 𝓤 (length rows ≡ rowsLength) (emp 𝓤) sized)
+        (fact_i 𝓤 (length rows ≡ rows_length) (emp 𝓤) sized)
         (λ s ws. StandsAfter cs k n [] s) (λ s ws. id⊢ 𝓤 _)
         (and_then ! (load ! (from ! (stop !)) (look ! 30 refl)) (and_then ! (load ! (from ! (stop !)) (look ! 28 refl))
         (and_then ! (load ! (from ! (stop !)) (look ! 26 refl)) (and_then ! (load ! (from ! (stop !)) (look ! 24 refl))
@@ -452,7 +452,7 @@ module _ {M : Type 1} {𝓤 : Ura M} (𝓛 : Logic 𝓤) (mem : Memory → SProp
           ),
         ),
       ))
-      (λ κs a. length a.1.0.now ≡ rowsLength) (λ κs a g. id⊢ 𝓤 _)
+      (λ κs a. length a.1.0.now ≡ rows_length) (λ κs a g. id⊢ 𝓤 _)
       (λ κs qs bounds a g sized are. let x = a.1.1.1.1.1.1.0 in
       walk 𝓛 mem run κs.0 κs.1.0 qs.0 qs.1.0 a.0 are.0.1 a.1.0.ptr.0 a.1.0.ptr.1 0
       a.1.0.now a.1.1.0 are.1.1.0.1 a.1.1.1.0 are.1.1.1.0.1 a.1.1.1.1.0 are.1.1.1.1.0.1

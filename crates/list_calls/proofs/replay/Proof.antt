@@ -56,7 +56,7 @@ use Rattle.list_follow.proofs.ended.Met as ended-thm
 use Rattle.list_calls.proofs.Rows.{RowArray, case_typed, following_made, following_typed}
 use Rattle.list_calls.proofs.Rows.{task_is, task_typed, replayed_made, replayed_typed}
 use Rattle.list_calls.proofs.Lending.{ref, lends, takes_back}
-use Rattle.list_calls.proofs.Followed.{rows_val, rows_at, rowsIn, rows_in, case_facts, rows_made, rows_tell, rows_part}
+use Rattle.list_calls.proofs.Followed.{rows_val, rows_at, rows_in, rows_in_lem, case_facts, rows_made, rows_tell, rows_part}
 use Rattle.list_calls.proofs.Followed.{Follow, calls_follow}
 use Rattle.list_calls.proofs.follow.Symbol as follow-def
 use Rattle.list_calls.proofs.follow.Symbol.{name as #list_calls·follow}
@@ -148,7 +148,7 @@ module _ {M : Type 1} {𝓤 : Ura M} (𝓛 : Logic 𝓤) (mem : Memory → SProp
         (store ! 10 refl (tt, record { fits = facts.1.1.0.1 })) $
         assigns ! (of_opd ! (load ! (from ! (fld ! refl (stop !))) (look_in ! 0 (sub ! 4 refl (whole !))))) (from ! (stop !))
         (store ! 8 refl (tt, record { fits = facts.1.1.1.1.0.1 })) $
-        lends ! tt RowArray refl rows_val (rows_made 𝓛) (rowsIn cs) facts.1.0 (rows_part ! cs l₃) (λ α δ.
+        lends ! tt RowArray refl rows_val (rows_made 𝓛) (rows_in cs) facts.1.0 (rows_part ! cs l₃) (λ α δ.
         -- [the rows' token; what they own; what is kept; the steps' token; the locals]
         nothing ! $ move ! (1 ∷ 0 ∷ []) $ join ! $ use1 𝓛 (raw (alive 𝓛 ended.signature (α ∷ [], tt) (full_share, tt))) (id⊢ 𝓤 _) $
         nothing ! $ owned ! S.the_row (Is S.the_row) (following_made 𝓛) st _ gst $ fjoin ! $
@@ -159,7 +159,7 @@ module _ {M : Type 1} {𝓤 : Ura M} (𝓛 : Logic 𝓤) (mem : Memory → SProp
           (α ∷ [], tt),
           (full_share, tt),
           tt,
-          (ref δ (rowsIn cs) l₃ rows_at, (cs.zero, (cs.units, (st, tt)))),
+          (ref δ (rows_in cs) l₃ rows_at, (cs.zero, (cs.units, (st, tt)))),
           (
             vptr l₃ rows_at ∷ [],
             (
@@ -169,12 +169,12 @@ module _ {M : Type 1} {𝓤 : Ura M} (𝓛 : Logic 𝓤) (mem : Memory → SProp
             ),
           ),
         ) tt (id⊢ 𝓤 _)
-        (λ r ws. (m sites : ℕ) → AnswersReplay (case_of m (rowsIn cs) cs.zero sites cs.units) st r) (λ r ws. id⊢ 𝓤 _)
+        (λ r ws. (m sites : ℕ) → AnswersReplay (case_of m (rows_in cs) cs.zero sites cs.units) st r) (λ r ws. id⊢ 𝓤 _)
         (and_then ! (load ! (from ! (stop !)) (look ! 3 refl)) (and_then ! (load ! (from ! (stop !)) (look ! 11 refl))
         (and_then ! (load ! (from ! (stop !)) (look ! 9 refl)) (and_then ! (load ! (from ! (stop !)) (look ! 17 refl)) (no_more !)))))
         (λ v r ws gr e₂.
         move ! (1 ∷ []) $ drop ! $ use1 𝓛 (‵ (flft (α ∷ []) full_share) ⊛ ‵ ftrue) (id⊢ 𝓤 _) $ split ! $ move ! (1 ∷ []) $ drop ! $
-        takes_back ! tt RowArray refl rows_val rows_tell (rowsIn cs) (rows_part ! cs l₃) $
+        takes_back ! tt RowArray refl rows_val rows_tell (rows_in cs) (rows_part ! cs l₃) $
         land ! (from ! (stop !)) (init ! 23 refl (replayed_typed 𝓛 r _ gr)) $
         -- [the case's local; the token; _11; …; _4; …; what _3 dies of; _2; …; _0; …]
         returns ! (look ! 23 refl) $ move ! (23 ∷ 24 ∷ 21 ∷ 22 ∷ 19 ∷ 20 ∷ 0 ∷ 18 ∷ 16 ∷ 17 ∷ 14 ∷ 15 ∷ 12 ∷ 13 ∷ 10 ∷ 11 ∷ 8 ∷ 9 ∷ 6
@@ -182,7 +182,7 @@ module _ {M : Type 1} {𝓤 : Ura M} (𝓛 : Logic 𝓤) (mem : Memory → SProp
         let_go ! $ let_go ! $ let_go ! $ let_go ! $ let_go ! $ let_go ! $ let_go ! $ let_go ! $ let_go ! $ let_go ! $ let_go ! $ let_go ! $
         free0 ! $
         by ! (exits r v gr (subst (λ (rows : List ℕ). AnswersReplay (case_of cs.n rows cs.zero cs.site cs.units) st r)
-        (rows_in cs) (e₂ cs.n cs.site) ys e₁)))))))))))))))))
+        (rows_in_lem cs) (e₂ cs.n cs.site) ys e₁)))))))))))))))))
 
 module _ {M : Type 1} {𝓤 : Ura M} (𝓛 : Logic 𝓤) (mem : Memory → SProp 𝓤) (run : Routine → Fun 𝓤)
     (𝓣 : Tables 𝓤 𝓛.H) (follows : Triple 𝓤 (𝓣.C #list_calls·follow) (Follow 𝓛 mem run))

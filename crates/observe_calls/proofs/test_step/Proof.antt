@@ -5,7 +5,7 @@ use mathlib.Core.Logic.{inl}
 use native.Mathlib.Omega.{arith}
 use borrow.Author.Tests.{not-true, not-false}
 use Rattle.basics.proofs.Tests.{refutes}
-use Rattle.grid.specs.Cases.{gridOf, Valid}
+use Rattle.grid.specs.Cases.{grid_of, Valid}
 use Rattle.refusals.proofs.Orders.{itself}
 use Rattle.observe.specs.Testing.{step_checks_at, TestedBy}
 use Rattle.observe.proofs.Holding.{tested-after}
@@ -33,7 +33,7 @@ returns-2 c =
     let passed = c.before.before.before.before in
     let asked = passed.before.before.before.before.args in
     tested-after _ _ c.tested_at.result (valid passed)
-    (subst (λ (s : ℕ). TestedBy (step_checks_at (gridOf asked.t1) 1 s asked.x) c.tested_at.result) c.before.up_to_lem.ensures
+    (subst (λ (s : ℕ). TestedBy (step_checks_at (grid_of asked.t1) 1 s asked.x) c.tested_at.result) c.before.up_to_lem.ensures
     (c.tested_at.ensures _))
 
 pub test-step-spec : {M : Type 1} → statement M

@@ -8,7 +8,7 @@ use Rattle.basics.proofs.Tests.{refutes}
 use Rattle.busset.proofs.Holding.{word_own}
 use Rattle.rules.proofs.Ordering.{fewest-some}
 use Rattle.grid.specs.Limits.{most_budget}
-use Rattle.grid.specs.Cases.{gridOf, Valid}
+use Rattle.grid.specs.Cases.{grid_of, Valid}
 use Rattle.refusals.proofs.Orders.{itself}
 use Rattle.place_fewest.specs.declared.Found.{Found}
 use Rattle.place_fewest.specs.Answers.{FewestIs}
@@ -22,10 +22,10 @@ valid c = c.before.is-valid.ensures.yes (not-false _ c.if1.false)
 -- what the search says, as an answer known by its variant
 answer : (c : tie.After-fewest) (r : Found) → c.fewest.result ≡ r
     → let s = c.before.before.before.before.before.before.before.before.before in
-    FewestIs (gridOf s.args.t1) s.args.budget r
+    FewestIs (grid_of s.args.t1) s.args.budget r
 answer c r e =
     let s = c.before.before.before.before.before.before.before.before.before in
-    subst (FewestIs (gridOf s.args.t1) s.args.budget) e c.fewest.ensures
+    subst (FewestIs (grid_of s.args.t1) s.args.budget) e c.fewest.ensures
 
 is-valid-requires : tie.Need-is-valid-requires
 is-valid-requires c κs = search rules

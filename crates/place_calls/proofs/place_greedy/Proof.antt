@@ -5,7 +5,7 @@ use native.Mathlib.Omega.{arith}
 use borrow.Author.Tests.{not-true, not-false}
 use lib.ListN.{take}
 use Rattle.basics.proofs.Tests.{refutes}
-use Rattle.grid.specs.Cases.{gridOf, Valid}
+use Rattle.grid.specs.Cases.{grid_of, Valid}
 use Rattle.refusals.proofs.Orders.{itself}
 use Rattle.place_greedy.specs.Choices.{AddedSites}
 use Rattle.place_greedy.proofs.Comparing.{listed_count, listed_room, listed_no_room}
@@ -19,7 +19,7 @@ valid c = c.before.is-valid.ensures.yes (not-false _ c.if1.false)
 -- what greedy adds
 listed : (c : tie.After-greedy)
     → let s = c.before.before.before.before.before.before.before.before.before in
-    AddedSites (gridOf s.args.t1) s.args.budget c.greedy.result.count c.greedy.result.sites
+    AddedSites (grid_of s.args.t1) s.args.budget c.greedy.result.count c.greedy.result.sites
 listed c = c.greedy.ensures _
 
 is-valid-requires : tie.Need-is-valid-requires

@@ -4,7 +4,7 @@ use Rattle.text_field.specs.Split.{same, bytes}
 use Rattle.text_field.specs.declared.Numeral.TheVariants.{Wrong}
 use Rattle.case_line.proofs.Answers.{stop, pass}
 use Rattle.case_line.proofs.Fields.{by_first}
-use Rattle.plan_input.specs.Asking.{planFields, budgetOf}
+use Rattle.plan_input.specs.Asking.{plan_fields, budget_of}
 use borrow.Author.Rules.{rules}
 use Rattle.plan_input.proofs.budget_of.Statement.{statement}
 use Rattle.plan_input.proofs.budget_of.Tie as tie
@@ -28,15 +28,15 @@ is-same-requires : tie.Need-is-same-requires
 is-same-requires c κs = search rules
 
 returns : tie.Need-returns
-unfolding budgetOf
-returns c = search (by_first (λ w fs. cond (same w (bytes "plan")) (planFields fs) Wrong), stop)
+unfolding budget_of
+returns c = search (by_first (λ w fs. cond (same w (bytes "plan")) (plan_fields fs) Wrong), stop)
 
 plan-fields-requires : tie.Need-plan-fields-requires
 plan-fields-requires c κs = search rules
 
 returns-2 : tie.Need-returns-2
-unfolding budgetOf
-returns-2 c = search (by_first (λ w fs. cond (same w (bytes "plan")) (planFields fs) Wrong), pass)
+unfolding budget_of
+returns-2 c = search (by_first (λ w fs. cond (same w (bytes "plan")) (plan_fields fs) Wrong), pass)
 
 pub budget-of-spec : {M : Type 1} → statement M
 budget-of-spec =

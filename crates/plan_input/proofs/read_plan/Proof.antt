@@ -1,4 +1,4 @@
--- The first line ends at its line feed, and the case text is read from the byte after it as line 2. Each exit is one of `readPlan`.
+-- The first line ends at its line feed, and the case text is read from the byte after it as line 2. Each exit is one of `read_plan`.
 use native.Mathlib.Omega.{arith}
 use mathlib.Core.Path.{◌∙◌}
 use Rattle.plan_input.proofs.Inputs.{too_long, no_feed, asked_by}

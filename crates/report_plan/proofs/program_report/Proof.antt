@@ -19,7 +19,7 @@ returns : tie.Need-returns
 returns c = search in_bytes
 
 returns-2 : tie.Need-returns-2
-returns-2 c = no_refusal _ _ c.enum_told.given.1 c.before.before.plan-report.ensures (λ t p. omega (arith, plan_fits _ t p))
+returns-2 c = no_refusal _ _ c.enum_told.given.1 c.before.before.plan_report.ensures (λ t p. omega (arith, plan_fits _ t p))
 
 pub program-report-spec : {M : Type 1} → statement M
 program-report-spec = tie.close (tie.spec plan-report-requires enum-known-r enum_told returns returns-2)

@@ -8,7 +8,7 @@ use borrow.Author.Tests.{not-true, not-false}
 use Rattle.basics.proofs.Tests.{refutes}
 use Rattle.grid.specs.Cases.{Valid}
 use Rattle.refusals.proofs.Orders.{itself}
-use Rattle.round_calls.proofs.Writing.{no_room, has_room, rounds_written}
+use Rattle.round_calls.proofs.Writing.{no_room, has_room_lem, rounds_written}
 use Rattle.round_calls.proofs.observed_rounds.Statement.{statement}
 use Rattle.round_calls.proofs.observed_rounds.Tie as tie
 
@@ -53,7 +53,7 @@ returns-3 c =
     let second = wrote.before.before in
     let counted = second.before.before in
     let listed = counted.before.before in
-    let fits = has_room _ listed.rounds.ensures counted.put-rounds.ensures (room listed) second.if2.false in
+    let fits = has_room_lem _ listed.rounds.ensures counted.put-rounds.ensures (room listed) second.if2.false in
     ((valid listed.before, (fits, tt)), rounds_written _ listed.rounds.ensures wrote.put-rounds2.ensures fits)
 
 pub observed-rounds-spec : {M : Type 1} → statement M

@@ -8,14 +8,14 @@ use Rattle.busset.specs.Sets.{empty, size, set_of}
 use Rattle.busset.proofs.Words.{empty-set}
 use Rattle.basics.proofs.Tests.{refutes}
 use Rattle.grid.specs.Limits.{most_buses}
-use Rattle.grid.specs.Cases.{gridOf}
+use Rattle.grid.specs.Cases.{grid_of}
 use Rattle.round_list.specs.Rounds.{RoundSet}
 use Rattle.round_list.proofs.Gathering.{RoundsSoFar, sofar-none, sofar_place, sofar_less, sofar_more, sofar-all}
 use Rattle.round_list.proofs.rounds.Statement.{statement}
 use Rattle.round_list.proofs.rounds.Tie as tie
 
 abbrev invariant-loop : tie.invariant-loop
-invariant-loop case nbr sets₀ count₀ s₀ sets count s = RoundsSoFar (gridOf case) (set_of s) sets count
+invariant-loop case nbr sets₀ count₀ s₀ sets count s = RoundsSoFar (grid_of case) (set_of s) sets count
 
 abbrev decreases-loop : tie.decreases-loop
 decreases-loop case nbr sets₀ count₀ s₀ sets count s = most_buses - size (set_of s)
@@ -23,7 +23,7 @@ decreases-loop case nbr sets₀ count₀ s₀ sets count s = most_buses - size (
 -- what the round from s on adds, of this case's grid
 added : (c : tie.After-round invariant-loop decreases-loop)
     → let at = c.before.before in
-    RoundSet (gridOf at.before.before.before.args.case) (set_of at.loop.s) (set_of c.round.result)
+    RoundSet (grid_of at.before.before.before.args.case) (set_of at.loop.s) (set_of c.round.result)
 added c = c.round.ensures _ c.before.before.before.before.before.requires.proper
 
 -- it is not the last: it adds a bus

@@ -1,4 +1,4 @@
--- The letter is compared as `ifLetter` compares it.
+-- The letter is compared as `if_letter` compares it.
 use Rattle.step.proofs.Reasons.{letter_hit, letter_miss}
 use borrow.Author.Rules.{rules}
 use Rattle.step.proofs.if_letter.Statement.{statement}

@@ -1,4 +1,4 @@
--- By whether a bus is named: the letters are asked as `reasonOf` asks them.
+-- By whether a bus is named: the letters are asked as `reason_of` asks them.
 use borrow.Author.Rules.{rules}
 use Rattle.step.proofs.reason_of.Statement.{statement}
 use Rattle.step.proofs.reason_of.Tie as tie

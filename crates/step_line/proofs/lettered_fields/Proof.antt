@@ -1,5 +1,5 @@
 -- A field follows exactly if the letter ends before the line does.
-use Rattle.step_line.specs.StepLine.{numbered_reason, letteredFields}
+use Rattle.step_line.specs.StepLine.{numbered_reason, lettered_fields}
 use mathlib.Core.Path.{◌∙◌}
 use Rattle.case_line.proofs.Answers.{via}
 use Rattle.case_line.proofs.Fields.{by_none}
@@ -12,8 +12,8 @@ reason-of-requires : tie.Need-reason-of-requires
 reason-of-requires c κs = search rules
 
 returns : tie.Need-returns
-unfolding letteredFields
-returns c = c.reason-of.ensures ∙ by_none (letteredFields _) _ _ c.before.if1.true
+unfolding lettered_fields
+returns c = c.reason-of.ensures ∙ by_none (lettered_fields _) _ _ c.before.if1.true
 
 one-number-requires : tie.Need-one-number-requires
 one-number-requires c κs = search rules

@@ -1,5 +1,5 @@
 -- The letter is what `piece_end` cuts off, if that is one byte, and what it names is the rest of the same split.
-use Rattle.step_line.specs.StepLine.{reasonFields}
+use Rattle.step_line.specs.StepLine.{reason_fields}
 use Rattle.case_line.proofs.Fields.{by_none}
 use Rattle.step_line.proofs.StepLines.{letter-is, letter-none}
 use borrow.Author.Rules.{rules}
@@ -7,8 +7,8 @@ use Rattle.step_line.proofs.reason_fields.Statement.{statement}
 use Rattle.step_line.proofs.reason_fields.Tie as tie
 
 returns : tie.Need-returns
-unfolding reasonFields
-returns c = search (by_none reasonFields)
+unfolding reason_fields
+returns c = search (by_none reason_fields)
 
 add_a : tie.Need-overflow-add-a
 add_a c = search rules

@@ -1,5 +1,5 @@
 -- The bus is what `piece_end` cuts off, and the reason's fields are the rest of the same split.
-use Rattle.step_line.specs.StepLine.{step_of, stepFields}
+use Rattle.step_line.specs.StepLine.{step_of, step_fields}
 use Rattle.case_line.proofs.Answers.{via₂}
 use Rattle.case_line.proofs.Fields.{by_none, by_next}
 use borrow.Author.Rules.{rules}
@@ -7,8 +7,8 @@ use Rattle.step_line.proofs.step_fields.Statement.{statement}
 use Rattle.step_line.proofs.step_fields.Tie as tie
 
 returns : tie.Need-returns
-unfolding stepFields
-returns c = search (by_none stepFields)
+unfolding step_fields
+returns c = search (by_none step_fields)
 
 add_a : tie.Need-overflow-add-a
 add_a c = search rules
@@ -35,8 +35,8 @@ step-of-requires : tie.Need-step-of-requires
 step-of-requires c κs = search rules
 
 returns-2 : tie.Need-returns-2
-unfolding stepFields
-returns-2 c = search (by_next stepFields, via₂ step_of)
+unfolding step_fields
+returns-2 c = search (by_next step_fields, via₂ step_of)
 
 pub step-fields-spec : {M : Type 1} → statement M
 step-fields-spec =

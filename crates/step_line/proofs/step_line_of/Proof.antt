@@ -1,5 +1,5 @@
 -- The word is the piece before the first tab, and the fields are the rest of the same split. Then each arm is a call's contract.
-use Rattle.step_line.specs.StepLine.{stepWordOf, by_step_word, stepLineOf}
+use Rattle.step_line.specs.StepLine.{step_word_of, by_step_word, step_line_of}
 use Rattle.case_line.proofs.Answers.{in-arm}
 use Rattle.case_line.proofs.Fields.{by_first}
 use borrow.Author.Rules.{rules}
@@ -37,16 +37,16 @@ enum-told-3 : tie.Need-enum-told-3
 enum-told-3 c = search rules
 
 returns : tie.Need-returns
-unfolding stepLineOf
-returns c = search (by_first (λ w. by_step_word (stepWordOf w)), in-arm by_step_word)
+unfolding step_line_of
+returns c = search (by_first (λ w. by_step_word (step_word_of w)), in-arm by_step_word)
 
 returns-2 : tie.Need-returns-2
-unfolding stepLineOf
-returns-2 c = search (by_first (λ w. by_step_word (stepWordOf w)), in-arm by_step_word)
+unfolding step_line_of
+returns-2 c = search (by_first (λ w. by_step_word (step_word_of w)), in-arm by_step_word)
 
 returns-3 : tie.Need-returns-3
-unfolding stepLineOf
-returns-3 c = search (by_first (λ w. by_step_word (stepWordOf w)), in-arm by_step_word)
+unfolding step_line_of
+returns-3 c = search (by_first (λ w. by_step_word (step_word_of w)), in-arm by_step_word)
 
 pub step-line-of-spec : {M : Type 1} → statement M
 step-line-of-spec =

@@ -1,6 +1,6 @@
--- Two comparisons in the order of `stepWordOf`: each exit knows that those before it failed.
+-- Two comparisons in the order of `step_word_of`: each exit knows that those before it failed.
 use Rattle.case_line.proofs.Answers.{hit, miss}
-use Rattle.step_line.specs.StepLine.{stepWordOf}
+use Rattle.step_line.specs.StepLine.{step_word_of}
 use borrow.Author.Rules.{rules}
 use Rattle.step_line.proofs.step_word_of.Statement.{statement}
 use Rattle.step_line.proofs.step_word_of.Tie as tie
@@ -12,7 +12,7 @@ is-same-requires : tie.Need-is-same-requires
 is-same-requires c κs = search rules
 
 returns : tie.Need-returns
-unfolding stepWordOf
+unfolding step_word_of
 returns c = search hit
 
 slice-aggregate-is-same-2 : tie.Need-slice-aggregate-is-same-2
@@ -22,11 +22,11 @@ is-same-requires-2 : tie.Need-is-same-requires-2
 is-same-requires-2 c κs = search rules
 
 returns-2 : tie.Need-returns-2
-unfolding stepWordOf
+unfolding step_word_of
 returns-2 c = search (hit, miss)
 
 returns-3 : tie.Need-returns-3
-unfolding stepWordOf
+unfolding step_word_of
 returns-3 c = search miss
 
 pub step-word-of-spec : {M : Type 1} → statement M

@@ -48,13 +48,13 @@ use denote.Triple.Spec.{Meets, triple_of}
 use denote.Triple.Table.{entered, cited}
 use denote.Triple.Walked.{says, Stays, stay_dropped, stay_slice, walk_of, Goes-dropped, Goes-slice, ends_at}
 use denote.Exit.{yes}
-use Rattle.step.specs.Records.{no_step, putFirst}
+use Rattle.step.specs.Records.{no_step, put_first}
 use Rattle.step.specs.declared.Step.{Step}
 use Rattle.step.proofs.Records.{put-long, put_next}
 use Rattle.step.proofs.Sizes.{record_bytes, offset_fits}
 use Rattle.step.specs.contracts.Step as T
 use Rattle.step.proofs.Step.TheLaws as T'
-use Rattle.step_text.specs.Steps.{readSteps, steps_from, steps_of}
+use Rattle.step_text.specs.Steps.{read_steps, steps_from, steps_of}
 use Rattle.step_text.specs.Taking.{with_room, StepsReadReply, count_read, Takes}
 use Rattle.step_text.specs.declared.StepsRead.{StepsRead}
 use Rattle.step_text.specs.declared.taking.Taken.{Taken}
@@ -192,7 +192,7 @@ module _ {M : Type 1} {𝓤 : Ura M} (𝓛 : Logic 𝓤) (mem : Memory → SProp
 
   -- the loop, once it is known that m records are written
   module _ (𝓣 : Tables 𝓤 H) (takes : Triple 𝓤 (𝓣.C #taking·take) (Take 𝓛 mem run)) (w : StepsRead) (u : Val)
-      (gw : Is O.the_row w (u ∷ [])) (told : w ≡ with_room n (readSteps text)) (m : ℕ) (gm : m < 2 ^ 64) (counted : m ≡ count_read w)
+      (gw : Is O.the_row w (u ∷ [])) (told : w ≡ with_room n (read_steps text)) (m : ℕ) (gm : m < 2 ^ 64) (counted : m ≡ count_read w)
       (l₀ l₁ l₂ l₃ l₄ l₅ l₆ l₇ l₈ l₉ l₁₀ l₁₁ : ℕ) where
     abbrev at_i : Turn text m → ℕ
     at_i t = t.i
@@ -211,7 +211,7 @@ module _ {M : Type 1} {𝓤 : Ura M} (𝓛 : Logic 𝓤) (mem : Memory → SProp
 
     -- what is written when a turn begins
     abbrev sofar : Turn text m → List Step
-    sofar t = putFirst t.i (nth_step xs) ys
+    sofar t = put_first t.i (nth_step xs) ys
 
     -- [the row; text's token; what text owns; the open borrow; obs; auth; true; out's fact; _11; …; _10; …; _9; …; _8; …; _7; …; _6; …;
     -- _5; …; _4; …; _3; …; _2; …; _1; …; _0; …]
@@ -283,7 +283,7 @@ module _ {M : Type 1} {𝓤 : Ura M} (𝓛 : Logic 𝓤) (mem : Memory → SProp
         l = below t.i m e
 
         ln : t.i < n
-        ln = inside t.i m n l (subst (λ (k : ℕ). k ≤ n) (sym counted) (count_fits n w (readSteps text) told))
+        ln = inside t.i m n l (subst (λ (k : ℕ). k ≤ n) (sym counted) (count_fits n w (read_steps text) told))
 
         lw : t.i < length (sofar t)
         lw = subst (λ (k : ℕ). t.i < k) (sym (put-long t.i (nth_step xs) ys)) ln
@@ -300,7 +300,7 @@ module _ {M : Type 1} {𝓤 : Ura M} (𝓛 : Logic 𝓤) (mem : Memory → SProp
         let_go ! $ let_go ! $ let_go ! $ let_go ! $ let_go ! $ let_go ! $ let_go ! $ free1 ! $ let_go ! $ let_go ! $
         free1 ! $ free1 ! $ free0 ! $
         keep ! (0 ∷ 1 ∷ 2 ∷ 3 ∷ []) $ by ! (exits (sofar t) w u gw (put-long t.i (nth_step xs) ys)
-        (subst (λ (k : ℕ). StepsReadReply text ys (putFirst k (nth_step xs) ys) w)
+        (subst (λ (k : ℕ). StepsReadReply text ys (put_first k (nth_step xs) ys) w)
         (sym (le_antisymm t.le (above t.i m e) ∙ counted)) (read_law text ys w told)))
 
     abbrev start : Turn text m
@@ -331,7 +331,7 @@ module _ {M : Type 1} {𝓤 : Ura M} (𝓛 : Logic 𝓤) (mem : Memory → SProp
         -- [text's token; what is passed; what text owns; what out owns; out's token; the locals]
         calls_lent ! (fm_of 𝓤 H 𝓛.laws 𝓣) check-room.ended (check-room.clauses 𝓛 mem run) checks
         ((κ, tt), (q, tt), tt, (s, (n, tt)), (smach ∷ [], (vint w64 n ∷ [], tt))) tt (id⊢ 𝓤 _)
-        (λ r ws. r ≡ with_room n (readSteps text)) (λ r ws. id⊢ 𝓤 _)
+        (λ r ws. r ≡ with_room n (read_steps text)) (λ r ws. id⊢ 𝓤 _)
         (and_then ! (load ! (from ! (stop !)) (look ! 24 refl)) (and_then ! (load ! (from ! (stop !)) (look ! 10 refl)) (no_more !)))
         (λ u w ws gw told.
         move ! (1 ∷ []) $ drop ! $ land ! (from ! (stop !)) (init ! 20 refl (steps_read_typed 𝓛 w _ gw)) $

@@ -1,5 +1,5 @@
 -- Invariant: line k starts at `at`, and to check the text is to check on from there. A turn passes a line feed, so length - at falls.
--- k is at most at + 1, so it does not overflow. Out of range is asked before too many, as `lineSaid` does.
+-- k is at most at + 1, so it does not overflow. Out of range is asked before too many, as `line_said` does.
 use Prim.Native.Nat.{◌-◌}
 use lib.ListN.{length}
 use Rattle.text_field.proofs.Tested.{held}

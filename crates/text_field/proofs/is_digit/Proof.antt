@@ -1,15 +1,15 @@
 -- If 48 ≤ d fails the conjunction is false. Otherwise only d ≤ 57 is left.
 use borrow.Author.Tests.{le-leb, lt-leb}
-use Rattle.text_field.specs.Number.{isDigit}
+use Rattle.text_field.specs.Number.{is_digit}
 use Rattle.text_field.proofs.is_digit.Statement.{statement}
 use Rattle.text_field.proofs.is_digit.Tie as tie
 
 returns : tie.Need-returns
-unfolding isDigit
+unfolding is_digit
 returns c = simp (le-leb _ _ c.if1.true)
 
 returns-2 : tie.Need-returns-2
-unfolding isDigit
+unfolding is_digit
 returns-2 c = simp (lt-leb _ _ c.if1.false)
 
 pub is-digit-spec : {M : Type 1} → statement M

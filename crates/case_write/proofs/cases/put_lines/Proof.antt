@@ -4,14 +4,14 @@ use Prim.Native.Nat.{◌-◌}
 use native.Mathlib.Omega.{arith}
 use Rattle.case_read.proofs.Lengths.{row_room}
 use Rattle.grid.specs.Rows.{neighbours, circuits}
-use Rattle.case_line.specs.CaseText.{lineRecords}
+use Rattle.case_line.specs.CaseText.{line_records}
 use Rattle.case_write.proofs.Turns.{Turn, turn_first, turn_row, turn_all}
 use borrow.Author.Rules.{rules}
 use Rattle.case_write.proofs.cases.put_lines.Statement.{statement}
 use Rattle.case_write.proofs.cases.put_lines.Tie as tie
 
 abbrev invariant-loop : tie.invariant-loop
-invariant-loop out₀ at n nbr k₀ a₀ a-end out k a = Turn (lineRecords (neighbours nbr) (circuits nbr)) row_room 1 n n out₀ at a-end out k a
+invariant-loop out₀ at n nbr k₀ a₀ a-end out k a = Turn (line_records (neighbours nbr) (circuits nbr)) row_room 1 n n out₀ at a-end out k a
 
 abbrev decreases-loop : tie.decreases-loop
 decreases-loop out₀ at n nbr k₀ a₀ a-end out k a = a-end - a
@@ -38,7 +38,7 @@ same_length : tie.Need-same-length invariant-loop decreases-loop
 same_length c = c.before.loop.invariant.left.size
 
 returns : tie.Need-returns invariant-loop decreases-loop
-unfolding lineRecords
+unfolding line_records
 returns c = turn_all c.before.loop.invariant (search rules) refl
 
 pub put-lines-spec : {M : Type 1} → statement M

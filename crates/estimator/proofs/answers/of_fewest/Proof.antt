@@ -1,7 +1,7 @@
--- Two arms, as `ofFewest` maps a reply.
+-- Two arms, as `of_fewest` maps a reply.
 use mathlib.Core.Path.{sym, ap}
 use borrow.Author.Rules.{rules}
-use Rattle.estimator.specs.Answers.{ofFewest}
+use Rattle.estimator.specs.Answers.{of_fewest}
 use Rattle.estimator.proofs.answers.of_fewest.Statement.{statement}
 use Rattle.estimator.proofs.answers.of_fewest.Tie as tie
 
@@ -12,10 +12,10 @@ enum-known-r-2 : tie.Need-enum-known-r-2
 enum-known-r-2 c = search rules
 
 returns : tie.Need-returns
-returns c = ap ofFewest (sym c.before.r.given.1)
+returns c = ap of_fewest (sym c.before.r.given.1)
 
 returns-2 : tie.Need-returns-2
-returns-2 c = ap ofFewest (sym c.before.r2.given.1)
+returns-2 c = ap of_fewest (sym c.before.r2.given.1)
 
 pub of-fewest-spec : {M : Type 1} → statement M
 of-fewest-spec = tie.close (tie.spec enum-known-r enum-known-r-2 returns returns-2)

@@ -1,4 +1,4 @@
--- By what the reason names: its letter and that bus are put as the fields of `stepText`. `Names` bounds both numbers.
+-- By what the reason names: its letter and that bus are put as the fields of `step_text`. `Names` bounds both numbers.
 use mathlib.Core.Path.{◌∙◌, sym, subst}
 use mathlib.Core.List.{append_assoc}
 use native.Mathlib.Omega.{arith}
