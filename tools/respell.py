@@ -21,6 +21,7 @@ DECLARED = re.compile(
 TYPE = re.compile(r"(?:(?:pub|abbrev)\s+)*(?:record|data) ([^\s(){}:]+)")
 FIELD = re.compile(r"\s+(?:pub\s+)?([^\s(){}:;,.@\"]+) : ")
 FUNCTION = re.compile(r"\bfn (\w+)")
+COMMENT = re.compile(r"(?<![^\s(){}.;,@\"«»])--[^\n]*|\{-.*?-\}|\"(?:[^\"\\\n]|\\.)*\"", re.S)
 OF_A_FUNCTION = ("Proof.antt", "Answers.antt", "Invariants.antt")
 
 
@@ -41,6 +42,11 @@ def snake(name):
     return re.sub(r"(?<=[a-z0-9])([A-Z])", lambda m: "_" + m[1].lower(), name)
 
 
+def of_a_function(path):
+    """Whether the file is what is written of one function's proof."""
+    return "/proofs/" in path and path.endswith(OF_A_FUNCTION)
+
+
 def declared():
     """The definitions and lemmas, the fields, and every name that one of these, a type or a function of src/ has."""
     words, fields, names = set(), set(), set()
@@ -50,9 +56,9 @@ def declared():
                 names.add(snake(it[1][0].lower() + it[1][1:]))
             elif line[:1] not in (" ", "-", "") and (it := DECLARED.match(line)):
                 names.add(snake(it[1]))
-                if not path.endswith(OF_A_FUNCTION):
+                if not of_a_function(path):
                     words.add(it[1])
-            elif not path.endswith(OF_A_FUNCTION) and (it := FIELD.match(line)):
+            elif not of_a_function(path) and (it := FIELD.match(line)):
                 fields.add(it[1])
                 names.add(it[1])
     for path in files(".rt"):
@@ -75,7 +81,9 @@ def spellings():
     words, fields, names = declared()
     used = set()
     for path in files(".antt"):
-        used.update(WORD.findall(read(path)))
+        # a path names modules and functions of src/, which no name of a definition meets
+        text = re.sub(r"(?<![^\s(){},;@\"])(?:Rattle|mathlib|Prim|native|borrow|lib)\.[^\s{}]*", " ", read(path))
+        used.update(WORD.findall(re.sub(r"\.[^\s(){}.;,@\"]+", " ", COMMENT.sub(" ", text))))
     new = {}
     for name in sorted(words | fields):
         if not re.match(r"[a-z]", name):
@@ -85,15 +93,16 @@ def spellings():
             to = to.replace("-", "_") if name in fields and name not in words else undashed(to, names)
         if to != name:
             new[name] = to
+    # a name with a capital in it goes before one with a dash
+    first = {to for name, to in new.items() if "-" not in name}
+    new = {name: to for name, to in new.items() if "-" not in name or to not in first}
     count = collections.Counter(new.values())
-    return {
-        name: to
-        for name, to in new.items()
-        if count[to] == 1 and to not in used and to + "'" not in used
-    }
-
-
-COMMENT = re.compile(r"(?<![^\s(){}.;,@\"«»])--[^\n]*|\{-.*?-\}|\"(?:[^\"\\\n]|\\.)*\"", re.S)
+    new = {name: to for name, to in new.items() if count[to] == 1 and to not in used}
+    # a lemma that has its definition's name, but for the capital
+    for name in [it for it in words if re.match("[a-z]+[A-Z]", it) and it not in new]:
+        new[name] = snake(name)
+        new[snake(name)] = snake(name) + "_lem"
+    return new
 
 
 def camel(new, text):

@@ -6,14 +6,14 @@ ghost use Rattle.step_text.specs.Taking.{StepsReadReply};
 use wozgrzyt::{Case, Replayed, Step, StepsRead, Wove};
 
 // What weaving answers, and the records after it.
-#[derive(Drop)]
+#[derive(Clone, Copy)]
 pub struct Woven {
     pub answer: Wove,
     pub out: [Step; 1032],
 }
 
 // What reading says, and the records after it.
-#[derive(Drop)]
+#[derive(Clone, Copy)]
 pub struct Filled {
     pub answer: StepsRead,
     pub out: [Step; 1032],

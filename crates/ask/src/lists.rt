@@ -6,7 +6,7 @@ use grid::limits::MOST_BUSES;
 use step::{Given, NamedBus};
 use wozgrzyt::{Reason, Refusal, Step, StepList};
 
-#[derive(Drop)]
+#[derive(Clone, Copy)]
 pub struct Plan {
     pub n: usize,
     pub steps: [Step; 1032],

@@ -1,6 +1,8 @@
 // Asks every public call what standard input asks, and prints each reply with what was lent.
 // tests/questions.py makes the questions, and the replies by the references beside it.
 // A line is a letter, two numbers a and b, and a name if it asks. Each module says what its letters mean.
+#![tactic(auto)]
+
 ghost use Rattle.std.specs.Prelude.{◌≤◌, length};
 ghost use Rattle.asked.specs.Lines.{LineAt};
 
@@ -18,7 +20,7 @@ use asked::Line;
 use wozgrzyt::{BusSet, Case};
 
 // Where the steps of the list start, and where the text starts and ends.
-#[derive(Drop)]
+#[derive(Clone, Copy)]
 struct Marks {
     list: usize,
     from: usize,

@@ -1,9 +1,11 @@
 // The lines by which a program is asked: a letter, two numbers and a name, with tabs between.
+#![tactic(auto)]
+
 ghost use Rattle.std.specs.Prelude.{◌≡◌, ◌+◌, ◌≤◌, ◌<◌, min, length};
 ghost use Rattle.asked.specs.Lines.{LineAt};
 
 // A line's letter and numbers, where its name starts and ends, and where the next line starts.
-#[derive(Drop)]
+#[derive(Clone, Copy)]
 pub struct Line {
     pub letter: u8,
     pub a: usize,
@@ -14,7 +16,7 @@ pub struct Line {
 }
 
 // A number, and where its digits end.
-#[derive(Drop)]
+#[derive(Clone, Copy)]
 struct Figures {
     value: usize,
     end: usize,

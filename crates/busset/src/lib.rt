@@ -1,4 +1,6 @@
 // Sets of buses, held in a word: bus 1 in the lowest bit. The only shifts and masks stand here.
+#![tactic(auto)]
+
 ghost use Rattle.std.specs.Prelude.{◌≡◌, ◌≤◌, ◌<◌};
 ghost use Rattle.busset.specs.Held.{empty_word};
 ghost use Rattle.busset.specs.Bytes.{byte_of, set_length};

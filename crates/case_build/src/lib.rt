@@ -1,4 +1,6 @@
 // The case, built up record by record.
+#![tactic(auto)]
+
 ghost use Rattle.std.specs.Prelude.{◌≡◌};
 ghost use Rattle.busset.specs.Sets.{Bus, width};
 ghost use Rattle.busset.specs.Held.{hold_if};
@@ -11,7 +13,7 @@ use case_line::Record;
 use grid::{Case, Rows};
 
 // The Z buses, the Y sites and the units read.
-#[derive(Drop)]
+#[derive(Clone, Copy)]
 pub struct Marks {
     pub zero: BusSet,
     pub site: BusSet,

@@ -1,4 +1,6 @@
 // What a record is where the reader stands.
+#![tactic(auto)]
+
 ghost use Rattle.std.specs.Prelude.{◌≡◌, ◌&&◌, ◌+◌, ◌<◌, eqb, ltb};
 ghost use Rattle.grid.specs.Limits.{most_lines};
 ghost use Rattle.case_judge.specs.Judging.{is_several, is_after, past_buses, in_place, in_range, in_order};
@@ -10,7 +12,7 @@ use case_line::Record;
 use grid::limits::{LEAST_SEVERAL, MOST_BUSES, MOST_CIRCUITS, MOST_LINES};
 
 // The last bus, line and unit read of a grid of n buses, and how many lines.
-#[derive(Drop)]
+#[derive(Clone, Copy)]
 pub struct Place {
     pub n: usize,
     pub bus: usize,
@@ -21,7 +23,7 @@ pub struct Place {
 }
 
 // What a record is where the reader stands: the next, the last, or refused.
-#[derive(Drop)]
+#[derive(Clone, Copy)]
 pub enum Judgement {
     Next,
     Last,

@@ -1,4 +1,6 @@
 // One line of a case text, read as a record.
+#![tactic(auto)]
+
 ghost use Rattle.std.specs.Prelude.{◌≡◌};
 ghost use Rattle.text_field.specs.Split.{after};
 ghost use Rattle.case_line.specs.Fields.{mark_of, one_number, one_site};
@@ -9,7 +11,7 @@ ghost use Rattle.case_line.specs.Record.{no_fields, record_of};
 use text_field::Numeral;
 
 // A record of a case text; `zero` says class Z, `site` says site Y. `Circuits` is a `line` that says its circuits.
-#[derive(Drop)]
+#[derive(Clone, Copy)]
 pub enum Record {
     Grid(usize),
     Bus {
@@ -25,7 +27,7 @@ pub enum Record {
 }
 
 // The first field of a line.
-#[derive(Drop)]
+#[derive(Clone, Copy)]
 pub enum Word {
     Grid,
     Bus,
@@ -36,7 +38,7 @@ pub enum Word {
 }
 
 // A field of one letter out of two: whether it is the first.
-#[derive(Drop)]
+#[derive(Clone, Copy)]
 pub enum Mark {
     Is(bool),
     Neither,

@@ -1,4 +1,6 @@
 // The case text, line after line.
+#![tactic(auto)]
+
 ghost use Rattle.std.specs.Prelude.{◌≡◌, ◌<◌, ◌≤◌, length, drop};
 ghost use Rattle.grid.specs.Limits.{most_bytes};
 ghost use Rattle.case_read.specs.Reading.{refused, case_ended_after, read_text, read_case};
@@ -11,14 +13,14 @@ use grid::{Case, Rows};
 use refusals::Refusal;
 use text_field::piece_end;
 
-#[derive(Drop)]
+#[derive(Clone, Copy)]
 pub enum ReadAnswer {
     Read,
     Refused(Refusal),
 }
 
 // The answer, and the case that was read: of no buses where the text is refused.
-#[derive(Drop)]
+#[derive(Clone, Copy)]
 pub struct CaseRead {
     pub answer: ReadAnswer,
     pub case: Case,

@@ -1,4 +1,6 @@
 // Records written into lent bytes.
+#![tactic(auto)]
+
 ghost use Rattle.std.specs.Prelude.{◌∷◌, ◌<◌};
 ghost use Rattle.text_field.specs.Split.{tab};
 ghost use Rattle.case_line.specs.Record.{letter_if, Formed};

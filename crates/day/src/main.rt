@@ -1,4 +1,6 @@
 // The day report: a case text on standard input, its report on standard output.
+#![tactic(auto)]
+
 use grid::limits::MOST_BYTES;
 use report_day::{DAY_ROOM, program_report};
 

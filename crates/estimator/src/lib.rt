@@ -1,5 +1,7 @@
 // The state estimator's functions, for C.
 // Each is given the case as its text and fills the set into the first eight bytes lent.
+#![tactic(auto)]
+
 ghost use Rattle.estimator.specs.Answers.{OfText, ObservedFor, UnconfirmedFor, FewestFor, ReplayFor};
 ghost use Rattle.estimator_reply.specs.Results.{Answered};
 

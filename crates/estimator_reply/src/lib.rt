@@ -1,4 +1,6 @@
 // The number that answers the C program, and the eight bytes.
+#![tactic(auto)]
+
 ghost use Rattle.std.specs.Prelude.{◌≡◌, ◌++◌, ◌≤◌, length, drop};
 ghost use Rattle.busset.specs.Bytes.{set_bytes, set_length};
 ghost use Rattle.refusals.specs.Refusals.{place_of};
@@ -8,7 +10,7 @@ use busset::{BusSet, SET_BYTES};
 use refusals::Refusal;
 
 // A set, a refusal, or a refusal in reading the step text.
-#[derive(Drop)]
+#[derive(Clone, Copy)]
 pub enum Answer {
     Set(BusSet),
     Refused(Refusal),

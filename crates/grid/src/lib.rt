@@ -1,5 +1,7 @@
 // The case value, what it says of lines and circuits, and when it is valid; buses with their neighbours; whether a set
 // has all buses.
+#![tactic(auto)]
+
 ghost use Rattle.std.specs.Prelude.{◌≡◌, cond, ◌≤◌, ◌<◌};
 ghost use Rattle.busset.specs.Held.{word_of};
 ghost use Rattle.basics.specs.Deciding.{Decides};
@@ -26,7 +28,7 @@ pub const ROWS_LENGTH: usize = BUS_SETS * MOST_BUSES;
 pub type Rows = [BusSet; ROWS_LENGTH];
 
 // A grid as a caller lends it.
-#[derive(Drop)]
+#[derive(Clone, Copy)]
 pub struct Case {
     pub n: usize,
     pub nbr: Rows,

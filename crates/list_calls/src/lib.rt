@@ -1,4 +1,6 @@
 // The calls on lists of steps: the derivation; replay and weaving over lent records.
+#![tactic(auto)]
+
 ghost use Rattle.std.specs.Prelude.{◌≡◌, length};
 ghost use Rattle.grid.specs.Rows.{rows_length};
 ghost use Rattle.grid.specs.Cases.{case_of};

@@ -1,4 +1,6 @@
 // The derivation.
+#![tactic(auto)]
+
 ghost use Rattle.std.specs.Prelude.{◌≤◌};
 ghost use Rattle.busset.specs.Sets.{Within, set_of};
 ghost use Rattle.busset.specs.Held.{SetWord};
@@ -16,14 +18,14 @@ use list_value::{StepList, no_steps, push};
 use refusals::Refusal;
 use searching::{Next, next_step};
 
-#[derive(Drop)]
+#[derive(Clone, Copy)]
 pub enum DerivationAnswer {
     Found,
     Refused(Refusal),
 }
 
 // The answer, and beside it the list: with no step where the answer is a refusal.
-#[derive(Drop)]
+#[derive(Clone, Copy)]
 pub struct Derived {
     pub answer: DerivationAnswer,
     pub list: StepList,

@@ -12,7 +12,7 @@ use grid::Rows;
 use observe::test::{by_unit, by_zero};
 use step::{Reason, Step};
 
-#[derive(Drop)]
+#[derive(Clone, Copy)]
 pub enum Next {
     Take(Step),
     Nothing,

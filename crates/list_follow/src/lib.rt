@@ -1,4 +1,6 @@
 // Following a desk's list step by step: where it begins, where it is after each step, and how it ends.
+#![tactic(auto)]
+
 ghost use Rattle.std.specs.Prelude.{◌≡◌, [], ◌∷◌, ℕ, suc, ◌<◌, length};
 ghost use Rattle.grid.specs.Limits.{most_steps};
 ghost use Rattle.grid.specs.Rows.{rows_length};
@@ -17,21 +19,21 @@ use refusals::Refusal;
 use step::Step;
 
 // Replay refuses a step for an observed bus; weaving passes over it.
-#[derive(Drop)]
+#[derive(Clone, Copy)]
 pub enum Task {
     Replay,
     Weave,
 }
 
 // Whether no step was bad, or why the first bad one is refused.
-#[derive(Drop)]
+#[derive(Clone, Copy)]
 pub enum Standing {
     Good,
     Bad(Refusal),
 }
 
 // The set reached, how many steps were read, and whether one of them was bad.
-#[derive(Drop)]
+#[derive(Clone, Copy)]
 pub struct Following {
     pub task: Task,
     pub set: BusSet,
@@ -40,14 +42,14 @@ pub struct Following {
 }
 
 // What replay answers: the set reached and whether the list is finished.
-#[derive(Drop)]
+#[derive(Clone, Copy)]
 pub enum Replayed {
     Reached(BusSet, bool),
     Refused(Refusal),
 }
 
 // What weaving answers: the count written and the set reached.
-#[derive(Drop)]
+#[derive(Clone, Copy)]
 pub enum Wove {
     Written(usize, BusSet),
     Refused(Refusal),

@@ -1,5 +1,7 @@
 // A list of steps by value: at most one for each bus.
 // No list that replay accepts or weaving writes is longer than the grid has buses.
+#![tactic(auto)]
+
 ghost use Rattle.std.specs.Prelude.{◌≡◌, [], ◌<◌};
 ghost use Rattle.grid.specs.Limits.{most_buses};
 ghost use Rattle.list_value.specs.Lists.{nth_of, list_of, pushed};
@@ -7,7 +9,7 @@ ghost use Rattle.list_value.specs.Lists.{nth_of, list_of, pushed};
 use grid::limits::MOST_BUSES;
 use step::{Reason, Step};
 
-#[derive(Drop)]
+#[derive(Clone, Copy)]
 pub struct StepList {
     pub n: usize,
     pub steps: [Step; MOST_BUSES],

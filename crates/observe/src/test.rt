@@ -13,7 +13,7 @@ use refusals::Refusal;
 use step::{NamedBus, Reason, Step};
 
 // What the test answers.
-#[derive(Drop)]
+#[derive(Clone, Copy)]
 pub enum Tested {
     Allowed,
     Refused(Refusal),

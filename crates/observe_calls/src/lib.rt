@@ -1,4 +1,6 @@
 // The calls on a case, and on a stated set of observed buses: the observed set, a firing figure, the test of one step.
+#![tactic(auto)]
+
 ghost use Rattle.observe_calls.specs.Replies.{ObservedReply, FigureReply, StepReply};
 
 use busset::BusSet;
@@ -7,13 +9,13 @@ use observe::test::{Tested, tested_at};
 use refusals::Refusal;
 use step::Step;
 
-#[derive(Drop)]
+#[derive(Clone, Copy)]
 pub enum Observed {
     Set(BusSet),
     Refused(Refusal),
 }
 
-#[derive(Drop)]
+#[derive(Clone, Copy)]
 pub enum Figured {
     Figure(i32),
     Refused(Refusal),

@@ -11,7 +11,7 @@ use grid::Rows;
 use place_pool::Pool;
 
 // What a call tries: a cover by further sites has one of these. Or the units cover.
-#[derive(Drop)]
+#[derive(Clone, Copy)]
 pub struct Branch {
     pub covered: bool,
     pub tries: BusSet,

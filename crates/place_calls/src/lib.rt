@@ -1,4 +1,6 @@
 // The siting group's calls: cross-validation, greedy placement and the fewest units.
+#![tactic(auto)]
+
 ghost use Rattle.place_calls.specs.Replies.{VerdictReply, GreedyReply, FewestReply};
 
 use busset::BusSet;
@@ -6,19 +8,19 @@ use grid::Case;
 use grid::limits::{MOST_GREEDY_BUDGET, most_budget};
 use refusals::Refusal;
 
-#[derive(Drop)]
+#[derive(Clone, Copy)]
 pub enum Verdict {
     Unconfirmed(BusSet),
     Refused(Refusal),
 }
 
-#[derive(Drop)]
+#[derive(Clone, Copy)]
 pub enum Greedy {
     Added(usize),
     Refused(Refusal),
 }
 
-#[derive(Drop)]
+#[derive(Clone, Copy)]
 pub enum Fewest {
     Sites(BusSet),
     Refused(Refusal),

@@ -1,4 +1,6 @@
 // Cross-validation: the units that no other unit confirms.
+#![tactic(auto)]
+
 ghost use Rattle.basics.specs.Deciding.{Decides};
 ghost use Rattle.busset.specs.Sets.{In, set_of};
 ghost use Rattle.rules.specs.Confirming.{Unconfirmed, UnconfirmedSet};

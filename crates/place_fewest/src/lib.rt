@@ -1,4 +1,6 @@
 // The fewest units: the search, and its sizes tried one after another.
+#![tactic(auto)]
+
 ghost use Rattle.std.specs.Prelude.{◌≤◌};
 ghost use Rattle.grid.specs.Limits.{most_budget};
 ghost use Rattle.busset.specs.Sets.{width, set_of};
@@ -12,7 +14,7 @@ use busset::BusSet;
 use grid::Rows;
 use place_pool::{MOST_KEPT, Pool};
 
-#[derive(Drop)]
+#[derive(Clone, Copy)]
 pub enum Found {
     Sites(BusSet),
     Nothing,

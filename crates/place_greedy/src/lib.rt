@@ -1,4 +1,6 @@
 // Greedy placement: the best site, one after another.
+#![tactic(auto)]
+
 ghost use Rattle.std.specs.Prelude.{ℕ, ◌≤◌, ◌≡◌, ◌++◌, length, take, drop};
 ghost use Rattle.grid.specs.Limits.{most_greedy_budget};
 ghost use Rattle.busset.specs.Sets.{set_of};
@@ -10,7 +12,7 @@ use grid::Rows;
 use grid::limits::MOST_GREEDY_BUDGET;
 
 // Sites in the order added: the first `count` of `sites`.
-#[derive(Drop)]
+#[derive(Clone, Copy)]
 pub struct SiteList {
     pub count: usize,
     pub sites: [usize; MOST_GREEDY_BUDGET],

@@ -1,4 +1,6 @@
 // Observed sets made from one another, as units are added.
+#![tactic(auto)]
+
 ghost use Rattle.busset.specs.Sets.{Bus, width, set_of};
 ghost use Rattle.grid.specs.Rows.{neighbours};
 ghost use Rattle.place_light.specs.Lights.{Lit};

@@ -1,5 +1,7 @@
 // The groups that are kept: sets of sites, of which every cover has one. What makes a group is the case alone. So one
 // that is found anywhere in the search serves all of it.
+#![tactic(auto)]
+
 ghost use Rattle.std.specs.Prelude.{◌≡◌, true, ℕ, ◌≤◌, ◌<◌};
 ghost use Rattle.busset.specs.Sets.{Sub, empty, meet, size, set_of, width};
 ghost use Rattle.place_pool.specs.Pool.{most_kept, kept_at, KeptWith};
@@ -17,7 +19,7 @@ pub const ENOUGH_KEPT: usize = 200;
 pub type Pool = [BusSet; MOST_KEPT];
 
 // What the groups that were asked say of a cover by at most k further sites.
-#[derive(Drop)]
+#[derive(Clone, Copy)]
 pub struct Hints {
     // its sites are some of these
     pub left: BusSet,

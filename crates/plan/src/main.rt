@@ -1,4 +1,6 @@
 // The planning program: a plan line and a case text on standard input, its report on standard output.
+#![tactic(auto)]
+
 use grid::limits::MOST_BYTES;
 use report_plan::{PLAN_ROOM, program_report};
 

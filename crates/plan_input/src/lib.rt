@@ -1,4 +1,6 @@
 // The planning program's input: the plan line, and the case text after it.
+#![tactic(auto)]
+
 ghost use Rattle.std.specs.Prelude.{◌≡◌};
 ghost use Rattle.text_field.specs.Split.{after};
 ghost use Rattle.plan_input.specs.Asking.{plan_fields, budget_of, unasked, read_plan};
@@ -12,7 +14,7 @@ use text_field::{Numeral, piece_end};
 pub const DEFAULT_BUDGET: usize = 3;
 
 // What an input asks: the fewest of a case within a budget, which is 0 where the input is refused.
-#[derive(Drop)]
+#[derive(Clone, Copy)]
 pub struct Asked {
     pub budget: usize,
     pub read: CaseRead,

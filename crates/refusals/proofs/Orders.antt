@@ -70,11 +70,13 @@ failed-unique (x ∷ qs) r q (inl a) (inl b) = refusal-unique a.1 b.1
 failed-unique (x ∷ qs) r q (inl a) (inr b) = absurd (a.0 b.0)
 failed-unique (x ∷ qs) r q (inr a) (inl b) = absurd (b.0 a.0)
 failed-unique (x ∷ qs) r q (inr a) (inr b) = failed-unique qs r q a.1 b.1
+failed-unique [] r q x'' _ = elim x'' [ ]
 
 -- and only where some check fails
 pub failed_or_passed : (qs : List Check) (r : Refusal) → Failed qs r → Passed qs → ⊥
 failed_or_passed (x ∷ qs) r (inl a) p = a.0 p.0
 failed_or_passed (x ∷ qs) r (inr a) p = failed_or_passed qs r a.1 p.1
+failed_or_passed [] r x'' p = elim x'' [ ]
 
 -- ---- one list of checks after another
 
@@ -85,6 +87,7 @@ passed_then (p ∷ ps) qs a b = (a.0, passed_then ps qs a.1 b)
 pub failed_sooner : (ps qs : List Check) (r : Refusal) → Failed ps r → Failed (ps ++ qs) r
 failed_sooner (p ∷ ps) qs r (inl f) = inl f
 failed_sooner (p ∷ ps) qs r (inr f) = inr (f.0, failed_sooner ps qs r f.1)
+failed_sooner [] qs r x' = elim x' [ ]
 
 pub failed-later : (ps qs : List Check) (r : Refusal) → Passed ps → Failed qs r → Failed (ps ++ qs) r
 failed-later [] qs r a f = f
@@ -101,3 +104,4 @@ PlacesBy m (x ∷ qs) = (x.place ≤ m) × PlacesBy m qs
 pub failed-place : (m : ℕ) (qs : List Check) (r : Refusal) → PlacesBy m qs → Failed qs r → place_of r ≤ m
 failed-place m (x ∷ qs) r p (inl a) = omega (arith, p.0, a.1.placed)
 failed-place m (x ∷ qs) r p (inr a) = failed-place m qs r p.1 a.1
+failed-place m [] r p x'' = elim x'' [ ]

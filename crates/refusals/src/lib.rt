@@ -1,8 +1,10 @@
 // The refusals: one for each row of document 01's table. A number held is the place: a line, a step, or 0.
+#![tactic(auto)]
+
 ghost use Rattle.std.specs.Prelude.{◌≡◌};
 ghost use Rattle.refusals.specs.Refusals.{number_of, place_of};
 
-#[derive(Drop)]
+#[derive(Clone, Copy)]
 pub enum Refusal {
     TextTooLong,
     WrongForm(usize),
@@ -20,7 +22,7 @@ pub enum Refusal {
 }
 
 // What a call that writes bytes answers: how many it wrote, or a refusal.
-#[derive(Drop)]
+#[derive(Clone, Copy)]
 pub enum Written {
     Bytes(usize),
     Refused(Refusal),

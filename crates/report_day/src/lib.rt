@@ -1,4 +1,6 @@
 // The day report of a case text.
+#![tactic(auto)]
+
 ghost use Rattle.std.specs.Prelude.{◌≤◌};
 ghost use Rattle.busset.specs.Sets.{width};
 ghost use Rattle.grid.specs.Cases.{case_of, Valid};

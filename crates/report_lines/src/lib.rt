@@ -1,4 +1,6 @@
 // What every program prints: the line of a refusal, and a text printed into the bytes lent.
+#![tactic(auto)]
+
 ghost use Rattle.std.specs.Prelude.{◌<◌};
 ghost use Rattle.refusals.specs.Refusals.{place_of};
 ghost use Rattle.text_field.specs.Number.{most_printed};

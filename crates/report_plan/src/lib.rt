@@ -1,4 +1,6 @@
 // The planning program's reply to an input.
+#![tactic(auto)]
+
 ghost use Rattle.grid.specs.Cases.{case_of, Valid};
 ghost use Rattle.report_lines.specs.Printing.{Printed, PrintedReply};
 ghost use Rattle.report_plan.specs.Plan.{PlanReport, PlanPrinted};

@@ -1,4 +1,6 @@
 // The rounds report of a case text.
+#![tactic(auto)]
+
 ghost use Rattle.grid.specs.Cases.{Valid};
 ghost use Rattle.report_lines.specs.Printing.{Printed, PrintedReply};
 ghost use Rattle.report_rounds.specs.Rounds.{RoundsReport, RoundsPrinted};

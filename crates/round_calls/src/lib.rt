@@ -1,4 +1,6 @@
 // The trainer's call: observation in rounds, as a list of numbers in the room lent.
+#![tactic(auto)]
+
 ghost use Rattle.std.specs.Prelude.{List, [], ◌∷◌, ℕ, suc, ◌+◌, ◌≤◌, ◌<◌, length};
 ghost use Rattle.busset.specs.Sets.{width};
 ghost use Rattle.text_put.specs.Put.{Put, far_byte, far_line};
@@ -10,7 +12,7 @@ use grid::Case;
 use refusals::Refusal;
 use round_list::RoundSets;
 
-#[derive(Drop)]
+#[derive(Clone, Copy)]
 pub enum RoundsAnswer {
     // How many numbers are written, and how many rounds there are.
     Listed(usize, usize),

@@ -1,4 +1,6 @@
 // Observation in rounds: the engine that a trainer shows, beside the quick one. It is built on the test of one step.
+#![tactic(auto)]
+
 ghost use Rattle.std.specs.Prelude.{◌≤◌};
 ghost use Rattle.basics.specs.Deciding.{Decides};
 ghost use Rattle.busset.specs.Sets.{Bus, width, set_of};
@@ -14,7 +16,7 @@ use grid::{Case, Rows};
 use observe::test::{by_unit, by_zero};
 
 // The rounds that add a bus, in order: the first `count` of `sets`, each the buses that its round adds.
-#[derive(Drop)]
+#[derive(Clone, Copy)]
 pub struct RoundSets {
     pub count: usize,
     pub sets: [BusSet; MOST_BUSES],

@@ -92,6 +92,7 @@ for_reached s b (x ∷ xs) (inl e) =
     let p : In (add s x.bus) b = subst (In (add s x.bus)) e (add-here s x.bus) in
     omega (arith, reached-grows (add s x.bus) xs b)
 for_reached s b (x ∷ xs) (inr p) = for_reached (add s x.bus) b xs p
+for_reached s b [] x' = elim x' [ ]
 
 -- ---- a shuffle has the steps of its lists
 
@@ -114,10 +115,12 @@ module _ (P : Step → Type 0) where
   shuffle_to : {xss : List (List Step)} {zs : List Step} → Shuffle xss zs → Some P zs → Some (Some P) xss
   shuffle_to (next k r) (inl p) = taken_to k (inl p)
   shuffle_to (next k r) (inr q) = taken_to k (inr (shuffle_to r q))
+  shuffle_to (none {xss = xss} _) x5 = elim x5 [ ]
 
   none_left : (xss : List (List Step)) → Each (λ xs. xs ≡ []) xss → Some (Some P) xss → ⊥
   none_left (xs ∷ xss) e (inl p) = subst (Some P) e.0 p
   none_left (xs ∷ xss) e (inr q) = none_left xss e.1 q
+  none_left [] e x'' = elim x'' [ ]
 
   shuffle_from : {xss : List (List Step)} {zs : List Step} → Shuffle xss zs → Some (Some P) xss → Some P zs
   shuffle_from (none {xss = xss} e) q = absurd (none_left xss e q)
@@ -136,6 +139,7 @@ module _ (P : Step → Type 0) where
 some_to : {P Q : List Step → Type 0} (xss : List (List Step)) → ((xs : List Step) → P xs → Q xs) → Some P xss → Some Q xss
 some_to (xs ∷ xss) f (inl p) = inl (f xs p)
 some_to (xs ∷ xss) f (inr p) = inr (some_to xss f p)
+some_to {P = P} {Q = Q} [] f x'' = elim x'' [ ]
 
 each_to : {P Q : List Step → Type 0} (xss : List (List Step)) → ((xs : List Step) → P xs → Q xs) → Each P xss → Each Q xss
 each_to [] f p = tt
@@ -152,6 +156,7 @@ meets : {P Q R : List Step → Type 0} {S : Type 0} (xss : List (List Step)) →
     → ((xs : List Step) → P xs → Q xs → R xs → S) → Some R xss → S
 meets (xs ∷ xss) p q f (inl r) = f xs p.0 q.0 r
 meets (xs ∷ xss) p q f (inr r) = meets xss p.1 q.1 f r
+meets {P = P} {Q = Q} {R = R} {S = S} [] p q f x4 = elim x4 [ ]
 
 -- on the way: what weaving a shuffle of the desks' lists comes to
 pub record Woven (g : Grid) (desks : List (List Step)) (received : List Step) : Type 0 where

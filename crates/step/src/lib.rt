@@ -1,10 +1,12 @@
 // A step, as a desk's record holds it, and what each reason has: its letter, and the bus that it names.
 // Buses are numbered as the grid numbers them, and any number may stand in a record.
+#![tactic(auto)]
+
 ghost use Rattle.std.specs.Prelude.{◌≡◌};
 ghost use Rattle.step.specs.Reasons.{letter_of, named_by, if_letter, reason_of};
 
 // Why a bus is observed.
-#[derive(Drop)]
+#[derive(Clone, Copy)]
 pub enum Reason {
     // A unit stands at the bus itself.
     OwnUnit,
@@ -14,21 +16,21 @@ pub enum Reason {
     ZeroInjection(usize),
 }
 
-#[derive(Drop)]
+#[derive(Clone, Copy)]
 pub struct Step {
     pub bus: usize,
     pub reason: Reason,
 }
 
 // The bus that a reason names, if it names one.
-#[derive(Drop)]
+#[derive(Clone, Copy)]
 pub enum NamedBus {
     Nothing,
     Bus(usize),
 }
 
 // The reason that a letter and a named bus give.
-#[derive(Drop)]
+#[derive(Clone, Copy)]
 pub enum Given {
     Is(Reason),
     Wrong,

@@ -1,4 +1,6 @@
 // One line of a step text, read as a step.
+#![tactic(auto)]
+
 ghost use Rattle.std.specs.Prelude.{◌≡◌};
 ghost use Rattle.text_field.specs.Split.{after};
 ghost use Rattle.step_line.specs.StepLine.{step_word_of, numbered_reason, lettered_fields, reason_fields};
@@ -10,7 +12,7 @@ use step::{Given, NamedBus, Step};
 use text_field::Numeral;
 
 // A line of a step text.
-#[derive(Drop)]
+#[derive(Clone, Copy)]
 pub enum StepLine {
     Step(Step),
     End,
@@ -18,7 +20,7 @@ pub enum StepLine {
 }
 
 // The first field of a line.
-#[derive(Drop)]
+#[derive(Clone, Copy)]
 pub enum StepWord {
     Step,
     End,

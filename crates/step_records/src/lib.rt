@@ -1,4 +1,6 @@
 // A step text read into lent records.
+#![tactic(auto)]
+
 ghost use Rattle.step_text.specs.Taking.{StepsReadReply};
 
 use step::Step;

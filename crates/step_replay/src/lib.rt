@@ -1,4 +1,6 @@
 // A step text replayed straight from the text: no list is stored.
+#![tactic(auto)]
+
 ghost use Rattle.std.specs.Prelude.{◌≡◌, length};
 ghost use Rattle.grid.specs.Rows.{rows_length};
 ghost use Rattle.grid.specs.Cases.{case_of};
@@ -15,7 +17,7 @@ use step_text::taking::{NextStep, step_at};
 use step_text::{StepsRead, check_steps};
 
 // The set reached and whether the list is finished; a refusal of the list; a refusal in reading its text.
-#[derive(Drop)]
+#[derive(Clone, Copy)]
 pub enum TextReplayed {
     Reached(BusSet, bool),
     Refused(Refusal),

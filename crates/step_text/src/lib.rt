@@ -1,4 +1,6 @@
 // The step text, checked line after line.
+#![tactic(auto)]
+
 ghost use Rattle.std.specs.Prelude.{◌≡◌, suc, ◌≤◌, ◌<◌, length};
 ghost use Rattle.grid.specs.Limits.{most_step_bytes};
 ghost use Rattle.step_text.specs.Steps.{reason_in_range, step_in_range, ended_after, read_steps};
@@ -13,7 +15,7 @@ use step_line::StepLine;
 use text_field::piece_end;
 
 // What reading a step text says: how many steps it has.
-#[derive(Drop)]
+#[derive(Clone, Copy)]
 pub enum StepsRead {
     Steps(usize),
     Refused(Refusal),

@@ -10,14 +10,14 @@ use step_line::StepLine;
 use text_field::piece_end;
 
 // A step, and where the line after it starts.
-#[derive(Drop)]
+#[derive(Clone, Copy)]
 pub struct Taken {
     pub step: Step,
     pub next: usize,
 }
 
 // The same, or that there is none.
-#[derive(Drop)]
+#[derive(Clone, Copy)]
 pub enum NextStep {
     At(Step, usize),
     Nothing,

@@ -1,4 +1,6 @@
 // The calls on texts: a case text read and written; a step text checked, read and replayed.
+#![tactic(auto)]
+
 ghost use Rattle.text_calls.specs.Replies.{CaseWrittenReply};
 
 use case_write::cases::{count_bytes, put_case};

@@ -1,4 +1,6 @@
 // The pieces of a text: lines separated by line feeds, fields separated by tabs, and the numbers that stand in fields.
+#![tactic(auto)]
+
 ghost use Rattle.std.specs.Prelude.{◌≡◌, ◌-◌, ◌<◌, ◌≤◌, length};
 ghost use Rattle.text_field.specs.Split.{PieceEnd, same};
 ghost use Rattle.text_field.specs.Number.{is_digit, takes_digit, numeral_of};
@@ -7,7 +9,7 @@ ghost use Rattle.text_field.specs.Number.{is_digit, takes_digit, numeral_of};
 const MOST_READ: usize = 10000;
 
 // A field read as a number.
-#[derive(Drop)]
+#[derive(Clone, Copy)]
 pub enum Numeral {
     Is(usize),
     Wrong,

@@ -1,5 +1,7 @@
 // Bytes and numbers put into lent bytes.
 // A byte past the end is counted and not written, so that what counts is what writes.
+#![tactic(auto)]
+
 ghost use Rattle.std.specs.Prelude.{◌≡◌, [], ◌∷◌, ◌++◌, ◌+◌, ◌<◌, length};
 ghost use Rattle.text_field.specs.Split.{line_feed};
 ghost use Rattle.text_field.specs.Number.{most_printed, number_text};

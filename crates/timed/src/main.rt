@@ -1,5 +1,7 @@
 // Asks one call again and again, and prints the last answer as one number. The first line of standard input says the
 // call and how often it is asked; the rest is a case text. In a set, bus b is the bit b - 1.
+#![tactic(auto)]
+
 ghost use Rattle.std.specs.Prelude.{◌≡◌};
 
 use grid::limits::{LARGEST_BUDGET, MOST_BUSES};

@@ -1,4 +1,5 @@
 // The face: every public call, from the crate of its subject. None has a requirement; each checks for itself.
+#![tactic(auto)]
 
 // what is asked with, and why it is refused
 pub use busset::BusSet;

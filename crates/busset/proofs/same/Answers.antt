@@ -1,11 +1,7 @@
 -- Two words hold the same set exactly if they are equal: a set is its word doubled.
 use Rattle.basics.proofs.Tests.{decides_eq}
 use Rattle.busset.proofs.Words.{decides-set}
-use Rattle.busset.proofs.same.Statement.{statement}
-use Rattle.busset.proofs.same.Tie as tie
+use Rattle.busset.proofs.same.Goals as goal
 
-returns : tie.Need-returns
+pub returns : goal.returns
 returns c = decides-set c.args.s c.args.t (decides_eq c.args.s c.args.t)
-
-pub same_spec : {M : Type 1} → statement M
-same_spec = tie.close (tie.spec returns)

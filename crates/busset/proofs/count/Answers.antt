@@ -4,14 +4,10 @@ use lib.Count.{ones-le}
 use borrow.Author.Rules.{rules}
 use Rattle.busset.specs.Sets.{width}
 use Rattle.busset.proofs.Words.{count_law}
-use Rattle.busset.proofs.count.Statement.{statement}
-use Rattle.busset.proofs.count.Tie as tie
+use Rattle.busset.proofs.count.Goals as goal
 
-cast-result : tie.Need-overflow-cast-result
-cast-result c = omega (arith, ones-le width c.args.s (search rules))
+pub overflow_cast-result : goal.overflow_cast-result
+overflow_cast-result c = omega (arith, ones-le width c.args.s (search rules))
 
-returns : tie.Need-returns
+pub returns : goal.returns
 returns c = record { is = count_law c.args.s; most = ones-le width c.args.s (search rules) }
-
-pub count_spec : {M : Type 1} → statement M
-count_spec = tie.close (tie.spec cast-result returns)

@@ -2,11 +2,7 @@
 use borrow.Author.Rules.{rules}
 use Rattle.busset.specs.Sets.{width}
 use Rattle.busset.proofs.Words.{minus_law}
-use Rattle.busset.proofs.minus.Statement.{statement}
-use Rattle.busset.proofs.minus.Tie as tie
+use Rattle.busset.proofs.minus.Goals as goal
 
-returns : tie.Need-returns
+pub returns : goal.returns
 returns c = minus_law width (search rules) (search rules)
-
-pub minus-spec : {M : Type 1} → statement M
-minus-spec = tie.close (tie.spec returns)

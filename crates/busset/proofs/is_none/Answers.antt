@@ -2,11 +2,7 @@
 use mathlib.Core.Path.{sym, ◌∙◌}
 use Rattle.basics.proofs.Tests.{decides_eq, decides-by}
 use Rattle.busset.proofs.Words.{decides-set, set-empty}
-use Rattle.busset.proofs.is_none.Statement.{statement}
-use Rattle.busset.proofs.is_none.Tie as tie
+use Rattle.busset.proofs.is_none.Goals as goal
 
-returns : tie.Need-returns
+pub returns : goal.returns
 returns c = decides-by (λ e. e ∙ set-empty) (λ e. e ∙ sym set-empty) (decides-set c.args.s 0 (decides_eq c.args.s 0))
-
-pub is-none-spec : {M : Type 1} → statement M
-is-none-spec = tie.close (tie.spec returns)
