@@ -1,0 +1,15 @@
+-- What is counted and what is left make up the unknown; fewer are left each turn.
+use native.Mathlib.Omega.{arith}
+use borrow.Author.Tests.{not-true, not-false}
+use Rattle.busset.specs.Sets.{set_of, size, width}
+use Rattle.basics.proofs.Tests.{refutes}
+use Rattle.busset.proofs.Words.{set-size}
+use Rattle.observe.proofs.Counting.{Tallied, tallied-none, tallied-more, tallied-all}
+use borrow.Author.Rules.{rules}
+use Rattle.observe.proofs.set.count_unknown.Given as goal
+
+abbrev pub invariant-loop-b : goal.invariant-loop-b
+invariant-loop-b l = Tallied (set_of l.m) (set_of l.s) (set_of l.left) l.unknown
+
+abbrev pub decreases-loop-b : goal.decreases-loop-b
+decreases-loop-b l = size (set_of l.left)
