@@ -1,5 +1,4 @@
 -- Invariant: i is from `at` up to the text's length. i-end - i falls.
-use borrow.Author.Rules.{rules}
 use mathlib.Core.Path.{◌≡◌}
 use Prim.Native.Nat.{◌-◌, ◌≤◌}
 use lib.ListN.{length}

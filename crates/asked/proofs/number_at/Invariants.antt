@@ -1,5 +1,4 @@
 -- Invariant: i is from `at` up to `end`, so each byte read is there. end - i falls. The remainder keeps the value in its range.
-use borrow.Author.Rules.{rules}
 use Prim.Native.Nat.{◌-◌, ◌≤◌}
 use Rattle.asked.proofs.number_at.Given as goal
 

@@ -1,9 +1,7 @@
 -- Invariant: the first i bytes are those of the set, and the others are as lent. 8 - i falls.
 use borrow.Author.Rules.{rules}
-use Prim.Native.Nat.{◌-◌, ◌≤◌}
 use native.Mathlib.Omega.{arith}
-use Rattle.busset.specs.Bytes.{set_bytes, set_length}
-use Rattle.step.proofs.Writing.{WrittenSoFar, written_none}
+use Rattle.step.proofs.Writing.{written_none}
 use Rattle.estimator_reply.proofs.Filling.{filled_more, filled-all}
 use Rattle.estimator_reply.proofs.fill.Goals as goal
 
@@ -15,10 +13,10 @@ bounds-set-i c = omega (arith, c.loop-i.invariant.1.long)
 
 pub loop-i-preserved : goal.loop-i-preserved
 loop-i-preserved c = (
-      search rules,
-      filled_more c.args.s c.loop-i.invariant.1 (search rules)
-          c.requires c.byte_of.ensures,
-    )
+  search rules,
+  filled_more c.args.s c.loop-i.invariant.1 (search rules)
+      c.requires c.byte_of.ensures,
+)
 
 pub shape_of-set : goal.shape_of-set
 shape_of-set c = c.loop-i.invariant.1.long

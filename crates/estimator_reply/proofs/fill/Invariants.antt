@@ -1,10 +1,7 @@
 -- Invariant: the first i bytes are those of the set, and the others are as lent. 8 - i falls.
-use borrow.Author.Rules.{rules}
 use Prim.Native.Nat.{◌-◌, ◌≤◌}
-use native.Mathlib.Omega.{arith}
 use Rattle.busset.specs.Bytes.{set_bytes, set_length}
-use Rattle.step.proofs.Writing.{WrittenSoFar, written_none}
-use Rattle.estimator_reply.proofs.Filling.{filled_more, filled-all}
+use Rattle.step.proofs.Writing.{WrittenSoFar}
 use Rattle.estimator_reply.proofs.fill.Given as goal
 
 abbrev pub invariant-loop-i : goal.invariant-loop-i

@@ -1,5 +1,4 @@
 -- By the answer's variant. `PlaceInRange` bounds the place of a refusal, so its number fits a u32 even with 50 more.
-use borrow.Author.Rules.{rules}
 use mathlib.Core.Path.{subst}
 use native.Mathlib.Omega.{arith}
 use Rattle.estimator_reply.specs.Results.{PlaceInRange}
@@ -17,10 +16,10 @@ code-requires-in-Unread c = subst PlaceInRange c.in-Unread.is c.requires
 
 pub overflow_add-result : goal.overflow_add-result
 overflow_add-result c = omega (
-      arith,
-      c.code-in-Unread.ensures,
-      code-small c.in-Unread.q (subst PlaceInRange c.in-Unread.is c.requires),
-    )
+  arith,
+  c.code-in-Unread.ensures,
+  code-small c.in-Unread.q (subst PlaceInRange c.in-Unread.is c.requires),
+)
 
 pub returns-else-room-lt-SET_BYTES : goal.returns-else-room-lt-SET_BYTES
 returns-else-room-lt-SET_BYTES c = result_set _ c.in-Set.is c.if-room-lt-SET_BYTES.false
