@@ -7,7 +7,7 @@ use native.Mathlib.Omega.{arith}
 use lib.ListN.{length, length-set, take, set}
 use lib.Seq.{take-suc-set, length-take-le}
 use Rattle.grid.specs.Limits.{most_greedy_budget}
-use Rattle.busset.specs.Sets.{bit, In, Out, Minus, Lowest, Without, With, empty, add, size}
+use Rattle.busset.specs.Sets.{bit, In, Out, Minus, Lowest, Without, empty, add, size}
 use Rattle.busset.proofs.Digits.{bit-zero}
 use Rattle.busset.proofs.Members.{without-of, without_sub}
 use Rattle.rules.specs.Grids.{Grid}
