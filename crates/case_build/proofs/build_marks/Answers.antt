@@ -1,7 +1,6 @@
 -- By the record's kind. `Fit` says that the number of `bus` and of `pmu` is a bus, so `with` gives the word that `hold` names.
 use Rattle.busset.proofs.Holding.{hold-is}
 use Rattle.case_judge.proofs.Judged.{bus_fit, pmu_fit}
-use borrow.Author.Rules.{rules}
 use Rattle.case_build.proofs.build_marks.Goals as goal
 
 pub hold_if-requires : goal.hold_if-requires

@@ -1,6 +1,5 @@
 -- By the record's kind. Only a line changes the rows, and `Fit` says that both its ends are buses.
 use Rattle.case_judge.proofs.Judged.{line_fit, circuits_fit}
-use borrow.Author.Rules.{rules}
 use Rattle.case_build.proofs.build_rows.Goals as goal
 
 pub add_line-requires : goal.add_line-requires

@@ -1,5 +1,4 @@
 -- No row has a bus, and neither have the marks.
-use borrow.Author.Rules.{rules}
 use Rattle.case_build.proofs.no_case.Goals as goal
 
 pub returns : goal.returns

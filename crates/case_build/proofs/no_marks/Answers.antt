@@ -1,5 +1,4 @@
 -- Each field is the word of no bus.
-use borrow.Author.Rules.{rules}
 use Rattle.case_build.proofs.no_marks.Goals as goal
 
 pub returns : goal.returns

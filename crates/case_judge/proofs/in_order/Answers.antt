@@ -1,6 +1,5 @@
 -- By the record's kind: the next bus, a line after the last, a unit above the last. Any other record is always in order.
 use mathlib.Core.Path.{refl}
-use borrow.Author.Rules.{rules}
 use Rattle.case_judge.proofs.in_order.Goals as goal
 
 pub returns-in-Bus : goal.returns-in-Bus

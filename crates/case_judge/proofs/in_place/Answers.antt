@@ -1,6 +1,5 @@
 -- By the record's kind. A `line` is in place by the same test with circuits and without; `Wrong` is in place nowhere.
 use mathlib.Core.Path.{refl}
-use borrow.Author.Rules.{rules}
 use Rattle.case_judge.proofs.in_place.Goals as goal
 
 pub returns-in-Grid : goal.returns-in-Grid

@@ -1,6 +1,5 @@
 -- The two tests are those that the contract joins.
 use mathlib.Core.Path.{refl}
-use borrow.Author.Rules.{rules}
 use Rattle.case_judge.proofs.is_line_place.Goals as goal
 
 pub returns : goal.returns

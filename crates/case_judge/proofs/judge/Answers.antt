@@ -1,7 +1,6 @@
 -- The tests are made in the order 2, 3, 4. Each exit knows which tests passed and which failed.
 use Rattle.case_line.proofs.Answers.{stop, pass}
 use Rattle.case_judge.specs.Judging.{judged}
-use borrow.Author.Rules.{rules}
 use Rattle.case_judge.proofs.judge.Goals as goal
 
 pub returns-then-not-in_place : goal.returns-then-not-in_place

@@ -1,6 +1,5 @@
 -- By the record's kind. `Fit` says that a `line` is at most the 256th, so the count of lines does not overflow.
 use Rattle.case_judge.proofs.Judged.{line_fit, circuits_fit}
-use borrow.Author.Rules.{rules}
 use Rattle.case_judge.proofs.next_place.Goals as goal
 
 pub after_line-requires : goal.after_line-requires

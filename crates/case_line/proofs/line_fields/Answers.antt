@@ -1,7 +1,6 @@
 -- Two cuts at a tab give the two buses. The line ends there, or the fields after the second end are the circuits' one.
 use Rattle.case_line.specs.Record.{line_fields}
 use Rattle.case_line.proofs.Fields.{by_none, by_one, line-two, line_three}
-use borrow.Author.Rules.{rules}
 use Rattle.case_line.proofs.line_fields.Goals as goal
 
 pub returns-then-line-at : goal.returns-then-line-at

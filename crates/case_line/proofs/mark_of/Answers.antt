@@ -1,6 +1,5 @@
 -- A field that is not one byte long is neither letter. One byte is compared with the first letter, then with the second.
 use Rattle.case_line.proofs.Fields.{mark_long, mark_first, mark_second, mark_other}
-use borrow.Author.Rules.{rules}
 use Rattle.case_line.proofs.mark_of.Goals as goal
 
 pub returns-then-f-ne1 : goal.returns-then-f-ne1

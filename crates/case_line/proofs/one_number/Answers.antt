@@ -1,6 +1,5 @@
 -- There is exactly one field if a tab follows and the piece after it ends with the line. The other two exits have none or more.
 use Rattle.case_line.proofs.Fields.{one_none, one_more, one_is}
-use borrow.Author.Rules.{rules}
 use Rattle.case_line.proofs.one_number.Goals as goal
 
 pub returns-then-line-at : goal.returns-then-line-at

@@ -2,7 +2,6 @@
 use Rattle.case_line.specs.Record.{record_word_of, grid_record_of, pmu_record_of, by_word, record_of}
 use Rattle.case_line.proofs.Answers.{in-arm, via}
 use Rattle.case_line.proofs.Fields.{by_first}
-use borrow.Author.Rules.{rules}
 use Rattle.case_line.proofs.record_of.Goals as goal
 
 pub returns-in-Grid : goal.returns-in-Grid

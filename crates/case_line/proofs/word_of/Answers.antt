@@ -1,7 +1,6 @@
 -- Five comparisons in the order of `record_word_of`: each exit knows that those before it failed.
 use Rattle.case_line.proofs.Answers.{hit, miss}
 use Rattle.case_line.specs.Record.{record_word_of}
-use borrow.Author.Rules.{rules}
 use Rattle.case_line.proofs.word_of.Goals as goal
 
 pub returns-then-is_same : goal.returns-then-is_same

@@ -2,7 +2,6 @@
 use mathlib.Core.Path.{refl, ◌∙◌}
 use Rattle.case_read.specs.Reading.{case_ended}
 use Rattle.case_read.proofs.Lines.{end_none, end_more}
-use borrow.Author.Rules.{rules}
 use Rattle.case_read.proofs.at_end.Goals as goal
 
 pub returns-then-e-text : goal.returns-then-e-text

@@ -1,11 +1,8 @@
 -- Invariant: line k starts at `at`, and to read the text is to read on from there with the place, rows and marks held.
 -- A turn passes a line feed, so length - at falls. Only the judgement `Next` goes on, and it gives the `Fit` that building needs.
-use Prim.Native.Nat.{◌-◌}
-use lib.ListN.{length}
 use Rattle.case_line.proofs.Answers.{told}
 use Rattle.case_judge.proofs.Judged.{fit_of}
-use Rattle.case_read.proofs.Lines.{Going, going-first, no_feed, line-said, going_on}
-use borrow.Author.Rules.{rules}
+use Rattle.case_read.proofs.Lines.{going-first, no_feed, line-said, going_on}
 use Rattle.case_read.proofs.read_text.Goals as goal
 
 pub loop-s-init : goal.loop-s-init

@@ -2,10 +2,7 @@
 -- A turn passes a line feed, so length - at falls. Only the judgement `Next` goes on, and it gives the `Fit` that building needs.
 use Prim.Native.Nat.{◌-◌}
 use lib.ListN.{length}
-use Rattle.case_line.proofs.Answers.{told}
-use Rattle.case_judge.proofs.Judged.{fit_of}
-use Rattle.case_read.proofs.Lines.{Going, going-first, no_feed, line-said, going_on}
-use borrow.Author.Rules.{rules}
+use Rattle.case_read.proofs.Lines.{Going}
 use Rattle.case_read.proofs.read_text.Given as goal
 
 abbrev pub invariant-loop-s : goal.invariant-loop-s

@@ -1,5 +1,4 @@
 -- The case beside a refusal is the one that `no_case` makes.
-use borrow.Author.Rules.{rules}
 use Rattle.case_read.specs.declared.ReadAnswer.TheVariants.{Refused}
 use Rattle.case_read.proofs.refusal.Goals as goal
 

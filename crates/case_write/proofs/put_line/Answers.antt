@@ -1,6 +1,5 @@
 -- By the record's kind: its parts, put one after another, are its line. `Formed` bounds the numbers, and is false of `Wrong`.
 -- Each part ends at most its length after it starts, so no place passes its bound.
-use Prim.Native.Nat.{◌<◌}
 use mathlib.Core.Path.{subst}
 use native.Mathlib.Omega.{arith}
 use Rattle.text_field.specs.Split.{join}
@@ -9,9 +8,7 @@ use Rattle.case_line.specs.Record.{record_text, Formed}
 use Rattle.case_write.specs.Lines.{line_text}
 use Rattle.case_line.proofs.Lengths.{letter_length}
 use Rattle.text_field.proofs.Digits.{text_length}
-use Rattle.text_put.specs.Put.{far_tagged}
 use Rattle.text_put.proofs.Putting.{put_then, put_arm}
-use borrow.Author.Rules.{rules}
 use Rattle.case_write.proofs.put_line.Goals as goal
 
 pub put_tagged-a-requires : goal.put_tagged-a-requires
@@ -28,23 +25,23 @@ put_mark-b-requires c = omega (arith, c.put_tagged-a-in-Bus.ensures.next, text_l
 
 pub put_mark-d-requires : goal.put_mark-d-requires
 put_mark-d-requires c = omega (
-      arith,
-      c.put_mark-b.ensures.next,
-      letter_length c.in-Bus.zero letter_z letter_i,
-      c.put_tagged-a-in-Bus.ensures.next,
-      text_length c.in-Bus.number,
-    )
+  arith,
+  c.put_mark-b.ensures.next,
+  letter_length c.in-Bus.zero letter_z letter_i,
+  c.put_tagged-a-in-Bus.ensures.next,
+  text_length c.in-Bus.number,
+)
 
 pub put_byte-requires-in-Bus : goal.put_byte-requires-in-Bus
 put_byte-requires-in-Bus c = omega (
-      arith,
-      c.put_mark-b.ensures.next,
-      letter_length c.in-Bus.zero letter_z letter_i,
-      c.put_tagged-a-in-Bus.ensures.next,
-      text_length c.in-Bus.number,
-      c.put_mark-d.ensures.next,
-      letter_length c.in-Bus.site letter_y letter_n,
-    )
+  arith,
+  c.put_mark-b.ensures.next,
+  letter_length c.in-Bus.zero letter_z letter_i,
+  c.put_tagged-a-in-Bus.ensures.next,
+  text_length c.in-Bus.number,
+  c.put_mark-d.ensures.next,
+  letter_length c.in-Bus.site letter_y letter_n,
+)
 
 pub put_pair-requires : goal.put_pair-requires
 put_pair-requires c = let f = subst Formed c.in-Line.is c.requires.1 in omega arith
@@ -58,23 +55,23 @@ put_tagged-b-requires c = let f = subst Formed c.in-Circuits.is c.requires.1 in
 
 pub put_tagged-d-requires : goal.put_tagged-d-requires
 put_tagged-d-requires c = let f = subst Formed c.in-Circuits.is c.requires.1 in omega (
-      arith,
-      c.put_tagged-b.ensures.next,
-      text_length c.in-Circuits.y,
-      c.put_tagged-a-in-Circuits.ensures.next,
-      text_length c.in-Circuits.x,
-    )
+  arith,
+  c.put_tagged-b.ensures.next,
+  text_length c.in-Circuits.y,
+  c.put_tagged-a-in-Circuits.ensures.next,
+  text_length c.in-Circuits.x,
+)
 
 pub put_byte-requires-in-Circuits : goal.put_byte-requires-in-Circuits
 put_byte-requires-in-Circuits c = omega (
-      arith,
-      c.put_tagged-b.ensures.next,
-      text_length c.in-Circuits.y,
-      c.put_tagged-a-in-Circuits.ensures.next,
-      text_length c.in-Circuits.x,
-      c.put_tagged-d.ensures.next,
-      text_length c.in-Circuits.k,
-    )
+  arith,
+  c.put_tagged-b.ensures.next,
+  text_length c.in-Circuits.y,
+  c.put_tagged-a-in-Circuits.ensures.next,
+  text_length c.in-Circuits.x,
+  c.put_tagged-d.ensures.next,
+  text_length c.in-Circuits.k,
+)
 
 pub put_tagged-a-requires-in-Pmu : goal.put_tagged-a-requires-in-Pmu
 put_tagged-a-requires-in-Pmu c = let f = subst Formed c.in-Pmu.is c.requires.1 in omega arith

@@ -1,6 +1,5 @@
 -- A tab and then one of two letters: two texts put one after another.
 use Rattle.text_put.proofs.Putting.{put_then}
-use borrow.Author.Rules.{rules}
 use Rattle.case_write.proofs.put_mark.Goals as goal
 
 pub returns-then-t : goal.returns-then-t

@@ -1,6 +1,5 @@
 -- The record is a conditional on the circuits, and the comparison says which of its two it is.
 use borrow.Author.Tests.{lt-ltb, le-ltb}
-use borrow.Author.Rules.{rules}
 use Rattle.grid.specs.Limits.{least_several}
 use Rattle.case_write.proofs.cases.line_record.Goals as goal
 

@@ -1,6 +1,5 @@
 -- `has` answers the two Booleans that `bus_record` has.
 use Rattle.case_write.proofs.Turns.{has-is}
-use borrow.Author.Rules.{rules}
 use Rattle.case_write.proofs.cases.put_bus.Goals as goal
 
 pub returns : goal.returns

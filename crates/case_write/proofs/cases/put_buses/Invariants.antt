@@ -1,12 +1,9 @@
 -- Invariant: the records of the buses from b on are left to put, and each bus passed took at most line_room bytes. b_end - b falls.
-use mathlib.Core.Path.{refl}
 use Prim.Native.Nat.{◌-◌}
-use native.Mathlib.Omega.{arith}
 use Rattle.busset.specs.Sets.{set_of}
 use Rattle.case_read.proofs.Lengths.{line_room}
 use Rattle.case_line.specs.CaseText.{bus_records}
-use Rattle.case_write.proofs.Turns.{Turn, turn_first, turn_bus, turn_all}
-use borrow.Author.Rules.{rules}
+use Rattle.case_write.proofs.Turns.{Turn}
 use Rattle.case_write.proofs.cases.put_buses.Given as goal
 
 abbrev pub invariant-loop-b : goal.invariant-loop-b

@@ -11,27 +11,30 @@ put_buses-b-requires c = omega (arith, put-near c.put_line-a.ensures (line_lengt
 
 pub put_lines-c-requires : goal.put_lines-c-requires
 put_lines-c-requires c = omega (
-      arith,
-      put-near c.put_line-a.ensures (line_length _),
-      put-near c.put_buses-b.ensures (buses_most _ (search rules) _ _),
-    )
+  arith,
+  put-near c.put_line-a.ensures (line_length _),
+  put-near c.put_buses-b.ensures (buses_most _ (search rules) _ _),
+)
 
 pub put_units-d-requires : goal.put_units-d-requires
 put_units-d-requires c = omega (
-      arith,
-      put-near c.put_line-a.ensures (line_length _),
-      put-near c.put_buses-b.ensures (buses_most _ (search rules) _ _),
-      put-near c.put_lines-c.ensures (rows_most _ (search rules) _ _),
-    )
+  arith,
+  put-near c.put_line-a.ensures (line_length _),
+  put-near c.put_buses-b.ensures (buses_most _ (search rules) _ _),
+  put-near c.put_lines-c.ensures (rows_most _ (search rules) _ _),
+)
 
 pub put_line-requires : goal.put_line-requires
-put_line-requires c = (omega (
-      arith,
-      put-near c.put_line-a.ensures (line_length _),
-      put-near c.put_buses-b.ensures (buses_most _ (search rules) _ _),
-      put-near c.put_lines-c.ensures (rows_most _ (search rules) _ _),
-      put-near c.put_units-d.ensures (members_most _ (search rules) _ _),
-    ), tt)
+put_line-requires c = (
+  omega (
+    arith,
+    put-near c.put_line-a.ensures (line_length _),
+    put-near c.put_buses-b.ensures (buses_most _ (search rules) _ _),
+    put-near c.put_lines-c.ensures (rows_most _ (search rules) _ _),
+    put-near c.put_units-d.ensures (members_most _ (search rules) _ _),
+  ),
+  tt,
+)
 
 pub returns : goal.returns
 returns c = put_same (whole _ _ _ _ _) (put_then c.put_line-a.ensures (put_then c.put_buses-b.ensures (put_then

@@ -1,11 +1,8 @@
 -- Invariant: the rows from bus a on are left to put, and each row passed took at most row_room bytes. a-end - a falls.
 use mathlib.Core.Path.{refl}
-use Prim.Native.Nat.{◌-◌}
 use native.Mathlib.Omega.{arith}
-use Rattle.case_read.proofs.Lengths.{row_room}
-use Rattle.grid.specs.Rows.{neighbours, circuits}
 use Rattle.case_line.specs.CaseText.{line_records}
-use Rattle.case_write.proofs.Turns.{Turn, turn_first, turn_row, turn_all}
+use Rattle.case_write.proofs.Turns.{turn_first, turn_row, turn_all}
 use borrow.Author.Rules.{rules}
 use Rattle.case_write.proofs.cases.put_lines.Goals as goal
 

@@ -1,13 +1,10 @@
 -- Invariant: the records of the units from bus b on are left to put, and each bus passed took at most line_room bytes. b_end - b falls.
-use mathlib.Core.Path.{refl}
 use Prim.Native.Nat.{◌-◌}
-use native.Mathlib.Omega.{arith}
 use Rattle.busset.specs.Sets.{set_of}
 use Rattle.case_line.specs.declared.Record.TheVariants.{Pmu}
 use Rattle.case_read.proofs.Lengths.{line_room}
 use Rattle.case_line.specs.CaseText.{members}
-use Rattle.case_write.proofs.Turns.{Turn, turn_first, turn_member, turn_all}
-use borrow.Author.Rules.{rules}
+use Rattle.case_write.proofs.Turns.{Turn}
 use Rattle.case_write.proofs.cases.put_units.Given as goal
 
 abbrev pub invariant-loop-b : goal.invariant-loop-b
