@@ -2,7 +2,7 @@
 use mathlib.Core.Path.{◌≡◌, refl, sym, ap, ◌∙◌, subst}
 use mathlib.Core.Bool.{Bool, true, false, cond}
 use mathlib.Core.List.{List, ◌∷◌, ◌++◌}
-use Prim.Native.Nat.{ℕ, ◌+◌, ◌-◌, ◌≤◌}
+use Prim.Native.Nat.{ℕ, ◌≤◌}
 use native.Mathlib.Omega.{arith}
 use borrow.Author.Tests.{le-ltb}
 use lib.Dec.{ltb}
@@ -30,7 +30,7 @@ use Rattle.case_judge.specs.declared.Judgement.TheVariants.{Next}
 use Rattle.refusals.specs.declared.Refusal.TheVariants.{TextTooLong}
 use Rattle.case_judge.proofs.Judged.{accepted_of, last-place, inside, not_one}
 use Rattle.case_inverse.proofs.Grammars.{not_got, reads-read, read-reads}
-use Rattle.case_inverse.proofs.Places.{Ask, place, answer, same-n}
+use Rattle.case_inverse.proofs.Places.{Ask, answer, same-n}
 use Rattle.case_inverse.proofs.Spots.{bus_place, bus-line, bus-unit}
 use Rattle.case_inverse.proofs.Places.Ask.{zero_at, siteAt, unit_at, line_at}
 use Rattle.case_inverse.proofs.Unique.{Stand, stepped, unique}
