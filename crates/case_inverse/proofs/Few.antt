@@ -87,10 +87,10 @@ lines_from c (suc m) a h k p q =
     (lines_from c m (a + 1) (omega arith) (omega arith)) p (omega (arith, line-rises a 0 (a + 1) (omega arith)))
 
 -- nothing is answered between where the reader stands and its next record
-quiet : {s : Reader} {p : ℕ} {c : Case} (r : Record) (q : Ask) → Stand s p → Stepped s p r → Settled c (next_reader s r) (record_place r)
+quiet : {s : Reader} {p : ℕ} (c : Case) (r : Record) (q : Ask) → Stand s p → Stepped s p r → Settled c (next_reader s r) (record_place r)
     → AskInRange q
     → p < place q → place q < record_place r → answer c q ≡ 0
-quiet {s} r q t u m h l k =
+quiet {s} c r q t u m h l k =
     m q h (omega arith) ∙ unchanged s r q t.at.sized t.grid u.fact h (λ e. omega arith) ∙ t.at.fresh q h l
 
 -- what is left to read after a record has room for so many lines of c beyond it
@@ -109,7 +109,7 @@ few-line {s} {p} {x} {c} {r} {i} {j} t y e d a b L g f u on =
     let at = line-place y in
     ⊎_elim
     (λ (l : line_place a b < record_place r).
-    absurd (omega (arith, g.is, quiet {c = c} r (line_at a b) t u (settled u.on d) g.pair g.past l)))
+    absurd (omega (arith, g.is, quiet c r (line_at a b) t u (settled u.on d) g.pair g.past l)))
     (λ (l : record_place r ≤ line_place a b). ⊎_elim
     (λ (q : line_place a b ≡ record_place r). omega (arith, after, on (omega arith) L (subst (λ (w : ℕ). Rising c w L) q f)))
     (λ (q : line_place a b ≡ record_place r → ⊥).
@@ -128,7 +128,7 @@ few-turn t l (Line i j) e d a b L g f u on = few-line t single e d a b L g f u o
 few-turn t l (Circuits i j k) e d a b L g f u on = few-line t (multiple u.fact.1) e d a b L g f u on
 few-turn {s} {c = c} t l (Pmu k) e d a b L g f u on =
     let y = g.pair in
-    absurd (omega (arith, g.is, quiet {c = c} (Pmu k) (line_at a b) t u (settled u.on d) y g.past (pair-unit a b k y)))
+    absurd (omega (arith, g.is, quiet c (Pmu k) (line_at a b) t u (settled u.on d) y g.past (pair-unit a b k y)))
 few-turn {s} t l End e d a b L g f u on = absurd (not_end s.place End e refl)
 few-turn {s} t l Wrong e d a b L g f u on = absurd u.fact
 

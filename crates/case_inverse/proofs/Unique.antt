@@ -63,10 +63,10 @@ settled {s} {p} t (goes r e d) q h l =
 -- ---- the next record is determined by the case
 
 -- a question that r answers with more than 0 is not passed over
-missed : {s : Reader} {p : ℕ} {c : Case} (r r' : Record) (q : Ask) → Stand s p → Stepped s p r → Stepped s p r'
+missed : {s : Reader} {p : ℕ} (c : Case) (r r' : Record) (q : Ask) → Stand s p → Stepped s p r → Stepped s p r'
     → Settled c (next_reader s r) (record_place r) → Settled c (next_reader s r') (record_place r')
     → AskInRange q → place q ≡ record_place r → 0 < answer (case_so_far (next_reader s r)) q → record_place r < record_place r' → ⊥
-missed {s} {p} {c} r r' q t u v m m' h e some l =
+missed {s} {p} c r r' q t u v m m' h e some l =
     omega (
       arith,
       m q h (omega arith),
@@ -106,7 +106,7 @@ line-record {a = a} {b = b} t y (Pmu j) same f e v passed = absurd (passed (omeg
 line-record {s} t y End same f e v passed = absurd (not_end s.place End e refl)
 line-record t y Wrong same f e v passed = absurd v.fact
 
-module _ {s : Reader} {p : ℕ} {c : Case} (t : Stand s p) where
+module _ {s : Reader} {p : ℕ} (c : Case) (t : Stand s p) where
   buses : (k j : ℕ) (z o y w : Bool) → Stepped s p (Bus k z o) → Stepped s p (Bus j y w) →
       Settled c (next_reader s (Bus k z o)) (bus_place k) → Settled c (next_reader s (Bus j y w)) (bus_place j) → Bus k z o ≡ Bus j y w
   buses k j z o y w u v m n =
@@ -127,14 +127,14 @@ module _ {s : Reader} {p : ℕ} {c : Case} (t : Stand s p) where
       → Settled c (next_reader s r) (record_place r) → Settled c (next_reader s q) (record_place q)
       → record_place r < record_place q → ⊥
   line_missed {r} {a} {b} y q u v m n l =
-      missed {c = c} r q (line_at a b) t u v m n (line-pair s.place y u.fact) (sym (line-place y))
+      missed c r q (line_at a b) t u v m n (line-pair s.place y u.fact) (sym (line-place y))
       (omega (arith, line-answered t y u)) l
 
   unit_missed : (k : ℕ) (r : Record) → Stepped s p (Pmu k) → Stepped s p r → Settled c (next_reader s (Pmu k)) (record_place (Pmu k))
       → Settled c (next_reader s r) (record_place r)
       → record_place (Pmu k) < record_place r → ⊥
   unit_missed k r u v m n l =
-      missed {c = c} (Pmu k) r (unit_at k) t u v m n u.fact.bus refl
+      missed c (Pmu k) r (unit_at k) t u v m n u.fact.bus refl
       (omega (arith, hold-here s.marks.units k u.fact.bus.some)) l
 
   lines : {r q : Record} {a b k i j h : ℕ} → LineBy r a b k → LineBy q i j h → Stepped s p r → Stepped s p q
@@ -243,16 +243,16 @@ unique {s} {p} {y = y} t (ends e) d =
     (λ (w : Ended s y (case_so_far s)). sym w.text)
     (λ (w : Went s y (case_so_far s)).
     let u = stepped w.by t w.told in
-    absurd (no_more t w.by refl (past-buses s.place (last-place s.place End e)) w.told u (settled u.on w.on)))
+    absurd (no_more (case_so_far s) t w.by refl (past-buses s.place (last-place s.place End e)) w.told u (settled u.on w.on)))
     (seen d)
 unique {s} {p} {y = y} {c = c} t (goes r {x = x} e g) d =
     let u = stepped r t e in
     ⊎_elim
     (λ (w : Ended s y c). absurd
-    (no_more t r w.is (past-buses s.place (last-place s.place End w.last)) e u (settled u.on g)))
+    (no_more c t r w.is (past-buses s.place (last-place s.place End w.last)) e u (settled u.on g)))
     (λ (w : Went s y c).
     let v = stepped w.by t w.told in
-    let f : r ≡ w.by = same_record {c = c} t r w.by e w.told u v (settled u.on g) (settled v.on w.on) in
+    let f : r ≡ w.by = same_record c t r w.by e w.told u v (settled u.on g) (settled v.on w.on) in
     let h : ReadsAs (next_reader s r) w.rest c = subst (λ (b : Record). ReadsAs (next_reader s b) w.rest c) (sym f) w.on in
     ap₂ (λ (b : Record) (z : List ℕ). record_text b ++ line_feed ∷ z) f (unique u.on g h) ∙ sym w.text)
     (seen d)

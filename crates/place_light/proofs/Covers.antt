@@ -13,7 +13,7 @@ use Rattle.rules.specs.Grids.{Grid}
 use Rattle.rules.specs.Observation.{ZeroRules, Closed}
 use Rattle.rules.specs.Placing.{with_units, Full, placed}
 use Rattle.rules.proofs.Covering.{closed-fewer, placed_of, placed_max, size-placed}
-use Rattle.place_light.specs.Ways.{Way, NoWay, ItemCover, Meets, Group, direct, Cover, Uncoverable}
+use Rattle.place_light.specs.Ways.{Way, NoWay, Meets, Group, direct, Cover, Uncoverable}
 
 -- ---- what units give directly
 

@@ -1,7 +1,7 @@
 -- O2 at one Z bus with the neighbours m, by how many of them s lacks.
 use mathlib.Core.Path.{◌≡◌}
 use mathlib.Core.Logic.{⊎_elim}
-use Prim.Native.Nat.{ℕ, ◌-◌}
+use Prim.Native.Nat.{ℕ}
 use native.Mathlib.Omega.{arith}
 use Rattle.busset.specs.Sets.{In, Out, Sub, lack, size}
 use Rattle.busset.proofs.Members.{in_or, lack-at}

@@ -1,6 +1,6 @@
 -- Weaving a received list, and shuffles of the desks' lists.
 use Rattle.std.specs.Prelude.{◌≡◌, List, [], ◌∷◌, ℕ, zero, suc}
-use Rattle.basics.specs.Lists.{Each, Some}
+use Rattle.basics.specs.Lists.{Each}
 use Rattle.busset.specs.Sets.{bit, Out, empty, add}
 use Rattle.step.specs.declared.Step.{Step}
 use Rattle.rules.specs.Grids.{Grid}

@@ -1,5 +1,4 @@
 -- A shift by 8 i and the mask 255 give byte i, since 256 ^ i is 2 ^ (8 i).
-use borrow.Author.Rules.{rules}
 use native.Mathlib.Omega.{arith}
 use Rattle.busset.proofs.Packing.{byte_cut, byte_small}
 use Rattle.busset.proofs.byte_of.Goals as goal

@@ -1,5 +1,4 @@
 -- Bus b is the digit b - 1 of the word, which the shift and the mask by 1 give.
-use borrow.Author.Rules.{rules}
 use Rattle.busset.proofs.Words.{has_test}
 use Rattle.busset.proofs.has.Goals as goal
 

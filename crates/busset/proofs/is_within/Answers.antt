@@ -1,5 +1,4 @@
 -- A set is within 1 to n exactly if it is a subset of the buses 1 to n.
-use borrow.Author.Rules.{rules}
 use Rattle.busset.proofs.Members.{within-test}
 use Rattle.busset.proofs.is_within.Goals as goal
 

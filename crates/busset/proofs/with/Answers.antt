@@ -1,5 +1,4 @@
 -- 1 << (b - 1) has the digit b - 1 alone, and `|` keeps every other digit.
-use borrow.Author.Rules.{rules}
 use Rattle.busset.specs.Sets.{width}
 use Rattle.busset.proofs.Words.{with_law}
 use Rattle.busset.proofs.with.Goals as goal

@@ -1,5 +1,4 @@
 -- The set of b alone, subtracted from s, takes b and no other bus, so one bus fewer is left if b was in s.
-use borrow.Author.Rules.{rules}
 use Rattle.busset.proofs.Words.{without_law, empty-set}
 use Rattle.busset.proofs.without.Goals as goal
 

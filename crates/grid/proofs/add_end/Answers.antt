@@ -3,7 +3,6 @@ use mathlib.Core.Path.{◌≡◌}
 use mathlib.Core.Bool.{true}
 use Prim.Native.Nat.{ℕ}
 use Rattle.grid.specs.Rows.{Rows, with_bit, with_circuits, with_end}
-use borrow.Author.Rules.{rules}
 use Rattle.grid.proofs.add_end.Goals as goal
 
 -- the rows after both

@@ -2,7 +2,6 @@
 use mathlib.Core.Path.{◌≡◌}
 use Prim.Native.Nat.{ℕ}
 use Rattle.grid.specs.Rows.{Rows, with_end, with_line}
-use borrow.Author.Rules.{rules}
 use Rattle.grid.proofs.add_line.Goals as goal
 
 -- the rows after both

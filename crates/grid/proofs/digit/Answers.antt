@@ -1,7 +1,6 @@
 -- A bus is in a set or not, and its digit is 1 or 0.
 use Rattle.basics.proofs.Tests.{refutes}
 use Rattle.grid.proofs.Rows.{digit_in, digit-out}
-use borrow.Author.Rules.{rules}
 use Rattle.grid.proofs.digit.Goals as goal
 
 pub returns-then-has : goal.returns-then-has

@@ -7,7 +7,6 @@ use Rattle.busset.specs.Sets.{Sub, All}
 use Rattle.basics.proofs.Tests.{decides-by}
 use Rattle.busset.proofs.Members.{sub_of}
 use Rattle.rules.specs.Placing.{Full}
-use borrow.Author.Rules.{rules}
 use Rattle.grid.proofs.is_full.Goals as goal
 
 full-test : (n s : ℕ) {a : ℕ} {r : Bool} → All n a → Decides (Sub a s) r → Decides (Full n s) r

@@ -1,7 +1,6 @@
 -- As many words of no bus as the array is long.
 use mathlib.Core.Path.{ap}
 use lib.ListN.{replicate}
-use borrow.Author.Rules.{rules}
 use Rattle.grid.specs.Rows.{rows_length}
 use Rattle.grid.proofs.no_rows.Goals as goal
 

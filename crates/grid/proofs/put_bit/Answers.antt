@@ -5,7 +5,6 @@ use Prim.Native.Nat.{ℕ}
 use Rattle.busset.specs.Sets.{add, less}
 use Rattle.busset.specs.Held.{SetWord, word_of}
 use Rattle.grid.specs.Rows.{Rows, set_at, with_set, with_bit}
-use borrow.Author.Rules.{rules}
 use Rattle.grid.proofs.put_bit.Goals as goal
 
 -- the rows after the set is put

@@ -1,6 +1,5 @@
 -- The neighbours are the first set.
 use Rattle.grid.specs.Rows.{neighbours}
-use borrow.Author.Rules.{rules}
 use Rattle.grid.proofs.row.Goals as goal
 
 pub returns : goal.returns

@@ -1,6 +1,5 @@
 -- The sets are in bus order, so set i of bus b is at bus_sets * (b - 1) + i.
 use Rattle.grid.proofs.Rows.{set-at}
-use borrow.Author.Rules.{rules}
 use Rattle.grid.proofs.set_at.Goals as goal
 
 pub returns : goal.returns

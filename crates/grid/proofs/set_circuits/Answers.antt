@@ -3,7 +3,6 @@ use mathlib.Core.Path.{◌≡◌}
 use mathlib.Core.Bool.{Bool}
 use Prim.Native.Nat.{ℕ, ◌/◌}
 use Rattle.grid.specs.Rows.{Rows, with_bit, is_odd, with_circuits}
-use borrow.Author.Rules.{rules}
 use Rattle.grid.proofs.set_circuits.Goals as goal
 
 -- the rows after each digit

@@ -3,7 +3,6 @@ use mathlib.Core.Path.{refl, ap, ◌∙◌}
 use Rattle.busset.specs.Held.{word_of}
 use Rattle.busset.proofs.Holding.{with-is, word_own}
 use Rattle.busset.proofs.Members.{without-less}
-use borrow.Author.Rules.{rules}
 use Rattle.grid.proofs.with_if.Goals as goal
 
 pub returns-then-t : goal.returns-then-t

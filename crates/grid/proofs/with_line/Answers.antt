@@ -4,7 +4,6 @@ use Prim.Native.Nat.{ℕ}
 use Rattle.grid.specs.Rows.{Rows, with_line}
 use Rattle.grid.specs.Cases.{case_of, line_added}
 use Rattle.grid.specs.declared.Case.{Case}
-use borrow.Author.Rules.{rules}
 use Rattle.grid.proofs.with_line.Goals as goal
 
 -- the case of the changed rows

@@ -1,6 +1,5 @@
 -- The letter is compared as `if_letter` compares it.
 use Rattle.step.proofs.Reasons.{letter_hit, letter_miss}
-use borrow.Author.Rules.{rules}
 use Rattle.step.proofs.if_letter.Goals as goal
 
 pub returns-then-l-letter : goal.returns-then-l-letter

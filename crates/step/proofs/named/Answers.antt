@@ -1,5 +1,4 @@
 -- By the reason, as `named_by`.
-use borrow.Author.Rules.{rules}
 use Rattle.step.proofs.named.Goals as goal
 
 pub returns-in-NeighbourOf : goal.returns-in-NeighbourOf

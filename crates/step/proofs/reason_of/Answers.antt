@@ -1,5 +1,4 @@
 -- By whether a bus is named: the letters are asked as `reason_of` asks them.
-use borrow.Author.Rules.{rules}
 use Rattle.step.proofs.reason_of.Goals as goal
 
 pub returns-in-Nothing : goal.returns-in-Nothing

@@ -1,5 +1,4 @@
 -- Three exits: no digit, no number so far, or a number that must have fewer digits than the most. `takes_digit` joins the same three.
-use borrow.Author.Rules.{rules}
 use borrow.Author.Tests.{lt-ltb, le-ltb}
 use Rattle.text_field.proofs.Tested.{held, failed}
 use Rattle.text_field.specs.Number.{takes_digit}

@@ -1,8 +1,6 @@
 -- Invariant: the texts are as long, and are the same exactly if they are so from i on. length a - i falls.
-use Prim.Native.Nat.{◌-◌}
 use borrow.Author.Rules.{rules}
-use lib.ListN.{length}
-use Rattle.text_field.proofs.Cutting.{Alike, same-no, alike-none, alike-more, alike_not, alike_all}
+use Rattle.text_field.proofs.Cutting.{same-no, alike-none, alike-more, alike_not, alike_all}
 use Rattle.text_field.proofs.is_same.Goals as goal
 
 pub returns-then-a-b : goal.returns-then-a-b

@@ -1,8 +1,7 @@
 -- Invariant: the texts are as long, and are the same exactly if they are so from i on. length a - i falls.
 use Prim.Native.Nat.{◌-◌}
-use borrow.Author.Rules.{rules}
 use lib.ListN.{length}
-use Rattle.text_field.proofs.Cutting.{Alike, same-no, alike-none, alike-more, alike_not, alike_all}
+use Rattle.text_field.proofs.Cutting.{Alike}
 use Rattle.text_field.proofs.is_same.Given as goal
 
 abbrev pub invariant-loop-i : goal.invariant-loop-i

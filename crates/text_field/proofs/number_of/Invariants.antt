@@ -1,11 +1,7 @@
 -- Invariant: v is below most_read, and the field's number is v with the digits from i on. length s - i falls.
 use Prim.Native.Nat.{◌-◌}
-use native.Mathlib.Omega.{arith}
-use borrow.Author.Rules.{rules}
 use lib.ListN.{length}
-use Rattle.text_field.proofs.Tested.{held, failed}
-use Rattle.text_field.proofs.Numbers.{Sofar, digit-of, taken_of, no-digits, first-wrong}
-use Rattle.text_field.proofs.Numbers.{first-digit, next-wrong, next-digit, all_digits}
+use Rattle.text_field.proofs.Numbers.{Sofar}
 use Rattle.text_field.proofs.number_of.Given as goal
 
 abbrev pub invariant-loop-i : goal.invariant-loop-i

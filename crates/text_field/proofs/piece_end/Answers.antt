@@ -1,8 +1,6 @@
 -- Invariant: no byte from `from` up to i is c. length s - i falls. At a c, or at the end of s, that is the whole piece.
-use Prim.Native.Nat.{◌-◌}
 use borrow.Author.Rules.{rules}
-use lib.ListN.{length}
-use Rattle.text_field.proofs.Cutting.{FreeUpTo, passed_none, passed-more, passed-at, passed-all}
+use Rattle.text_field.proofs.Cutting.{passed_none, passed-more, passed-at, passed-all}
 use Rattle.text_field.proofs.piece_end.Goals as goal
 
 pub loop-i-init : goal.loop-i-init

@@ -1,8 +1,7 @@
 -- Invariant: no byte from `from` up to i is c. length s - i falls. At a c, or at the end of s, that is the whole piece.
 use Prim.Native.Nat.{◌-◌}
-use borrow.Author.Rules.{rules}
 use lib.ListN.{length}
-use Rattle.text_field.proofs.Cutting.{FreeUpTo, passed_none, passed-more, passed-at, passed-all}
+use Rattle.text_field.proofs.Cutting.{FreeUpTo}
 use Rattle.text_field.proofs.piece_end.Given as goal
 
 abbrev pub invariant-loop-i : goal.invariant-loop-i

@@ -1,8 +1,6 @@
 -- Invariant: the first i bytes of s are put, and k is at + i. length s - i falls.
-use Prim.Native.Nat.{◌-◌}
 use borrow.Author.Rules.{rules}
-use lib.ListN.{length}
-use Rattle.text_put.proofs.Putting.{Filled, filled_none, filled_more, filled-all, put_length}
+use Rattle.text_put.proofs.Putting.{filled_none, filled_more, filled-all, put_length}
 use Rattle.text_put.proofs.put_all.Goals as goal
 
 pub loop-i-init : goal.loop-i-init

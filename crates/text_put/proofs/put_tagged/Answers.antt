@@ -1,6 +1,5 @@
 -- Two texts put one after another are put as one.
 use Rattle.text_put.proofs.Putting.{put_then}
-use borrow.Author.Rules.{rules}
 use Rattle.text_put.proofs.put_tagged.Goals as goal
 
 pub returns : goal.returns

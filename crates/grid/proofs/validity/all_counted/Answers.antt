@@ -1,14 +1,10 @@
 -- The buses below a count right; a rises past the most buses. A number that is no bus has no sets, so all are then checked.
-use Prim.Native.Nat.{suc, ◌-◌, ◌≤◌}
 use native.Mathlib.Omega.{arith}
 use borrow.Author.Rules.{rules}
-use borrow.Author.Tests.{not-true, not-false}
-use Rattle.grid.specs.Limits.{most_buses}
 use Rattle.basics.proofs.Tests.{refutes, decides-no, decides-yes}
-use Rattle.grid.specs.Counting.{CountsAt}
 use Rattle.grid.proofs.Rows.{set-none, set_past}
 use Rattle.grid.proofs.Counting.{bare-counts}
-use Rattle.grid.proofs.Checking.{CheckedBelow, below_first, below_next, below_all}
+use Rattle.grid.proofs.Checking.{below_first, below_next, below_all}
 use Rattle.grid.proofs.validity.all_counted.Goals as goal
 
 pub loop-a-init : goal.loop-a-init
@@ -23,14 +19,14 @@ returns-then-not-is_alike c = decides-no (λ all. refutes c.is_alike.ensures c.i
 
 pub loop-a-preserved : goal.loop-a-preserved
 loop-a-preserved c = let here = c.is_counted.ensures.yes c.if-not-is_counted.false in (
-      search rules,
-      search rules,
-      below_next c.loop-a.invariant.2 (record {
-        joined = here.0;
-        others = here.1;
-        mirrored = c.is_alike.ensures.yes c.if-not-is_alike.false;
-      }),
-    )
+  search rules,
+  search rules,
+  below_next c.loop-a.invariant.2 (record {
+    joined = here.0;
+    others = here.1;
+    mirrored = c.is_alike.ensures.yes c.if-not-is_alike.false;
+  }),
+)
 
 pub returns : goal.returns
 returns c = let rows = c.args.nbr.now in

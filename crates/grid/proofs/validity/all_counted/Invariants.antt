@@ -1,14 +1,8 @@
 -- The buses below a count right; a rises past the most buses. A number that is no bus has no sets, so all are then checked.
 use Prim.Native.Nat.{suc, ◌-◌, ◌≤◌}
-use native.Mathlib.Omega.{arith}
-use borrow.Author.Rules.{rules}
-use borrow.Author.Tests.{not-true, not-false}
 use Rattle.grid.specs.Limits.{most_buses}
-use Rattle.basics.proofs.Tests.{refutes, decides-no, decides-yes}
 use Rattle.grid.specs.Counting.{CountsAt}
-use Rattle.grid.proofs.Rows.{set-none, set_past}
-use Rattle.grid.proofs.Counting.{bare-counts}
-use Rattle.grid.proofs.Checking.{CheckedBelow, below_first, below_next, below_all}
+use Rattle.grid.proofs.Checking.{CheckedBelow}
 use Rattle.grid.proofs.validity.all_counted.Given as goal
 
 abbrev pub invariant-loop-a : goal.invariant-loop-a

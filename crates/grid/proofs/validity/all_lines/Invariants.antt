@@ -1,14 +1,9 @@
 -- The buses below b have only lines; b rises past the most buses. A number that is no bus has no row, so all buses are then checked.
 use Prim.Native.Nat.{suc, ◌-◌, ◌≤◌}
-use native.Mathlib.Omega.{arith}
-use borrow.Author.Rules.{rules}
-use borrow.Author.Tests.{not-true, not-false}
 use Rattle.grid.specs.Limits.{most_buses}
-use Rattle.basics.proofs.Tests.{refutes, decides-no, decides-yes}
 use Rattle.grid.specs.Rows.{neighbours}
 use Rattle.grid.specs.Cases.{LinesAt}
-use Rattle.grid.proofs.Rows.{row_zero, row-past}
-use Rattle.grid.proofs.Checking.{CheckedBelow, below_first, below_next, below_all, bare-lines}
+use Rattle.grid.proofs.Checking.{CheckedBelow}
 use Rattle.grid.proofs.validity.all_lines.Given as goal
 
 abbrev pub invariant-loop-b : goal.invariant-loop-b

@@ -1,11 +1,11 @@
 -- The sum has the lines of the buses below b, each at its higher bus; b rises to n + 1. A row adds at most 64, so the sum fits.
-use Prim.Native.Nat.{ℕ, ◌+◌, ◌-◌, ◌≤◌}
+use Prim.Native.Nat.{ℕ, ◌-◌}
 use mathlib.Core.Path.{◌≡◌, refl, ap, ◌∙◌}
 use native.Mathlib.Omega.{arith}
 use borrow.Author.Rules.{rules}
 use Rattle.rules.specs.Grids.{line_count}
 use Rattle.grid.specs.Rows.{neighbours}
-use Rattle.grid.proofs.Summing.{Summed, summed-none, summed-more}
+use Rattle.grid.proofs.Summing.{summed-none, summed-more}
 use Rattle.grid.proofs.validity.count_lines.Goals as goal
 
 pub loop-b-init : goal.loop-b-init
@@ -13,11 +13,11 @@ loop-b-init c = (search rules, refl, summed-none _)
 
 pub loop-b-preserved : goal.loop-b-preserved
 loop-b-preserved c = (
-      search rules,
-      refl,
-      summed-more c.loop-b.invariant.2 c.row.ensures c.up_to.ensures
-          c.count-sum.ensures.is c.count-sum.ensures.most,
-    )
+  search rules,
+  refl,
+  summed-more c.loop-b.invariant.2 c.row.ensures c.up_to.ensures
+      c.count-sum.ensures.is c.count-sum.ensures.most,
+)
 
 pub returns : goal.returns
 returns c = let inv = c.loop-b.invariant in

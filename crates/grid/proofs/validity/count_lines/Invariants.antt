@@ -1,11 +1,8 @@
 -- The sum has the lines of the buses below b, each at its higher bus; b rises to n + 1. A row adds at most 64, so the sum fits.
-use Prim.Native.Nat.{ℕ, ◌+◌, ◌-◌, ◌≤◌}
-use mathlib.Core.Path.{◌≡◌, refl, ap, ◌∙◌}
-use native.Mathlib.Omega.{arith}
-use borrow.Author.Rules.{rules}
-use Rattle.rules.specs.Grids.{line_count}
+use Prim.Native.Nat.{◌+◌, ◌-◌, ◌≤◌}
+use mathlib.Core.Path.{◌≡◌}
 use Rattle.grid.specs.Rows.{neighbours}
-use Rattle.grid.proofs.Summing.{Summed, summed-none, summed-more}
+use Rattle.grid.proofs.Summing.{Summed}
 use Rattle.grid.proofs.validity.count_lines.Given as goal
 
 abbrev pub invariant-loop-b : goal.invariant-loop-b

@@ -1,7 +1,5 @@
 -- Each digit that is not mirrored decides no. The last is the answer.
-use borrow.Author.Tests.{not-true, not-false}
 use Rattle.basics.proofs.Tests.{refutes, decides-no, decides-by}
-use borrow.Author.Rules.{rules}
 use Rattle.grid.proofs.validity.is_alike.Goals as goal
 
 pub returns-then-not-is_mirrored : goal.returns-then-not-is_mirrored

@@ -1,8 +1,6 @@
 -- The highest digit alone is the most circuits. So the counts are right where it shares no bus, and the digits are the neighbours.
-use borrow.Author.Tests.{not-true, not-false}
 use Rattle.basics.proofs.Tests.{refutes, decides-no, decides-by}
 use Rattle.grid.proofs.Counting.{digit_sets, counted_apart, counted_same, same_counted}
-use borrow.Author.Rules.{rules}
 use Rattle.grid.proofs.validity.is_counted.Goals as goal
 
 pub returns-then-not-is_none : goal.returns-then-not-is_none

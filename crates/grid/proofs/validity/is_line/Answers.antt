@@ -1,6 +1,5 @@
 -- Each test that fails refutes one field of Line. The last, whether b is joined to a, is the answer.
 use native.Mathlib.Omega.{arith}
-use borrow.Author.Rules.{rules}
 use Rattle.basics.proofs.Tests.{decides-no}
 use Rattle.grid.proofs.Checking.{line_test}
 use Rattle.grid.proofs.validity.is_line.Goals as goal

@@ -1,13 +1,8 @@
 -- The buses of the set that are not left have b in theirs; fewer are left each turn. One that has not decides no.
-use native.Mathlib.Omega.{arith}
-use borrow.Author.Rules.{rules}
-use borrow.Author.Tests.{not-true, not-false}
 use Prim.Native.Nat.{ℕ}
 use Rattle.busset.specs.Sets.{In, set_of, size}
-use Rattle.busset.proofs.Members.{decides_in}
-use Rattle.basics.proofs.Tests.{refutes, decides-no, decides-yes}
 use Rattle.grid.specs.Rows.{set_at}
-use Rattle.grid.proofs.Checking.{Checked, checked_none, checked_more, checked_all, checked_fails}
+use Rattle.grid.proofs.Checking.{Checked}
 use Rattle.grid.proofs.validity.is_mirrored.Given as goal
 
 abbrev pub invariant-loop-a : goal.invariant-loop-a

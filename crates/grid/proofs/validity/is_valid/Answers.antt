@@ -1,7 +1,5 @@
 -- Each test that fails refutes one field of Valid. If none fails, what the tests decide are the fields.
 use native.Mathlib.Omega.{arith}
-use borrow.Author.Rules.{rules}
-use borrow.Author.Tests.{not-true, not-false}
 use Rattle.basics.proofs.Tests.{refutes, decides-no, decides-le}
 use Rattle.grid.proofs.Checking.{valid-counts, valid-test}
 use Rattle.grid.proofs.validity.is_valid.Goals as goal

@@ -2,7 +2,6 @@
 use mathlib.Core.Path.{sym}
 use Rattle.basics.proofs.Tests.{refutes}
 use Rattle.busset.proofs.Members.{out_of}
-use borrow.Author.Rules.{rules}
 use Rattle.observe.proofs.figure.seen.Goals as goal
 
 pub returns-then-has : goal.returns-then-has

@@ -1,6 +1,5 @@
 -- With a degree of at most 64 and at most 65 observed, neither the difference nor the sum leaves an i32.
 use Rattle.observe.proofs.Signed.{less_fits, sum_fits, sum_result}
-use borrow.Author.Rules.{rules}
 use Rattle.observe.proofs.figure.signed_sum.Goals as goal
 
 pub overflow_sub-result : goal.overflow_sub-result

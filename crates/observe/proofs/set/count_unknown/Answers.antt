@@ -1,10 +1,9 @@
 -- What is counted and what is left make up the unknown; fewer are left each turn.
 use native.Mathlib.Omega.{arith}
-use borrow.Author.Tests.{not-true, not-false}
-use Rattle.busset.specs.Sets.{set_of, size, width}
+use Rattle.busset.specs.Sets.{width}
 use Rattle.basics.proofs.Tests.{refutes}
 use Rattle.busset.proofs.Words.{set-size}
-use Rattle.observe.proofs.Counting.{Tallied, tallied-none, tallied-more, tallied-all}
+use Rattle.observe.proofs.Counting.{tallied-none, tallied-more, tallied-all}
 use borrow.Author.Rules.{rules}
 use Rattle.observe.proofs.set.count_unknown.Goals as goal
 

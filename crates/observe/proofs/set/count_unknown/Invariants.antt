@@ -1,11 +1,6 @@
 -- What is counted and what is left make up the unknown; fewer are left each turn.
-use native.Mathlib.Omega.{arith}
-use borrow.Author.Tests.{not-true, not-false}
-use Rattle.busset.specs.Sets.{set_of, size, width}
-use Rattle.basics.proofs.Tests.{refutes}
-use Rattle.busset.proofs.Words.{set-size}
-use Rattle.observe.proofs.Counting.{Tallied, tallied-none, tallied-more, tallied-all}
-use borrow.Author.Rules.{rules}
+use Rattle.busset.specs.Sets.{set_of, size}
+use Rattle.observe.proofs.Counting.{Tallied}
 use Rattle.observe.proofs.set.count_unknown.Given as goal
 
 abbrev pub invariant-loop-b : goal.invariant-loop-b

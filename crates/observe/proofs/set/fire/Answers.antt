@@ -1,7 +1,6 @@
 -- With one unknown the union adds just that one, which O2 gives. Otherwise O2 gives nothing, and s stays.
 use mathlib.Core.Path.{sym, ◌∙◌}
 use Rattle.observe.proofs.Firing.{fires-one, fires_not}
-use borrow.Author.Rules.{rules}
 use Rattle.observe.proofs.set.fire.Goals as goal
 
 pub returns-then-count_unknown-eq1 : goal.returns-then-count_unknown-eq1

@@ -1,6 +1,5 @@
 -- What the units give by O1, spread by O2, is the observed set.
 use Rattle.observe.proofs.Passing.{spread-observed}
-use borrow.Author.Rules.{rules}
 use Rattle.observe.proofs.set.observed.Goals as goal
 
 pub returns : goal.returns

@@ -1,12 +1,11 @@
 -- The set holds s and no more than O2 gives. A sweep that changes it makes it larger, so that what it lacks of 64 buses falls.
-use Prim.Native.Nat.{◌-◌, ◌≤◌}
+use Prim.Native.Nat.{◌≤◌}
 use native.Mathlib.Omega.{arith}
 use Rattle.busset.specs.Sets.{set_of, size, width}
 use Rattle.basics.proofs.Tests.{refutes}
 use Rattle.busset.proofs.Sizes.{size_lt}
 use Rattle.busset.proofs.Words.{set-size}
-use Rattle.grid.specs.Rows.{neighbours}
-use Rattle.observe.proofs.Passing.{Spreading, spreading-none, spreading-more, spreading-all}
+use Rattle.observe.proofs.Passing.{spreading-none, spreading-more, spreading-all}
 use borrow.Author.Rules.{rules}
 use Rattle.observe.proofs.set.spread.Goals as goal
 

@@ -1,11 +1,7 @@
 -- The Z buses of s that are not left have fired, with no more than O2 gives; fewer are left each turn. If r is s, each had fired.
-use native.Mathlib.Omega.{arith}
-use borrow.Author.Tests.{not-true, not-false}
 use Rattle.busset.specs.Sets.{set_of, size}
-use Rattle.basics.proofs.Tests.{refutes}
 use Rattle.grid.specs.Rows.{neighbours}
-use Rattle.observe.proofs.Passing.{Sweeping, sweeping-none, sweeping-more, sweeping-all}
-use borrow.Author.Rules.{rules}
+use Rattle.observe.proofs.Passing.{Sweeping}
 use Rattle.observe.proofs.set.sweep.Given as goal
 
 abbrev pub invariant-loop-w : goal.invariant-loop-w

@@ -1,8 +1,6 @@
 -- The unit, then the line: each test that says no refutes its part of `ByUnit`.
-use borrow.Author.Tests.{not-true, not-false}
 use Rattle.basics.proofs.Tests.{refutes, decides-no}
 use Rattle.observe.proofs.Holding.{unit_test}
-use borrow.Author.Rules.{rules}
 use Rattle.observe.proofs.test.by_unit.Goals as goal
 
 pub returns-then-not-has : goal.returns-then-not-has

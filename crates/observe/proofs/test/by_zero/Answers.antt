@@ -1,8 +1,6 @@
 -- The four parts of `ByZero` in their order: the last holds if all neighbours of w are in s with b.
-use borrow.Author.Tests.{not-true, not-false}
 use Rattle.basics.proofs.Tests.{refutes, decides-no}
 use Rattle.observe.proofs.Holding.{zero_test, not_joined}
-use borrow.Author.Rules.{rules}
 use Rattle.observe.proofs.test.by_zero.Goals as goal
 
 pub returns-then-not-has : goal.returns-then-not-has

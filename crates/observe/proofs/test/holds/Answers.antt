@@ -3,7 +3,6 @@ use Rattle.busset.specs.Sets.{set_of}
 use Rattle.grid.specs.Cases.{grid_with}
 use Rattle.step.specs.declared.Reason.TheVariants.{OwnUnit, NeighbourOf, ZeroInjection}
 use Rattle.observe.proofs.Holding.{reason-names, holds_by}
-use borrow.Author.Rules.{rules}
 use Rattle.observe.proofs.test.holds.Goals as goal
 
 pub by_unit-requires : goal.by_unit-requires

@@ -1,9 +1,7 @@
 -- The step's bus, then the bus that its reason names, if it names one.
-use borrow.Author.Tests.{not-true, not-false}
 use Rattle.basics.proofs.Tests.{refutes, decides-yes, decides-no}
 use Rattle.step.specs.declared.NamedBus.TheVariants.{Nothing, Bus as BusNamed}
 use Rattle.observe.proofs.Holding.{names-by}
-use borrow.Author.Rules.{rules}
 use Rattle.observe.proofs.test.names.Goals as goal
 
 pub returns-then-not-is_bus : goal.returns-then-not-is_bus

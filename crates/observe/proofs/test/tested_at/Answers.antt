@@ -29,8 +29,7 @@ returns-then-not-holds c sites =
     )
 
 pub returns : goal.returns
-returns c sites =
-    (
-      c.names.ensures.yes c.if-not-names.false,
-      (out_of (set_of c.args.s) c.args.x.bus (refutes c.has.ensures c.if-has.false), ((c.holds.ensures c.args.n sites).yes c.if-not-holds.false, tt)),
-    )
+returns c sites = (
+  c.names.ensures.yes c.if-not-names.false,
+  (out_of (set_of c.args.s) c.args.x.bus (refutes c.has.ensures c.if-has.false), ((c.holds.ensures c.args.n sites).yes c.if-not-holds.false, tt)),
+)

@@ -1,0 +1,15 @@
+-- Invariant: line k starts at `at`, and to read the text is to read on from there with the place, rows and marks held.
+-- A turn passes a line feed, so length - at falls. Only the judgement `Next` goes on, and it gives the `Fit` that building needs.
+use Prim.Native.Nat.{◌-◌}
+use lib.ListN.{length}
+use Rattle.case_line.proofs.Answers.{told}
+use Rattle.case_judge.proofs.Judged.{fit_of}
+use Rattle.case_read.proofs.Lines.{Going, going-first, no_feed, line-said, going_on}
+use borrow.Author.Rules.{rules}
+use Rattle.case_read.proofs.read_text.Given as goal
+
+abbrev pub invariant-loop-s : goal.invariant-loop-s
+invariant-loop-s l = Going l.text l.from l.first l.s l.rows l.m l.k l.at
+
+abbrev pub decreases-loop-s : goal.decreases-loop-s
+decreases-loop-s l = length l.text - l.at

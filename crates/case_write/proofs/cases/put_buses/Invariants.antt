@@ -1,0 +1,16 @@
+-- Invariant: the records of the buses from b on are left to put, and each bus passed took at most line_room bytes. b_end - b falls.
+use mathlib.Core.Path.{refl}
+use Prim.Native.Nat.{◌-◌}
+use native.Mathlib.Omega.{arith}
+use Rattle.busset.specs.Sets.{set_of}
+use Rattle.case_read.proofs.Lengths.{line_room}
+use Rattle.case_line.specs.CaseText.{bus_records}
+use Rattle.case_write.proofs.Turns.{Turn, turn_first, turn_bus, turn_all}
+use borrow.Author.Rules.{rules}
+use Rattle.case_write.proofs.cases.put_buses.Given as goal
+
+abbrev pub invariant-loop-b : goal.invariant-loop-b
+invariant-loop-b l = Turn (bus_records (set_of l.zero) (set_of l.site)) line_room 1 l.n l.n l.initial.out l.at l.b-end l.out l.k l.b
+
+abbrev pub decreases-loop-b : goal.decreases-loop-b
+decreases-loop-b l = l.b-end - l.b
