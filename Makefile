@@ -11,7 +11,7 @@ SHELL = /bin/sh
 
 PROGRAMS = target/bin/day target/bin/plan target/bin/rounds
 ARCHIVE = target/staticlib/libestimator.a
-SOURCES := $(shell find crates crates.txt -type f)
+SOURCES := $(shell find crates crates.txt -name out -prune -o -type f -print)
 
 help:
 	@cat <<'END'
@@ -24,19 +24,14 @@ help:
 
 build: $(PROGRAMS) $(ARCHIVE)
 
-# rt proves what has changed. It does not link again a binary that was removed while its stamp was kept, so that the
-# stamp goes too. A file that is touched is known to be made from these sources.
+# rt proves what has changed. A file that is touched is known to be made from these sources.
 $(PROGRAMS): $(SOURCES)
-	@name=$(@F)
-	[ -e "$@" ] || rm -f "target/stamp/$$name"
-	rt check "$$name"
-	[ -x "$@" ] || { echo "make: rt made no $@" >&2; exit 2; }
+	@tools/build $(@F)
 	touch "$@"
 	rt version >target/kit
 
 $(ARCHIVE): $(SOURCES)
-	@rt staticlib estimator
-	[ -f "$@" ] || { echo "make: rt made no $@" >&2; exit 2; }
+	@tools/build estimator
 	touch "$@"
 	rt version >target/kit
 
@@ -45,7 +40,7 @@ $(ARCHIVE): $(SOURCES)
 # that fails adds to the list what it made until then, so that uninstall can remove it.
 install:
 	@for made in $(PROGRAMS) $(ARCHIVE); do
-	    [ -e "$$made" ] && [ -z "$$(find crates crates.txt -type f -newer "$$made")" ] || {
+	    [ -e "$$made" ] && [ -z "$$(find crates crates.txt -name out -prune -o -type f -newer "$$made" -print)" ] || {
 	        echo "make: $$made is missing or older than its sources: run 'make build' first" >&2
 	        exit 2
 	    }

@@ -41,8 +41,12 @@ def source_times():
     """The times at which the sources were last changed, folders among them."""
     for source in places.sources():
         yield changed(source)
-        for folder, _, files in os.walk(source):
-            yield changed(folder)
+        for folder, below, files in os.walk(source):
+            if places.MADE in below:
+                # what rt makes is no source, and makes the folder about it newer
+                below.remove(places.MADE)
+            else:
+                yield changed(folder)
             for file in files:
                 yield changed(os.path.join(folder, file))
 
@@ -104,8 +108,6 @@ def build(name):
     try:
         open(new, "wb").close()
         began = os.stat(new).st_mtime_ns
-        if not os.path.exists(places.program(name)):
-            forget(name)
         if prove(name) != 0 or not os.access(places.program(name), os.X_OK):
             raise Stop("the program '%s' could not be proved and built" % name)
         with open(new, "wb") as file:
@@ -116,17 +118,11 @@ def build(name):
         raise Stop("%s cannot be written: %s" % (places.target(), error.strerror)) from None
 
 
-def forget(name):
-    """Has rt forget that the program is proved. Otherwise it would not link again a binary that was removed."""
-    with contextlib.suppress(FileNotFoundError):
-        os.remove(places.kit_stamp(name))
-
-
 def prove(name):
-    """Runs `rt check`, shows its own lines as they come, and its last lines if it fails. Answers its status."""
+    """Runs tools/build, shows rt's own lines as they come, and the last lines if it fails. Answers its status."""
     last = collections.deque(maxlen=LAST_LINES)
     options = {"stdin": subprocess.DEVNULL, "stdout": subprocess.PIPE, "stderr": subprocess.STDOUT}
-    words = [kit_command(), "check", name]
+    words = [places.builder(), name]
     try:
         with started(words, with_group=True, cwd=places.HOME, env=surroundings(), **options) as process:
             for line in process.stdout:

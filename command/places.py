@@ -1,6 +1,7 @@
 """Where the files of the command are: the only module that knows a place.
 
-A checkout has command/ at its top, with VERSION and crates/ beside it; rt builds the programs into target/bin/.
+A checkout has command/ at its top, with VERSION, crates/ and tools/ beside it. tools/build puts the programs into
+target/bin/; what rt makes of a crate is in the folder out/ of the crate.
 An installed copy has command/ in PREFIX/lib/wozgrzyt/, and beside it
 
     installed     a file that says that this is an installed copy; what is in it does not matter
@@ -9,6 +10,7 @@ An installed copy has command/ in PREFIX/lib/wozgrzyt/, and beside it
 """
 import os
 
+MADE = "out"
 HOME = os.path.dirname(os.path.dirname(os.path.realpath(__file__)))
 
 
@@ -47,9 +49,9 @@ def stamp(name):
     return at("target", "built." + name)
 
 
-def kit_stamp(name):
-    """The file by which rt knows that the program's crate is proved."""
-    return at("target", "stamp", name)
+def builder():
+    """The script that proves and builds a program."""
+    return at("tools", "build")
 
 
 def lock():

@@ -34,7 +34,7 @@ def check_when(checks):
 
 
 def check_removed(checks):
-    """A removed binary is built again, though rt's stamp and the command's are kept."""
+    """A removed binary is built again, though what rt made and the command's stamp are kept."""
     checkout = built(checks, "removed")
     os.remove(checkout.at("target", "bin", "day"))
     called = checkout.call("day", text=ONE_BUS)

@@ -9,23 +9,19 @@ import traceback
 
 TOP = os.path.dirname(os.path.dirname(os.path.realpath(__file__)))
 Called = collections.namedtuple("Called", "status out err")
-TOOLS = "sh cat sleep cp mkdir chmod cksum touch neato".split()
+TOOLS = "sh cat sleep cp mkdir mv chmod touch neato".split()
 KIT = "kit-for-tests 7"
 NOBODY = 65534
 
-# What the real rt does too: it links a program only if its stamp is not that of the source.
+# What the real rt does too: it leaves the program in the folder out/ of its crate.
 RT = """#!/bin/sh
 echo "$*" >>"{home}/calls"
 [ "$1" != doc ] || {{ echo "{home}/kit/docs/START-HERE.md"; exit 0; }}
-[ "$1" = check ] || {{ echo "{kit}"; exit 0; }}
+[ "$1" = run ] || {{ echo "{kit}"; exit 0; }}
 echo "begin $2" >>"{home}/calls"
 [ ! -e "{home}/rt-does" ] || . "{home}/rt-does"
-sum=$(cat crates/grid/lib.rt | cksum)
-mkdir -p target/bin target/stamp
-[ ! -e target/stamp/$2 ] || old=$(cat target/stamp/$2)
-if [ "${{old-}}" != "$sum" ]; then
-    cp program target/bin/$2 && chmod 755 target/bin/$2 && echo "$sum" >target/stamp/$2
-fi
+mkdir -p crates/$2/out
+cp program crates/$2/out/$2 && chmod 755 crates/$2/out/$2
 echo "rt: $2 proved"
 echo "end $2" >>"{home}/calls"
 """
@@ -131,6 +127,8 @@ class Checkout:
         os.makedirs(os.path.join(self.home, "bin"))
         shutil.copy(os.path.join(TOP, "wozgrzyt"), self.command)
         shutil.copy(os.path.join(TOP, "VERSION"), self.home)
+        os.makedirs(self.at("tools"))
+        shutil.copy(os.path.join(TOP, "tools", "build"), self.at("tools"))
         copy_modules(self.home)
         for name in ("crates.txt", "crates/grid/lib.rt"):
             self.edit(name)

@@ -3,7 +3,7 @@
    usage: compare SEED COUNT       as many texts as it takes until COUNT of them have a line of several circuits
           compare SEED at INDEX    one of them, with its texts printed
    tests/c/run says SEED and COUNT. This compares 100,000 texts with circuits:
-       rt staticlib estimator && rt check day plan rounds && COMPARE_COUNT=100000 tests/c/run */
+       tools/build day plan rounds estimator && COMPARE_COUNT=100000 tests/c/run */
 #include "asking.h"
 #include "checking.h"
 #include "guarded.h"
