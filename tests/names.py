@@ -21,9 +21,11 @@ ENDS = ("demands", "tables")
 TRIED = r"(?:ask|timed|asked)$"
 DOCUMENTS = ["README.md", "docs/*.md"]
 MODIFIERS = ("pub", "abbrev", "unfoldable")
-WORD = r"[^\s(){}.,;\"⌜⌝]+"
+WORD = r"[^\s(){}.,;\"]+"
+# the files that are written of one function's proof
+OF_A_FUNCTION = ("Proof.antt", "Answers.antt", "Invariants.antt")
 TOKEN = re.compile(r"(?P<field>(?<![^\s(])\.)?(?P<first>%s)(?:\.(?P<rest>%s))?(?P<bound>(?= [=:] ))?" % (WORD, WORD))
-USE = re.compile(r"^(?:ghost )?use (Rattle·%s(?:\.%s)*?)(?:\.\{(.*)\}| as (%s))?;?$" % (WORD, WORD, WORD))
+USE = re.compile(r"^(?:ghost )?use (Rattle\.%s(?:\.%s)*?)(?:\.\{(.*)\}| as (%s))?;?$" % (WORD, WORD, WORD))
 
 
 class Declaration:
@@ -137,14 +139,18 @@ def read():
             continue
         files[file] = list(declared(file, file.read_text().splitlines()))
         module = ".".join(file.with_suffix("").parts[3:])
-        modules["Rattle·%s.%s.%s" % (crate, part, module)] = file
-        modules["Rattle·%s·%s.%s.%s" % (crate, part, part, module)] = file
+        modules["Rattle.%s.%s.%s" % (crate, part, module)] = file
     return files, modules
+
+
+def is_of_a_function(file):
+    """Whether the file is what is written of one function's proof."""
+    return file.parts[2] == "proofs" and file.name in OF_A_FUNCTION
 
 
 def infix(name):
     """A name, or the word that stands between its two sides."""
-    return name.strip("_") if re.fullmatch(r"_[^_]+_", name) else name
+    return name.strip("◌") if re.fullmatch(r"◌[^◌]+◌", name) else name
 
 
 def dead():
@@ -163,7 +169,7 @@ def dead():
         for d in declarations:
             text = "\n".join(d.lines)
             edges[file, infix(d.name)].update(uses(text, own, names, whole, bound(text) - {infix(d.name)}))
-            if file.name == "Proof.antt" and d.public or d.public and file.parts[1] in ENDS:
+            if d.public and (is_of_a_function(file) or file.parts[1] in ENDS):
                 live.add((file, infix(d.name)))
     # a constructor that a file takes from elsewhere stands for its type
     owner = {(d.file, c): (d.file, d.name) for d in table.values() for c in d.constructors}
@@ -208,7 +214,7 @@ def two_meanings():
             if d.public and file.parts[2] == "specs":
                 names[d.name.lower()].append((d.name, file))
                 others += [(name, file) for name in d.constructors]
-            elif d.public and file.name != "Proof.antt":
+            elif d.public and not is_of_a_function(file):
                 others.append((d.name, file))
     for file in sorted(pathlib.Path("crates").glob("*/src/**/*.rt")):
         text = file.read_text()
@@ -258,10 +264,6 @@ def numbers(pairs):
         yield name, int(value)
 
 
-def snake(name):
-    return re.sub(r"([A-Z])", r"_\1", name).upper()
-
-
 def limits():
     """Code and specs give each limit one name and one number, and no other line of src, specs or proofs says it."""
     code, specs = [], []
@@ -272,13 +274,13 @@ def limits():
         code += [(name.upper(), value) for name, value in made]
         specs += re.findall(r"^(\w+)(?: n)? = (\w+)$", pathlib.Path(definition).read_text(), re.M)
     code = dict(numbers(code))
-    specs = {snake(name): number for name, number in numbers(specs) if name != "empty"}
+    specs = {name.upper(): number for name, number in numbers(specs) if name != "empty"}
     for name in sorted(set(code) | set(specs)):
         if code.get(name) != specs.get(name):
             yield "%s is %s in code and %s in specs" % (name, code.get(name), specs.get(name))
     table = pathlib.Path("docs/CALLS.md").read_text()
     rows = re.findall(r"\| ([\d,]+) \| `(most\w+)` \|", table)
-    rows = {snake(name): int(most.replace(",", "")) for most, name in rows}
+    rows = {name.upper(): int(most.replace(",", "")) for most, name in rows}
     for name in sorted(name for name in set(specs) | set(rows) if name.startswith("MOST_")):
         if specs.get(name) != rows.get(name):
             yield "docs/CALLS.md says %s for %s, which is %s" % (rows.get(name), name, specs.get(name))
