@@ -1,5 +1,1 @@
-pub mod Rows
-pub mod Asking
-pub mod Lending
-pub mod Followed
 pub mod Promised
