@@ -1,11 +1,11 @@
--- The search for the next step: what the buses and reasons passed say, and each way it ends.
+-- The search for the next step: what the buses and reasons passed say, and which reason is taken first.
 -- No law here names a reason: each is about one that has a turn alone (`Alone`), or about those of a turn that name a bus (`Naming`).
 use mathlib.Core.Path.{◌≡◌, sym, ◌∙◌, subst, subst⁻¹}
 use mathlib.Core.Logic.{inl, inr, ⊎_elim}
 use Prim.Native.Nat.{ℕ, suc, ◌+◌, ◌≤◌, ◌<◌}
 use native.Mathlib.Omega.{arith}
 use lib.ListN.{length}
-use Rattle.busset.specs.Sets.{Bus, Out}
+use Rattle.busset.specs.Sets.{Bus}
 use Rattle.basics.proofs.Tests.{same_or, below_or}
 use Rattle.basics.proofs.Lacking.{Lacks}
 use Rattle.step.specs.declared.Reason.{Reason}
@@ -15,9 +15,9 @@ use Rattle.step.specs.declared.Step.{Step}
 use Rattle.step.specs.Reasons.{named_by, letters, turn_of}
 use Rattle.step.proofs.Reasons.{turn-most, Alone, Naming}
 use Rattle.rules.specs.Grids.{Grid, Proper}
-use Rattle.rules.specs.Steps.{Holds, Allowed, BusIfNamed, Finished}
-use Rattle.rules.specs.Derivation.{NamesAtMost, TakenFirst, NextIs}
-use Rattle.rules.proofs.Reasons.{allowed-bus, holds-names}
+use Rattle.rules.specs.Steps.{Holds, Allowed, BusIfNamed}
+use Rattle.rules.specs.Derivation.{NamesAtMost, TakenFirst}
+use Rattle.rules.proofs.Reasons.{holds-names}
 
 -- ---- numbers below k that lack something
 
@@ -27,9 +27,6 @@ lacks-first {P} {k} h q u = ⊎_elim (λ (l : q < k). absurd (h.below q l u)) (�
 -- a bus that a reason names is a bus of the grid, and 0 is none
 named-bus : {f : ℕ → Reason} → Naming f → (g : Grid) (s b p : ℕ) → Proper g → Holds g s b (f p) → Bus g.n p
 named-bus {f} k g s b p v h = subst (BusIfNamed g.n) (k.names p) (holds-names g s b v (f p) h)
-
-pub names-none : {f : ℕ → Reason} {g : Grid} (s b : ℕ) → Naming f → Proper g → Lacks (λ p. Holds g s b (f p)) 1
-names-none {g = g} s b k v = record { below = λ q l h. let u = (named-bus k g s b q v h).some in omega arith }
 
 -- ---- the reasons that fail
 
@@ -74,30 +71,7 @@ none-holds p r h = omega (arith, p.low r h, turn-most r)
 pub record Clear (g : Grid) (s b : ℕ) : Type 0 where
   pub low : (y : Step) → Allowed g s y → b ≤ y.bus
 
-pub clear_none : {g : Grid} (s : ℕ) → Proper g → Clear g s 1
-clear_none {g} s v = record { low = λ y a. (allowed-bus v a).some }
-
-pub clear-more : {g : Grid} {s b : ℕ} → Clear g s b → ((r : Reason) → Out s b → Holds g s b r → ⊥) → Clear g s (b + 1)
-clear-more {g} {s} {b} h n = record {
-  low = λ y a. ⊎_elim
-      (λ (e : y.bus ≡ b). absurd (n y.reason (subst (Out s) e a.new) (subst (λ (x : ℕ). Holds g s x y.reason) e a.holds)))
-      (λ (ne : y.bus ≡ b → ⊥). ⊎_elim (λ (l : b < y.bus). omega arith) (λ (l : y.bus ≤ b). absurd (ne (omega (arith, h.low y a))))
-      (below_or b y.bus))
-      (same_or y.bus b);
-}
-
-pub finished-by : {g : Grid} {s b : ℕ} → Proper g → g.n < b → Clear g s b → Finished g s
-finished-by {g} {s} v l h y a = let m = (allowed-bus v a).most in omega (arith, h.low y a)
-
 -- ---- the first reason that holds
-
-pub next-by : {g : Grid} {s b : ℕ} (r : Reason) → Clear g s b → Out s b → Holds g s b r → ((q : Reason) → Holds g s b q → TakenFirst r q)
-    → NextIs g s (record { bus = b; reason = r })
-next-by {g} {s} {b} r c n h f = record {
-  allowed = record { new = n; holds = h };
-  lowest = λ y a. c.low y a;
-  first = λ y a e. f y.reason (subst (λ (x : ℕ). Holds g s x y.reason) e a.holds);
-}
 
 -- r is taken first if every reason of an earlier turn fails, and of its own turn none that holds names a lower bus
 first_by : {g : Grid} {s b : ℕ} (r : Reason) → FailsBefore g s b (turn_of r)
@@ -111,7 +85,8 @@ names_same : (x : NamedBus) → NamesAtMost x x
 names_same Nothing = tt
 names_same (BusNamed p) = omega arith
 
-pub first_alone : {g : Grid} {s b : ℕ} {r : Reason} → Alone r → FailsBefore g s b (turn_of r) → (q : Reason) → Holds g s b q → TakenFirst r q
+pub first_alone : {g : Grid} {s b : ℕ} {r : Reason} → Alone r → FailsBefore g s b (turn_of r) → (q : Reason) → Holds g s b q
+    → TakenFirst r q
 first_alone {r = r} k p =
     first_by r p (λ q e h. subst⁻¹ (λ (x : Reason). NamesAtMost (named_by r) (named_by x)) (k.only q e) (names_same (named_by r)))
 

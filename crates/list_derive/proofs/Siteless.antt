@@ -8,14 +8,11 @@ use Rattle.busset.proofs.Digits.{bit-zero}
 use Rattle.busset.proofs.Words.{set-empty}
 use Rattle.rules.specs.Grids.{Proper}
 use Rattle.rules.proofs.Reasons.{holds-sites}
-use Rattle.rules.proofs.Derivations.{SameReasons, finished-to, next-to, derived-to}
+use Rattle.rules.proofs.Derivations.{SameReasons, derived-to}
 use Rattle.grid.specs.Rows.{Rows, neighbours}
 use Rattle.grid.specs.Cases.{grid_with, Lines}
 use Rattle.list_value.specs.declared.StepList.{StepList}
-use Rattle.list_derive.specs.Searching.{NextAnswer}
 use Rattle.list_derive.specs.Deriving.{Derives}
-use Rattle.list_derive.specs.declared.searching.Next.{Next}
-use Rattle.list_derive.specs.declared.searching.Next.TheVariants.{Take, Nothing}
 
 module _ (n : ℕ) (rows : Rows) (zeros units : SetWord) where
   pub siteless_proper : Lines n (neighbours rows) → Within n (set_of zeros) → Within n (set_of units)
@@ -32,11 +29,6 @@ module _ (n : ℕ) (rows : Rows) (zeros units : SetWord) where
     to = holds-sites (grid_with n rows zeros empty_word units) (set_of sites);
     from = holds-sites (grid_with n rows zeros sites units) (set_of empty_word);
   }
-
-  pub next_sites : (sites : SetWord) (s : ℕ) (r : Next) → NextAnswer (grid_with n rows zeros empty_word units) s r
-      → NextAnswer (grid_with n rows zeros sites units) s r
-  next_sites sites s (Take x) h = next-to (any_sites sites) h
-  next_sites sites s Nothing h = finished-to (any_sites sites) h
 
   pub derives_sites : (sites : SetWord) {l : StepList} → Derives (grid_with n rows zeros empty_word units) l
       → Derives (grid_with n rows zeros sites units) l
