@@ -16,7 +16,7 @@ use Rattle.rules.specs.Grids.{Grid, with_sites_and_units}
 use Rattle.rules.specs.Observation.{Closed, ObservedSet}
 use Rattle.rules.specs.Placing.{with_units, Full}
 use Rattle.rules.proofs.Covering.{closed-fewer}
-use Rattle.place_light.specs.Ways.{Group, Meets, direct, Cover, Uncoverable}
+use Rattle.place_light.specs.Ways.{Group, direct, Cover, Uncoverable}
 use Rattle.place_light.proofs.Covers.{closed-more, meets-to, meets-none, meets-few, without-less, without_out, cover_less}
 use Rattle.place_pool.specs.Pool.{kept_at, KeptGroups}
 use Rattle.place_pool.specs.Asking.{MeetsKept, Says}
