@@ -1,25 +1,13 @@
--- The call's own contract is its promise: it asks nothing of the caller, and what it says of a reply entails what the promise says.
-use mathlib.Core.List.{List}
-use Prim.Native.Nat.{ℕ}
-use base.Logic.{ent, emp, id⊢}
-use contract.Monad.{fact}
+-- The call's own contract is its promise: it asks nothing of the caller, and what it tells of a reply is what the promise says.
+-- That is `Keeps` of the crate refusals in full, since this crate does not use that one.
 use contract.Lifetimes.{Lfts}
-use denote.Ref.{Bor}
-use denote.Triple.Entry.{Args}
-use denote.Triple.Clauses.{ClausesAt}
-use borrow.Fn.World.{World}
-use Rattle.step.specs.declared.Step.{Step}
+use borrow.Fn.World.{ArgsD}
 use Rattle.step_text.specs.declared.StepsRead.{StepsRead}
 use Rattle.step_text.specs.Taking.{read_steps_call}
-use Rattle.step_records.specs.contracts.read_steps as read-steps
+use Rattle.step_records.specs.contracts.read_steps.{signature}
+use Rattle.step_records.proofs.read_steps.Reads as read-steps
 
--- the contract's clauses for these arguments, in a model
-abbrev read-steps-says : (w : World) (κs : Lfts 2) → Args read-steps.signature κs → ClausesAt w.𝓤 read-steps.ended κs
-read-steps-says w = read-steps.clauses w.𝓛 w.𝓜.mem w.𝓡.run
-
-pub read-steps-promised : (w : World) (κs : Lfts 2) (text : Bor (List ℕ)) (out : Bor (List Step)) →
-    let says = read-steps-says w κs (text, (out, tt)) in
-    ent w.𝓤 (emp w.𝓤) (says.requires tt)
-    × ((r : StepsRead) (left : Bor (List Step)) → ent w.𝓤 (says.ensures tt r (text, (left, tt)))
-    (fact w.𝓤 (read_steps_call.promise text.now out.now left.now r)))
-read-steps-promised w κs text out = (id⊢ w.𝓤 _, λ r left. id⊢ w.𝓤 _)
+pub read-steps-promised : (κs : Lfts 2) (a : ArgsD signature κs) → read-steps.Asked κs a
+    × ((r : StepsRead) (b : ArgsD signature κs) → read-steps.Learnt κs a r b
+    → read_steps_call.promise a.0.now a.1.0.now b.1.0.now r)
+read-steps-promised κs a = (tt, λ r b told. told)
