@@ -4,7 +4,6 @@ use mathlib.Core.List.{List}
 use mathlib.Core.Logic.{inl, inr}
 use Prim.Native.Nat.{ℕ, ◌≤◌}
 use native.Mathlib.Omega.{arith}
-use borrow.Author.Tests.{not-true, not-false}
 use Rattle.basics.proofs.Tests.{refutes}
 use Rattle.grid.specs.declared.Case.{Case}
 use Rattle.refusals.specs.Refusals.{Passed}
@@ -13,7 +12,6 @@ use Rattle.case_line.specs.CaseText.{case_text}
 use Rattle.text_put.specs.Put.{Put}
 use Rattle.refusals.specs.declared.Written.TheVariants.{Bytes}
 use Rattle.text_put.proofs.Whole.{put_whole, put_count}
-use borrow.Author.Rules.{rules}
 use Rattle.text_calls.specs.Replies.{write_checks, CaseWrittenReply}
 use Rattle.text_calls.proofs.write_case.Goals as goal
 
@@ -30,20 +28,20 @@ pub returns-then-not-is_valid : goal.returns-then-not-is_valid
 returns-then-not-is_valid c = (inl (refutes c.is_valid.ensures c.if-not-is_valid.true, itself _), refl)
 
 pub count_bytes-requires : goal.count_bytes-requires
-count_bytes-requires c = (at-if1.before.is-valid.ensures.yes (not-false _ at-if1.if1.false)).buses.most
+count_bytes-requires c = (c.is_valid.ensures.yes c.if-not-is_valid.false).buses.most
 
 pub returns-then-out-count_bytes : goal.returns-then-out-count_bytes
 returns-then-out-count_bytes c = (
-      inr (
-        at-if1.before.is-valid.ensures.yes (not-false _ at-if1.if1.false),
-        inl ((λ h. omega (arith, c.count_bytes.ensures, c.if-out-count_bytes.true)), itself _),
-      ),
-      refl,
-    )
+  inr (
+    c.is_valid.ensures.yes c.if-not-is_valid.false,
+    inl ((λ h. omega (arith, c.count_bytes.ensures, c.if-out-count_bytes.true)), itself _),
+  ),
+  refl,
+)
 
 pub put_case-k-requires : goal.put_case-k-requires
-put_case-k-requires c = (at-if1.before.is-valid.ensures.yes (not-false _ at-if1.if1.false)).buses.most
+put_case-k-requires c = (c.is_valid.ensures.yes c.if-not-is_valid.false).buses.most
 
 pub returns : goal.returns
-returns c = let valid = at-if1.before.is-valid.ensures.yes (not-false _ at-if1.if1.false) in
-    has-written (valid, (roomy _ at-count-bytes.count-bytes.ensures at-if2.if2.false, tt)) c.put_case-k.ensures
+returns c = let valid = c.is_valid.ensures.yes c.if-not-is_valid.false in
+    has-written (valid, (roomy _ c.count_bytes.ensures c.if-out-count_bytes.false, tt)) c.put_case-k.ensures
