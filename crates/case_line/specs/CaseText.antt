@@ -21,8 +21,8 @@ bus_record zeros sites k = Bus k (has zeros k) (has sites k)
 
 -- the m buses from k on, each with its class and site
 unfoldable pub bus_records : ℕ → ℕ → ℕ → ℕ → List Record
-bus_records zeros sites k zero = []
-bus_records zeros sites k (suc m) = bus_record zeros sites k ∷ bus_records zeros sites (k + 1) m
+bus_records z_buses sites k zero = []
+bus_records z_buses sites k (suc m) = bus_record z_buses sites k ∷ bus_records z_buses sites (k + 1) m
 
 -- a record for each of the m buses from k on that is in s
 unfoldable pub members : (ℕ → Record) → ℕ → ℕ → ℕ → List Record

@@ -32,10 +32,10 @@ lines_append (r ∷ rs) qs =
     ap (λ (t : List ℕ). record_text r ++ line_feed ∷ t) (lines_append rs qs)
     ∙ sym (append_assoc (record_text r) (line_feed ∷ lines_text rs) (lines_text qs))
 
-pub buses_length : (zeros sites k m : ℕ) → length (bus_records zeros sites k m) ≡ m
+pub buses_length : (z_buses sites k m : ℕ) → length (bus_records z_buses sites k m) ≡ m
 unfolding bus_records
-buses_length zeros sites k zero = refl
-buses_length zeros sites k (suc m) = ap suc (buses_length zeros sites (k + 1) m)
+buses_length z_buses sites k zero = refl
+buses_length z_buses sites k (suc m) = ap suc (buses_length z_buses sites (k + 1) m)
 
 pub members_length : (f : ℕ → Record) (s k m : ℕ) → length (members f s k m) ≤ m
 unfolding members
@@ -55,8 +55,8 @@ rows-length nbr counts a (suc m) h =
 -- ---- bounds for a grid
 
 module _ (n : ℕ) (h : n ≤ most_buses) where
-  pub buses_most : (zeros sites : ℕ) → length (lines_text (bus_records zeros sites 1 n)) ≤ row_room
-  buses_most zeros sites = omega (arith, lines_length (bus_records zeros sites 1 n), buses_length zeros sites 1 n)
+  pub buses_most : (z_buses sites : ℕ) → length (lines_text (bus_records z_buses sites 1 n)) ≤ row_room
+  buses_most z_buses sites = omega (arith, lines_length (bus_records z_buses sites 1 n), buses_length z_buses sites 1 n)
 
   pub rows_most : (nbr : ℕ → ℕ) (counts : ℕ → ℕ → ℕ) → length (lines_text (line_records nbr counts 1 n)) ≤ row_room * most_buses
   rows_most nbr counts = omega (arith, lines_length (line_records nbr counts 1 n), rows-length nbr counts 1 n h)

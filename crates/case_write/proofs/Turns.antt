@@ -96,10 +96,10 @@ has-is s b false d = sym (ne_eqb (bit s b) 1 (refutes d refl))
 -- ---- one turn more: the record of a bus, its line where it is in a set, its row
 
 module _ {first count n : ℕ} {l m o : List ℕ} {at end k b q : ℕ} where
-  pub turn_bus : (zeros sites : ℕ) → Turn (bus_records zeros sites) line_room first count n l at end m k b → b < end →
-      Put m k (line_text (bus_record zeros sites b)) o q → Turn (bus_records zeros sites) line_room first count n l at end o q (b + 1)
+  pub turn_bus : (z_buses sites : ℕ) → Turn (bus_records z_buses sites) line_room first count n l at end m k b → b < end →
+      Put m k (line_text (bus_record z_buses sites b)) o q → Turn (bus_records z_buses sites) line_room first count n l at end o q (b + 1)
   unfolding bus_records
-  turn_bus zeros sites w h p = turn_next w h (lines_cons _ _) (line_length _) p
+  turn_bus z_buses sites w h p = turn_next w h (lines_cons _ _) (line_length _) p
 
   pub turn_member : (f : ℕ → Record) (s : ℕ) {t : Bool} → Turn (members f s) line_room first count n l at end m k b → b < end
       → Decides (In s b) t

@@ -1,5 +1,4 @@
--- Invariant: line k starts at `at`, and to read the text is to read on from there with the place, rows and marks held.
--- A turn passes a line feed, so length - at falls. Only the judgement `Next` goes on, and it gives the `Fit` that building needs.
+-- Only the judgement `Next` goes on, and it gives the `Fit` that building needs. Any other exit says what is read from this line on.
 use Rattle.case_line.proofs.Answers.{told}
 use Rattle.case_judge.proofs.Judged.{fit_of}
 use Rattle.case_read.proofs.Lines.{going-first, no_feed, line-said, going_on}

@@ -1,5 +1,5 @@
 -- Invariant: line k starts at `at`, and to read the text is to read on from there with the place, rows and marks held.
--- A turn passes a line feed, so length - at falls. Only the judgement `Next` goes on, and it gives the `Fit` that building needs.
+-- A turn passes a line feed, so length - at falls.
 use Prim.Native.Nat.{◌-◌}
 use lib.ListN.{length}
 use Rattle.case_read.proofs.Lines.{Going}

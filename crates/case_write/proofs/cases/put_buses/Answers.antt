@@ -1,4 +1,4 @@
--- Invariant: the records of the buses from b on are left to put, and each bus passed took at most line_room bytes. b_end - b falls.
+-- At first all records are left to put, a turn puts the one of bus b, and at the end none is left.
 use mathlib.Core.Path.{refl}
 use native.Mathlib.Omega.{arith}
 use Rattle.case_line.specs.CaseText.{bus_records}

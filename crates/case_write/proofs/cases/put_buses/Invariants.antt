@@ -1,4 +1,4 @@
--- Invariant: the records of the buses from b on are left to put, and each bus passed took at most line_room bytes. b_end - b falls.
+-- Invariant: the records of the buses from b on are left to put, and each bus passed took at most line_room bytes. b-end - b falls.
 use Prim.Native.Nat.{◌-◌}
 use Rattle.busset.specs.Sets.{set_of}
 use Rattle.case_read.proofs.Lengths.{line_room}

@@ -1,4 +1,4 @@
--- Invariant: the rows from bus a on are left to put, and each row passed took at most row_room bytes. a-end - a falls.
+-- At first all rows are left to put, a turn puts the one of bus a, and at the end none is left.
 use mathlib.Core.Path.{refl}
 use native.Mathlib.Omega.{arith}
 use Rattle.case_line.specs.CaseText.{line_records}

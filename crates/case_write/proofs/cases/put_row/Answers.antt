@@ -1,4 +1,3 @@
--- Invariant: the lines from a to the buses from b on are left to put, and each took at most line_room bytes. b_end - b falls.
 -- A turn puts the line where b is in the row, and no byte otherwise. The circuits have four digits, so the line is `Formed`.
 use mathlib.Core.Path.{refl}
 use native.Mathlib.Omega.{arith}

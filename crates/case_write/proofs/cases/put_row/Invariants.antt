@@ -1,5 +1,4 @@
--- Invariant: the lines from a to the buses from b on are left to put, and each took at most line_room bytes. b_end - b falls.
--- A turn puts the line where b is in the row, and no byte otherwise. The circuits have four digits, so the line is `Formed`.
+-- Invariant: the lines from a to the buses from b on are left to put, and each took at most line_room bytes. b-end - b falls.
 use Prim.Native.Nat.{◌+◌, ◌-◌}
 use Rattle.busset.specs.Sets.{set_of}
 use Rattle.grid.specs.Rows.{circuits}
