@@ -18,16 +18,19 @@ first-unique (q ∷ qs) n p m o (inl a) (inl b) = (sym a.1 ∙ b.1, sym a.2 ∙ 
 first-unique (q ∷ qs) n p m o (inl a) (inr b) = absurd (a.0 b.0)
 first-unique (q ∷ qs) n p m o (inr a) (inl b) = absurd (b.0 a.0)
 first-unique (q ∷ qs) n p m o (inr a) (inr b) = first-unique qs n p m o a.1 b.1
+first-unique [] n p m o x'' _ = elim x'' [ ]
 
 -- there is none where all pass
 pub first_or_passed : (qs : List Check) (n p : ℕ) → FirstFails qs n p → Passed qs → ⊥
 first_or_passed (q ∷ qs) n p (inl a) h = a.0 h.0
 first_or_passed (q ∷ qs) n p (inr a) h = first_or_passed qs n p a.1 h.1
+first_or_passed [] n p x'' h = elim x'' [ ]
 
 -- it is the refusal that a promise names
 pub failed-first : (qs : List Check) (r : Refusal) → Failed qs r → FirstFails qs (number_of r) (place_of r)
 failed-first (q ∷ qs) r (inl a) = inl (a.0, sym a.1.numbered, sym a.1.placed)
 failed-first (q ∷ qs) r (inr a) = inr (a.0, failed-first qs r a.1)
+failed-first [] r x' = elim x' [ ]
 
 -- ---- by the table
 
@@ -90,6 +93,7 @@ first-later (p ∷ ps) qs n k a f = inr (a.0, first-later ps qs n k a.1 f)
 first_sooner : (ps qs : List Check) (n k : ℕ) → FirstFails ps n k → FirstFails (ps ++ qs) n k
 first_sooner (p ∷ ps) qs n k (inl f) = inl f
 first_sooner (p ∷ ps) qs n k (inr f) = inr (f.0, first_sooner ps qs n k f.1)
+first_sooner [] qs n k x' = elim x' [ ]
 
 -- the first list passes, and the second ends so
 pub ends-later : (ps qs : List Check) (Refused : ℕ → ℕ → Type 0) → Passed ps → Ends qs Refused → Ends (ps ++ qs) Refused

@@ -17,14 +17,15 @@ use Rattle.case_line.specs.declared.Record.TheVariants.{Grid, Bus, Line, Circuit
 use Rattle.step_line.specs.declared.StepLine.{StepLine}
 use Rattle.step_line.specs.declared.StepLine.TheVariants as line
 use Rattle.case_judge.specs.Judging.{in_order}
-use Rattle.grid.specs.Limits.{most_bytes}
+use Rattle.grid.specs.Limits.{most_bytes, most_step_bytes}
 use Rattle.case_read.specs.Reading.{Reader, start, next_reader}
 use Rattle.demands.specs.Order.{turn_of12, turn, Precedes, InTableOrder}
 use Rattle.demands.proofs.Turns.{in_table, Ahead, ahead_most, ahead_first, TurnsBy, ComesAfter, later-follows}
 use Rattle.case_read.specs.Checks.{NothingFollows, after_record, line_checks, case_checks}
 use Rattle.step_text.specs.Checks.{HasTurn, after_step, step_line_checks, step_text_checks}
 use Rattle.step_replay.specs.Replying.{with_fifty}
-use Rattle.demands.specs.Printed.{plan_line_checks, input_checks}
+use Rattle.plan_input.specs.Asking.{budget_of}
+use Rattle.demands.specs.Printed.{IsNumber, plan_line_checks, input_checks}
 
 -- ---- the lines of a case text
 
@@ -71,7 +72,7 @@ lines-turn s k l (m ∷ ms) =
     )
 
 pub case_ordered : (text : List ℕ) → InTableOrder (case_checks text)
-case_ordered text = lines_ordered start 1 (split line_feed text).first (split line_feed text).rest _ (inl (lit< tt))
+case_ordered text = lines_ordered start 1 (split line_feed text).first (split line_feed text).rest (check_that (length text ≤ most_bytes) 1 0) (inl (lit< tt))
 
 pub case-turn : (text : List ℕ) → TurnsBy line_turn (case_checks text)
 case-turn text = (lit≤ tt, lines-turn start 1 (split line_feed text).first (split line_feed text).rest)
@@ -83,7 +84,7 @@ input_ordered input = go (split line_feed input).first (split line_feed input).r
   where
     go : (l : List ℕ) (ms : List (List ℕ)) → InTableOrder (check_that (length input ≤ most_bytes) 1 0 ∷ plan_line_checks l ms)
     go l [] = (refl, inl (lit< tt), refl)
-    go l (m ∷ ms) = (refl, inl (lit< tt), lines_ordered start 2 m ms _ (inr (refl, lit< tt)))
+    go l (m ∷ ms) = (refl, inl (lit< tt), lines_ordered start 2 m ms (check_that (IsNumber (budget_of l)) 2 1) (inr (refl, lit< tt)))
 
 pub input-turn : (input : List ℕ) → TurnsBy line_turn (input_checks input)
 input-turn input = go (split line_feed input).first (split line_feed input).rest
@@ -167,7 +168,8 @@ fifty-turn [] a = tt
 fifty-turn (q ∷ qs) a = (omega (arith, a.0.0, a.0.1), fifty-turn qs a.1)
 
 pub step-text_ordered : (text : List ℕ) → InTableOrder (step_text_checks text)
-step-text_ordered text = step-lines_ordered 1 (split line_feed text).first (split line_feed text).rest _ (lit≤ tt) (inl (lit< tt))
+step-text_ordered text = step-lines_ordered 1 (split line_feed text).first (split line_feed text).rest
+    (check_that (length text ≤ most_step_bytes) 1 0) (lit≤ tt) (inl (lit< tt))
 
 step-text_shift : (text : List ℕ) → AllShift (step_text_checks text)
 step-text_shift text = ((lit≤ tt, refl), step-lines_shift 1 (split line_feed text).first (split line_feed text).rest (lit≤ tt))

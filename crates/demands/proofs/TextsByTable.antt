@@ -132,6 +132,7 @@ read-steps text before after r p =
 fifty-first : (qs : List Check) (n k : ℕ) → FirstFails qs n k → FirstFails (with_fifty qs) (n + 50) k
 fifty-first (q ∷ qs) n k (inl f) = inl (f.0, ap (λ (x : ℕ). x + 50) f.1, f.2)
 fifty-first (q ∷ qs) n k (inr f) = inr (f.0, fifty-first qs n k f.1)
+fifty-first [] n k x' = elim x' [ ]
 
 fifty-passed : (qs : List Check) → Passed qs → Passed (with_fifty qs)
 fifty-passed [] p = tt

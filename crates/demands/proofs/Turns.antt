@@ -8,10 +8,12 @@ use native.Mathlib.Omega.{arith}
 use lib.Dec.{T, lit<, lit≤, eqb, eqb→eq}
 use lib.ListN.{length}
 use Rattle.step.specs.declared.Step.{Step}
-use Rattle.busset.specs.Sets.{empty, add}
+use Rattle.busset.specs.Sets.{Out, empty, add}
+use Rattle.rules.specs.Steps.{Holds}
 use Rattle.rules.specs.Weaving.{woven}
 use Rattle.grid.specs.declared.Case.{Case}
 use Rattle.grid.specs.Limits.{most_steps}
+use Rattle.grid.specs.Cases.{grid_of}
 use Rattle.refusals.specs.Refusals.{Check, check_that}
 use Rattle.list_follow.specs.Following.{checks_from}
 use Rattle.list_follow.specs.Replies.{replay_checks, weave_checks}
@@ -96,6 +98,7 @@ first-turn t (q ∷ qs) n k b (inl f) =
     subst (λ (place : ℕ). turn (check_that ⊥ n place) ≤ t) f.2
     (subst (λ (number : ℕ). turn (check_that ⊥ number q.place) ≤ t) f.1 b.0)
 first-turn t (q ∷ qs) n k b (inr f) = first-turn t qs n k b.1 f.1
+first-turn t [] n k b x'' = elim x'' [ ]
 
 precedes_trans : (p q r : Check) → Precedes p q → Precedes q r → Precedes p r
 precedes_trans p q r (inl a) (inl b) = inl (omega (arith, a, b))
@@ -112,6 +115,7 @@ first-after p (q ∷ qs) n k o (inl f) =
     subst (λ (place : ℕ). Precedes p (check_that ⊥ n place)) f.2
     (subst (λ (number : ℕ). Precedes p (check_that ⊥ number q.place)) f.1 o.1)
 first-after p (q ∷ qs) n k o (inr f) = precedes_trans p q (check_that ⊥ n k) o.1 (first-after q qs n k o.2 f.1)
+first-after p [] n k o x'' = elim x'' [ ]
 
 -- ---- the steps of a list
 
@@ -129,13 +133,15 @@ steps_ordered Replay c rest later k s (x ∷ xs) p before = (
   (
     refl,
     inr (refl, inr (refl, lit< tt)),
-    (refl, inr (refl, inr (refl, lit< tt)), steps_ordered Replay c rest later (suc k) (add s x.bus) xs _ (inr (refl, omega arith))),
+    (refl, inr (refl, inr (refl, lit< tt)), steps_ordered Replay c rest later (suc k) (add s x.bus) xs
+        (check_that (Holds (grid_of c) s x.bus x.reason) 9 k) (inr (refl, omega arith))),
   ),
 )
 steps_ordered Weave c rest later k s (x ∷ xs) p before = (
   in_table p (omega (arith, ahead_most p before)),
   ahead_first p 7 before refl,
-  (refl, inr (refl, inr (refl, lit< tt)), steps_ordered Weave c rest later (suc k) (add s x.bus) xs _ (inr (refl, omega arith))),
+  (refl, inr (refl, inr (refl, lit< tt)), steps_ordered Weave c rest later (suc k) (add s x.bus) xs
+      (check_that (Out s x.bus → Holds (grid_of c) s x.bus x.reason) 9 k) (inr (refl, omega arith))),
 )
 
 pub replay_ordered : (c : Case) (xs : List Step) → InTableOrder (replay_checks c xs)
@@ -143,13 +149,13 @@ replay_ordered c xs = (
   refl,
   inl (lit< tt),
   subst (λ (qs : List Check). InTableOrder (check_that (length xs ≤ most_steps) 12 0 ∷ qs)) (append-nil (checks_from Replay c 1 empty xs))
-      (steps_ordered Replay c [] (λ q h. in_table q (omega (arith, h))) 1 empty xs _ (inl (lit< tt))),
+      (steps_ordered Replay c [] (λ q h. in_table q (omega (arith, h))) 1 empty xs (check_that (length xs ≤ most_steps) 12 0) (inl (lit< tt))),
 )
 
 pub weave_ordered : (c : Case) (xs : List Step) (room : ℕ) → InTableOrder (weave_checks c xs room)
 weave_ordered c xs room =
     let last = check_that (length (woven xs) ≤ room) 6 0 ∷ [] in
-    (refl, inl (lit< tt), steps_ordered Weave c last (later-follows step_turn last (lit≤ tt) (lit< tt) refl).1 1 empty xs _ (inl (lit< tt)))
+    (refl, inl (lit< tt), steps_ordered Weave c last (later-follows step_turn last (lit≤ tt) (lit< tt) refl).1 1 empty xs (check_that (length xs ≤ most_steps) 12 0) (inl (lit< tt)))
 
 steps-turn : (c : Case) (k s : ℕ) (xs : List Step) → TurnsBy step_turn (checks_from Replay c k s xs)
 steps-turn c k s [] = tt

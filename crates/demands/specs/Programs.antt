@@ -1,7 +1,7 @@
 -- What each program prints: on every input its own report, which its bytes always have room for.
 use Rattle.std.specs.Prelude.{◌≡◌, List, ℕ, length}
 use contract.Lifetimes.{Lfts}
-use Rattle.std.specs.Borrow.{Bor}
+use Rattle.std.specs.Borrow.{Bor, MutBor}
 use Rattle.refusals.specs.declared.Written.{Written}
 use Rattle.refusals.specs.declared.Written.TheVariants.{Bytes}
 use Rattle.report_lines.specs.Printing.{Printed}
@@ -25,15 +25,15 @@ pub record Programs (M : Type 1) : Type 2 where
   pub plan_replies : plan.statement M
   pub rounds_replies : rounds.statement M
   -- which asks nothing, and tells that the day report's text is first in the bytes lent
-  pub day_prints : (κs : Lfts 2) (text out : Bor (List ℕ)) → day-contract.Asked κs (text, (out, tt))
-      × ((k : ℕ) (left : Bor (List ℕ)) → day-contract.Learnt κs (text, (out, tt)) k (text, (left, tt))
+  pub day_prints : (κs : Lfts 2) (text : Bor (List ℕ)) (out : MutBor (List ℕ)) → day-contract.Asked κs (text, (out, tt))
+      × ((k : ℕ) (left : MutBor (List ℕ)) → day-contract.Learnt κs (text, (out, tt)) k (text, (left, tt))
       → Printed (DayPrinted text.now) out.now left.now k)
   -- and so for the planning program and the rounds report
-  pub plan_prints : (κs : Lfts 2) (input out : Bor (List ℕ)) → plan-contract.Asked κs (input, (out, tt))
-      × ((k : ℕ) (left : Bor (List ℕ)) → plan-contract.Learnt κs (input, (out, tt)) k (input, (left, tt))
+  pub plan_prints : (κs : Lfts 2) (input : Bor (List ℕ)) (out : MutBor (List ℕ)) → plan-contract.Asked κs (input, (out, tt))
+      × ((k : ℕ) (left : MutBor (List ℕ)) → plan-contract.Learnt κs (input, (out, tt)) k (input, (left, tt))
       → Printed (PlanPrinted input.now) out.now left.now k)
-  pub rounds_prints : (κs : Lfts 2) (text out : Bor (List ℕ)) → rounds-contract.Asked κs (text, (out, tt))
-      × ((k : ℕ) (left : Bor (List ℕ)) → rounds-contract.Learnt κs (text, (out, tt)) k (text, (left, tt))
+  pub rounds_prints : (κs : Lfts 2) (text : Bor (List ℕ)) (out : MutBor (List ℕ)) → rounds-contract.Asked κs (text, (out, tt))
+      × ((k : ℕ) (left : MutBor (List ℕ)) → rounds-contract.Learnt κs (text, (out, tt)) k (text, (left, tt))
       → Printed (RoundsPrinted text.now) out.now left.now k)
   -- in so many bytes the report is never refused with 6
   pub day-room : (text lent left : List ℕ) (r : Written) → length lent ≡ day_room → day_report_call.promise text lent left r → Prints r
