@@ -77,7 +77,8 @@ woven_append s [] ys = refl
 woven_append s (x ∷ xs) ys =
     let t = add s x.bus in
     let d = bit s x.bus in
-    ap (λ (l : List Step). unless_seen d x l) (woven_append t xs ys) ∙ unless_append d x (woven_from t xs) (woven_from (reached_from t xs) ys)
+    ap (λ (l : List Step). unless_seen d x l) (woven_append t xs ys)
+    ∙ unless_append d x (woven_from t xs) (woven_from (reached_from t xs) ys)
 
 -- ys leads from s to t, with one step for each bus that t has more
 abbrev Once : ℕ → List Step → ℕ → Type 0

@@ -57,10 +57,6 @@ module _ {m : ℕ} {xs before : List Step} {i s k : ℕ} {zs : List Step} (can :
       (λ (h : length xs ≤ i). absurd (omega (arith, can.some, w.count, ap (λ (ys : List Step). length (woven ys)) (take_all i xs h))))
       (below_or i (length xs))
 
-  -- and room for it
-  pub room_comes : k < length zs
-  room_comes = omega (arith, can.room, w.long)
-
   pub bus_comes : Bus width x.bus
   bus_comes = each_at (λ y. Bus width y.bus) xs i (can.buses (omega arith)) step_comes
 

@@ -7,11 +7,10 @@ pub loop-i-init : goal.loop-i-init
 loop-i-init c = (c.begin-st.ensures, omega arith)
 
 pub loop-i-preserved : goal.loop-i-preserved
-loop-i-preserved c =
-    (
-      stands-more c.args.steps.now c.loop-i.i c.loop-i.invariant.0 c.loop-i-test.true (c.apply-st.ensures c.args.site),
-      omega (arith, c.loop-i-test.true),
-    )
+loop-i-preserved c = (
+  stands-more c.args.steps.now c.loop-i.i c.loop-i.invariant.0 c.loop-i-test.true (c.apply-st.ensures c.args.site),
+  omega (arith, c.loop-i-test.true),
+)
 
 pub returns : goal.returns
 returns c = stands-all c.args.steps.now c.loop-i.i c.loop-i.invariant.0 c.loop-i-test.false

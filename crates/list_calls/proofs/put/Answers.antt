@@ -4,7 +4,7 @@ use lib.ListN.{length}
 use native.Mathlib.Omega.{arith}
 use borrow.Author.Rules.{rules}
 use Rattle.busset.proofs.Words.{empty-set}
-use Rattle.list_follow.proofs.Putting.{put-none, step_comes, room_comes, bus_comes, put_more, put_all}
+use Rattle.list_follow.proofs.Putting.{put-none, step_comes, bus_comes, put_more, put_all}
 use Rattle.list_calls.proofs.put.Goals as goal
 
 pub loop-k-init : goal.loop-k-init

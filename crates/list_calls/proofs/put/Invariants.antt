@@ -1,4 +1,5 @@
--- What the first i steps write is written, but that the record after it may hold anything until m are written. A step is left while fewer are.
+-- What the first i steps write is written, but that the record after it may hold anything until m are written.
+-- What is left of the steps falls: there is one to come while fewer than m are written.
 use Prim.Native.Nat.{◌-◌}
 use lib.ListN.{length}
 use Rattle.list_follow.proofs.Putting.{PutSoFar}

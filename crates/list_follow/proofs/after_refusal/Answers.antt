@@ -1,6 +1,5 @@
 -- Every refusal but 8 is bad; 8 goes by the task.
 use mathlib.Core.Path.{sym, ◌∙◌}
-use borrow.Author.Rules.{rules}
 use Rattle.list_follow.proofs.Going.{replay-refuses, weave_passes_over, other-refuses}
 use Rattle.list_follow.proofs.after_refusal.Goals as goal
 

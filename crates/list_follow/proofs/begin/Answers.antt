@@ -1,6 +1,5 @@
 -- Before its first step a list reaches the empty set.
 use mathlib.Core.Path.{refl}
-use borrow.Author.Rules.{rules}
 use Rattle.busset.proofs.Words.{empty-set}
 use Rattle.list_follow.proofs.begin.Goals as goal
 

@@ -1,6 +1,5 @@
 -- By the standing: a good list's set is what its steps reach, and a bad one's refusal is the first check that fails.
 use Rattle.list_follow.proofs.Ends.{ended-good, ended-bad}
-use borrow.Author.Rules.{rules}
 use Rattle.list_follow.proofs.ended.Goals as goal
 
 pub returns-in-Good : goal.returns-in-Good

@@ -1,8 +1,6 @@
 -- A list is finished if what O1 gives is observed, and a sweep of O2 changes nothing.
-use borrow.Author.Tests.{not-true, not-false}
 use Rattle.basics.proofs.Tests.{refutes}
 use Rattle.list_follow.proofs.Ends.{finished_unless_started, finished_test}
-use borrow.Author.Rules.{rules}
 use Rattle.list_follow.proofs.is_finished.Goals as goal
 
 pub returns-then-not-is_subset : goal.returns-then-not-is_subset

@@ -1,6 +1,5 @@
 -- By the standing, and for a good one by the room.
 use Rattle.list_follow.proofs.Ends.{settled-fits, settled-full, settled-bad}
-use borrow.Author.Rules.{rules}
 use Rattle.list_follow.proofs.settled.Goals as goal
 
 pub returns-then-n-room : goal.returns-then-n-room

@@ -5,7 +5,6 @@ use Rattle.text_field.specs.declared.Numeral.TheVariants.{Wrong}
 use Rattle.case_line.proofs.Answers.{stop, pass}
 use Rattle.case_line.proofs.Fields.{by_first}
 use Rattle.plan_input.specs.Asking.{plan_fields, budget_of}
-use borrow.Author.Rules.{rules}
 use Rattle.plan_input.proofs.budget_of.Goals as goal
 
 pub returns-then-not-is_same : goal.returns-then-not-is_same

@@ -3,7 +3,6 @@ use mathlib.Core.Path.{◌∙◌}
 use Rattle.case_line.proofs.Fields.{by_none}
 use Rattle.plan_input.specs.Asking.{plan_fields}
 use Rattle.plan_input.proofs.Inputs.{fields_some}
-use borrow.Author.Rules.{rules}
 use Rattle.plan_input.proofs.plan_fields.Goals as goal
 
 pub returns-then-line-at : goal.returns-then-line-at

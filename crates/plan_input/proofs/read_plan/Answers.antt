@@ -2,7 +2,6 @@
 use native.Mathlib.Omega.{arith}
 use mathlib.Core.Path.{◌∙◌}
 use Rattle.plan_input.proofs.Inputs.{too_long, no_feed, asked_by}
-use borrow.Author.Rules.{rules}
 use Rattle.plan_input.proofs.read_plan.Goals as goal
 
 pub returns-then-input-gt-MOST_BYTES : goal.returns-then-input-gt-MOST_BYTES

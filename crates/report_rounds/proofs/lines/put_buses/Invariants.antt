@@ -1,19 +1,12 @@
 -- Invariant: of the buses that the word holds, those of `left` are left to put. How many they are falls, and bounds every place.
-use native.Mathlib.Omega.{arith}
-use borrow.Author.Rules.{rules}
-use borrow.Author.Tests.{not-true, not-false}
-use mathlib.Core.Path.{◌≡◌, refl, ◌∙◌}
+use mathlib.Core.Path.{◌≡◌}
 use mathlib.Core.List.{List}
 use Prim.Native.Nat.{ℕ, ◌+◌, ◌*◌, ◌≤◌}
 use lib.ListN.{length}
-use Rattle.busset.specs.Sets.{set_of, size, width}
-use Rattle.busset.proofs.Words.{set-size}
-use Rattle.basics.proofs.Tests.{refutes}
+use Rattle.busset.specs.Sets.{set_of, size}
 use Rattle.text_field.specs.Number.{most_digits}
-use Rattle.text_field.proofs.Digits.{text_length}
-use Rattle.text_put.proofs.Putting.{put_length}
 use Rattle.round_list.specs.Rounds.{HoldsBuses}
-use Rattle.round_list.proofs.Putting.{BusesLeft, buses-none, buses-more, buses-all}
+use Rattle.round_list.proofs.Putting.{BusesLeft}
 use Rattle.report_rounds.specs.Lines.{tabbed}
 use Rattle.report_rounds.proofs.lines.put_buses.Given as goal
 

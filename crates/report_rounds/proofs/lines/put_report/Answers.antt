@@ -1,7 +1,6 @@
 -- Two texts, put one after another, are the report. The lines of the rounds end within the bound of the last line.
 use Rattle.text_field.specs.Split.{join}
 use Rattle.text_put.proofs.Putting.{put_then}
-use borrow.Author.Rules.{rules}
 use Rattle.report_rounds.proofs.lines.put_report.Goals as goal
 
 pub returns : goal.returns

@@ -1,15 +1,13 @@
 -- Invariant: the lines of the rounds from i on are left to put. i-end - i falls. Each line is bounded, and so is every place.
 use Prim.Native.Nat.{ℕ, ◌*◌, ◌-◌, ◌≤◌}
-use mathlib.Core.Path.{◌≡◌, refl}
+use mathlib.Core.Path.{◌≡◌}
 use mathlib.Core.List.{List}
-use native.Mathlib.Omega.{arith}
 use lib.ListN.{length}
-use borrow.Author.Rules.{rules}
-use Rattle.text_put.proofs.Left.{Left, left-none, left-more, left-all}
+use Rattle.text_put.proofs.Left.{Left}
 use Rattle.round_list.specs.Rounds.{HeldRounds}
 use Rattle.report_rounds.specs.Rounds.{round_lines}
 use Rattle.report_rounds.specs.Lines.{line_reach}
-use Rattle.report_rounds.proofs.Texts.{rest_rounds, rest-first, rest-next, rest_all}
+use Rattle.report_rounds.proofs.Texts.{rest_rounds}
 use Rattle.report_rounds.proofs.lines.put_rounds.Given as goal
 
 abbrev pub invariant-loop-i : goal.invariant-loop-i
