@@ -52,17 +52,20 @@ module _ (s : Place) (r : Record) where
   pub last_of : judged s r ≡ Last → next_or_last r ≡ Last
   unfolding judged
   last_of e =
-      (passed (in_place s r) (in_range s r) (in_order s r) {v = next_or_last r} e (λ z. not_one (cc)) (λ z. not_one (cc)) (λ z. not_one (cc))).3
+      (passed (in_place s r) (in_range s r) (in_order s r) {v = next_or_last r} e (λ z. not_one (cc)) (λ z. not_one (cc))
+      (λ z. not_one (cc))).3
 
   pub last-place : judged s r ≡ Last → in_place s r ≡ true
   unfolding judged
   last-place e =
-      (passed (in_place s r) (in_range s r) (in_order s r) {v = next_or_last r} e (λ z. not_one (cc)) (λ z. not_one (cc)) (λ z. not_one (cc))).0
+      (passed (in_place s r) (in_range s r) (in_order s r) {v = next_or_last r} e (λ z. not_one (cc)) (λ z. not_one (cc))
+      (λ z. not_one (cc))).0
 
   pub goes_of : judged s r ≡ Next → next_or_last r ≡ Next
   unfolding judged
   goes_of e =
-      (passed (in_place s r) (in_range s r) (in_order s r) {v = next_or_last r} e (λ z. not_one (cc)) (λ z. not_one (cc)) (λ z. not_one (cc))).3
+      (passed (in_place s r) (in_range s r) (in_order s r) {v = next_or_last r} e (λ z. not_one (cc)) (λ z. not_one (cc))
+      (λ z. not_one (cc))).3
 
   pub accepted_of : judged s r ≡ Next → TestsPassed s r
   unfolding judged

@@ -50,7 +50,8 @@ rows-length : (nbr : ℕ → ℕ) (counts : ℕ → ℕ → ℕ) (a m : ℕ) →
 unfolding line_records
 rows-length nbr counts a zero h = omega arith
 rows-length nbr counts a (suc m) h =
-    simp length-append (omega (arith, members_length (line_from counts a) (nbr a) (a + 1) m, rows-length nbr counts (a + 1) m (omega arith)))
+    simp length-append (omega
+    (arith, members_length (line_from counts a) (nbr a) (a + 1) m, rows-length nbr counts (a + 1) m (omega arith)))
 
 -- ---- bounds for a grid
 

@@ -51,7 +51,8 @@ case_ended c k (b ∷ l) ms = refused (WrongForm k)
 
 -- what is read where the line feed of `end` is at index e, and line k would follow
 abbrev pub case_ended_after : Reader → ℕ → List ℕ → ℕ → CaseRead
-case_ended_after s k text e = case_ended (case_so_far s) k (split line_feed (drop (e + 1) text)).first (split line_feed (drop (e + 1) text)).rest
+case_ended_after s k text e = case_ended (case_so_far s) k (split line_feed (drop (e + 1) text)).first
+    (split line_feed (drop (e + 1) text)).rest
 
 -- what is said of line k
 abbrev pub record_said : Judgement → ℕ → CaseRead → CaseRead → CaseRead

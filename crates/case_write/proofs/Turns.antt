@@ -64,7 +64,14 @@ module _ {recs : ℕ → ℕ → List Record} {most first count n : ℕ} {l : Li
   pub turn_first : first ≤ n + 1 → n + 1 - first ≡ count → Turn recs most first count n l at (n + 1) l at first
   unfolding rest
   turn_first h e =
-      record { low = omega arith; high = h; last = refl; near = omega arith; left = left-none (ap (λ (x : ℕ). lines_text (recs first x)) e) }
+      record {
+        low = omega arith;
+        high = h;
+        last = refl;
+        near = omega arith;
+        left = left-none
+            (ap (λ (x : ℕ). lines_text (recs first x)) e);
+      }
 
   turn_next : {end k b q : ℕ} {m t o : List ℕ} → Turn recs most first count n l at end m k b → b < end →
       lines_text (recs b (suc (n - b))) ≡ t ++ lines_text (recs (b + 1) (n - b)) → length t ≤ most → Put m k t o q

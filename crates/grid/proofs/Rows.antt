@@ -64,7 +64,8 @@ module _ (rows : Rows) (x i : ℕ) (w : SetWord) (h : 1 ≤ x) (k : i < bus_sets
   set_put_other zero j m ne = set-none (with_set rows x i w) j m ∙ sym (set-none rows j m)
   set_put_other (suc y) j m ne =
       sym (set-at (with_set rows x i w) (suc y) j (omega arith))
-      ∙ ap set_of (get_or-set_other rows (bus_sets * (x - 1) + i) (bus_sets * (suc y - 1) + j) w empty_word (λ e. ne (omega arith) (omega arith)))
+      ∙ ap set_of (get_or-set_other rows (bus_sets * (x - 1) + i) (bus_sets * (suc y - 1) + j) w empty_word
+      (λ e. ne (omega arith) (omega arith)))
       ∙ set-at rows (suc y) j (omega arith)
 
 -- there are still as many sets

@@ -27,7 +27,8 @@ summed-more {nbr} {b} {sum} {r} {u} {m} s em eu er l = record {
   is =
       let here : r ≡ size (up_to b (nbr b)) = er ∙ ap size eu ∙ ap (λ (x : ℕ). size (up_to b x)) em in
       let step = total-step b (λ a. size (up_to a (nbr a))) s.low in
-      let next : line_count (b + 1 - 1) nbr ≡ line_count b nbr = let e : b + 1 - 1 ≡ b = omega arith in ap (λ (k : ℕ). line_count k nbr) e in
+      let next : line_count (b + 1 - 1) nbr ≡ line_count b nbr = let e : b + 1 - 1 ≡ b = omega arith in ap (λ (k : ℕ). line_count k nbr) e
+      in
       omega (arith, s.is, here, step, next);
   most = omega (arith, s.most);
 }

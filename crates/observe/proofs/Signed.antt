@@ -57,7 +57,8 @@ module _ (degree observed : ℕ) (hd : degree ≤ width) (ho : observed ≤ suc 
       subst (SFits w32) (sym sum_is)
       (record { sfits = omega (arith, mag_sub (pos 1) (pos degree), mag_add (pos 1 -ℤ pos degree) (pos observed)) })
 
-  pub sum_result : to_z w32 (of_z w32 (to_z w32 (of_z w32 (pos 1 -ℤ to_z w32 degree)) +ℤ to_z w32 observed)) ≡ pos 1 -ℤ pos degree +ℤ pos observed
+  pub sum_result : to_z w32 (of_z w32 (to_z w32 (of_z w32 (pos 1 -ℤ to_z w32 degree)) +ℤ to_z w32 observed)) ≡ pos 1 -ℤ pos degree +ℤ pos
+      observed
   sum_result = to_z-of_z sum_fits ∙ sum_is
 
 -- ---- the figure

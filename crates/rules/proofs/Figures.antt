@@ -25,7 +25,8 @@ unknown nbr s i j = size (lack (less (nbr i) j) s)
 
 one_less : (n : ℕ) → pos 1 -ℤ pos (suc n) ≡ neg_ℤ (pos n)
 one_less n =
-    ap (λ (z : ℤ). pos 1 +ℤ neg_ℤ z) (ap pos (sym (one-add n)) ∙ sym (pos-+ℤ-pos 1 n)) ∙ ap (λ (z : ℤ). pos 1 +ℤ z) (neg_ℤ-+ℤ (pos 1) (pos n))
+    ap (λ (z : ℤ). pos 1 +ℤ neg_ℤ z) (ap pos (sym (one-add n)) ∙ sym (pos-+ℤ-pos 1 n))
+    ∙ ap (λ (z : ℤ). pos 1 +ℤ z) (neg_ℤ-+ℤ (pos 1) (pos n))
     ∙ sym (+ℤ_assoc (pos 1) (neg_ℤ (pos 1)) (neg_ℤ (pos n))) ∙ ap (λ (z : ℤ). z +ℤ neg_ℤ (pos n)) (+ℤ_invr (pos 1)) ∙ +ℤ_idl (neg_ℤ (pos n))
 
 -- what is added and taken away again is gone

@@ -9,10 +9,6 @@ use Rattle.step.specs.declared.Step.{Step}
 use Rattle.step.specs.Records.{no_step, put_first}
 use Rattle.step.proofs.Writing.{WrittenSoFar, written_none, written-more}
 
-pub put-long : (k : ℕ) (told : ℕ → Step) (before : List Step) → length (put_first k told before) ≡ length before
-put-long zero told before = refl
-put-long (suc k) told before = length-set (put_first k told before) k (told k) ∙ put-long k told before
-
 pub put_next : (k : ℕ) (told : ℕ → Step) (before : List Step) (x : Step) → x ≡ told k
     → set (put_first k told before) k x ≡ put_first (k + 1) told before
 put_next k told before x e = ap (set (put_first k told before) k) e ∙ ap (λ (j : ℕ). put_first j told before) (sym (add-one k))

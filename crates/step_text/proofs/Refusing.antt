@@ -54,7 +54,8 @@ unfolding read_steps
 text-placed text = go (ltb most_step_bytes (length text)) refl
   where
     go : (b : Bool) → ltb most_step_bytes (length text) ≡ b
-        → PlacedBy (1 + most_step_bytes) (cond b (Refused TextTooLong) (step_lines 1 (split line_feed text).first (split line_feed text).rest))
+        → PlacedBy (1 + most_step_bytes)
+        (cond b (Refused TextTooLong) (step_lines 1 (split line_feed text).first (split line_feed text).rest))
     go true e = omega arith
     go false e =
         lines-placed (1 + most_step_bytes) (split line_feed text).rest 1 (split line_feed text).first

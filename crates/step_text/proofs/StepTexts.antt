@@ -43,12 +43,14 @@ step-judged k true on ons h = passing (true ≡ true) 3 k refl (go (ltb most_ste
   where
     go : (b : Bool) → ltb most_steps k ≡ b → StepsBy (check_that (k ≤ most_steps) 12 k ∷ ons) (cond b (Refused (TooManySteps k)) on)
     go true e =
-        failing (k ≤ most_steps) 12 k (TooManySteps k) (λ l. omega (arith, l, ltb→lt most_steps k (subst⁻¹ T e tt))) (itself (TooManySteps k))
+        failing (k ≤ most_steps) 12 k (TooManySteps k) (λ l. omega (arith, l, ltb→lt most_steps k (subst⁻¹ T e tt)))
+        (itself (TooManySteps k))
     go false e = passing (k ≤ most_steps) 12 k (nltb→le most_steps k (subst⁻¹ (λ (b : Bool). T (not b)) e tt)) h
 
 -- a line: 2, and then the lines after it, or after `end` nothing
 line-judged : (x : StepLine) (k : ℕ) (on end : StepsRead) (ons ends : List Check) → StepsBy ons on → StepsBy ends end
-    → StepsBy (check_that (is_formed x ≡ true) 2 k ∷ check_that (is_ranged x ≡ true) 3 k ∷ check_that (HasTurn x k) 12 k ∷ after_step x ends ons)
+    → StepsBy (check_that (is_formed x ≡ true) 2 k ∷ check_that (is_ranged x ≡ true) 3 k ∷ check_that (HasTurn x k) 12 k ∷ after_step x
+    ends ons)
     (line_said x k on end)
 line-judged (line.Step x) k on end ons ends p q = passing (true ≡ true) 2 k refl (step-judged k (step_in_range x) on ons p)
 line-judged line.End k on end ons ends p q =

@@ -93,7 +93,8 @@ read_law text before r e = (e, go r e)
     xs : List Step
     xs = steps_of text
 
-    go : (r : StepsRead) → r ≡ with_room (length before) (read_steps text) → put_first (count_read r) (nth_step xs) before ≡ leaves r xs before
+    go : (r : StepsRead) → r ≡ with_room (length before) (read_steps text)
+        → put_first (count_read r) (nth_step xs) before ≡ leaves r xs before
     go (Steps n) e =
         let f = said_fits (length before) n (read_steps text) e in
         let c = steps-count text n f.0 in

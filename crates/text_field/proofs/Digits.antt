@@ -8,7 +8,8 @@ use native.Mathlib.Omega.{arith}
 use borrow.Author.Tests.{le-leb, lt-ltb, le-ltb, ltb-true, ltb-false}
 use lib.Dec.{ltb}
 use lib.ListN.{length, length-append}
-use Rattle.text_field.specs.Number.{most_read, is_digit, takes_digit, number_from, numeral_of, most_digits, most_printed, digits, number_text}
+use Rattle.text_field.specs.Number.{most_read, is_digit, takes_digit, number_from}
+use Rattle.text_field.specs.Number.{numeral_of, most_digits, most_printed, digits, number_text}
 use Rattle.text_field.specs.declared.Numeral.{Numeral}
 use Rattle.text_field.specs.declared.Numeral.TheVariants.{Is, Wrong}
 use Rattle.text_field.proofs.Numbers.{Digit, DigitTaken, digit-of, taken_of}

@@ -26,7 +26,8 @@ all_pieces x = x.first ∷ x.rest
 unfoldable pub split : ℕ → List ℕ → Pieces
 split c [] = record { first = []; rest = [] }
 split c (x ∷ s) =
-    cond (eqb x c) (record { first = []; rest = all_pieces (split c s) }) (record { first = x ∷ (split c s).first; rest = (split c s).rest })
+    cond (eqb x c) (record { first = []; rest = all_pieces (split c s) })
+    (record { first = x ∷ (split c s).first; rest = (split c s).rest })
 
 -- pieces put together again, with c between them
 unfoldable pub join : ℕ → List ℕ → List (List ℕ) → List ℕ

@@ -1,5 +1,4 @@
 -- `reply` requires a place of at most 16385: that of a case text is a line of its 8192 bytes, and those of the call are 0.
-use borrow.Author.Rules.{rules}
 use Rattle.estimator.proofs.Bounds.{fewest-placed}
 use Rattle.estimator.proofs.wz_fewest.Goals as goal
 

@@ -1,5 +1,4 @@
 -- `reply` requires a place of at most 16385: it is a line of the case text, a line of the step text, or one of 1024 steps.
-use borrow.Author.Rules.{rules}
 use Rattle.estimator.proofs.Bounds.{replay-placed}
 use Rattle.estimator.proofs.wz_replay.Goals as goal
 

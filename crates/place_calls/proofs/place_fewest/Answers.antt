@@ -13,7 +13,11 @@ pub returns-then-not-is_valid : goal.returns-then-not-is_valid
 returns-then-not-is_valid c = inl (refutes c.is_valid.ensures c.if-not-is_valid.true, itself _)
 
 pub returns-then-most_budget-budget : goal.returns-then-most_budget-budget
-returns-then-most_budget-budget c = inr (c.is_valid.ensures.yes c.if-not-is_valid.false, inl (λ l. let over = c.if-most_budget-budget.true in omega (arith, c.most_budget.ensures), itself _))
+returns-then-most_budget-budget c = inr (
+  c.is_valid.ensures.yes c.if-not-is_valid.false,
+  inl
+      (λ l. let over = c.if-most_budget-budget.true in omega (arith, c.most_budget.ensures), itself _),
+)
 
 pub fewest-found-requires : goal.fewest-found-requires
 fewest-found-requires c =

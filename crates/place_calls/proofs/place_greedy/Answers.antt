@@ -14,7 +14,14 @@ pub returns-then-not-is_valid : goal.returns-then-not-is_valid
 returns-then-not-is_valid c = (inl (refutes c.is_valid.ensures c.if-not-is_valid.true, itself _), refl)
 
 pub returns-then-budget-gt-MOST_GREEDY_BUDGET : goal.returns-then-budget-gt-MOST_GREEDY_BUDGET
-returns-then-budget-gt-MOST_GREEDY_BUDGET c = (inr (c.is_valid.ensures.yes c.if-not-is_valid.false, inl (λ l. let over = c.if-budget-gt-MOST_GREEDY_BUDGET.true in omega arith, itself _)), refl)
+returns-then-budget-gt-MOST_GREEDY_BUDGET c = (
+  inr (
+    c.is_valid.ensures.yes c.if-not-is_valid.false,
+    inl
+        (λ l. let over = c.if-budget-gt-MOST_GREEDY_BUDGET.true in omega arith, itself _),
+  ),
+  refl,
+)
 
 pub returns-then-room-order : goal.returns-then-room-order
 returns-then-room-order c =

@@ -25,8 +25,10 @@ pub loop-p-preserved : goal.loop-p-preserved
 loop-p-preserved c = let sifted = c.loop-p.invariant in
     let asked = c.is_unconfirmed.ensures in
     elim c.if-is_unconfirmed.branch [
-      | then-is_unconfirmed w ↦ sifted-to (sifted-yes sifted (asked.yes w.if-is_unconfirmed.true) w.with-alone.ensures c.without-left.ensures) (ap set_of w.alone-is)
-      | else-is_unconfirmed w ↦ sifted-to (sifted-no sifted (refutes asked w.if-is_unconfirmed.false) c.without-left.ensures) (ap set_of w.alone-is)
+      | then-is_unconfirmed w ↦ sifted-to
+          (sifted-yes sifted (asked.yes w.if-is_unconfirmed.true) w.with-alone.ensures c.without-left.ensures) (ap set_of w.alone-is)
+      | else-is_unconfirmed w ↦ sifted-to (sifted-no sifted (refutes asked w.if-is_unconfirmed.false) c.without-left.ensures)
+          (ap set_of w.alone-is)
     ]
 
 pub returns : goal.returns

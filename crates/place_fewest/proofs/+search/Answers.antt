@@ -33,7 +33,8 @@ pub returns-then-is_full : goal.returns-then-is_full
 returns-then-is_full t c =
     λ sites units ch kept. (
       way-none c.if-k-eq0.true (empty-set c.none.ensures)
-          (full-covers (asked c.args.n c.args.nbr.now c.args.zero c.args.units sites units) (observed_whatever sites (c.observed.ensures _ 0)) (c.is_full.ensures.yes c.if-is_full.true)),
+          (full-covers (asked c.args.n c.args.nbr.now c.args.zero c.args.units sites units)
+          (observed_whatever sites (c.observed.ensures _ 0)) (c.is_full.ensures.yes c.if-is_full.true)),
       kept,
     )
 
@@ -42,7 +43,8 @@ returns-then-k-eq0 t c =
     λ sites units ch kept. (
       no-way-none c.if-k-eq0.true
           (λ covers. refutes c.is_full.ensures c.if-is_full.false
-          (covers-full (asked c.args.n c.args.nbr.now c.args.zero c.args.units sites units) (observed_whatever sites (c.observed.ensures _ 0)) covers)),
+          (covers-full (asked c.args.n c.args.nbr.now c.args.zero c.args.units sites units)
+          (observed_whatever sites (c.observed.ensures _ 0)) covers)),
       kept,
     )
 

@@ -11,7 +11,8 @@ use Rattle.place_pool.specs.Pool.{KeptGroups}
 use Rattle.place_fewest.proofs.fewest.Given as goal
 
 abbrev pub invariant-loop-k : goal.invariant-loop-k
-invariant-loop-k l = (l.k ≤ l.budget + 1) × (l.k-end ≡ l.budget + 1) × NoFewer (grid_with l.n l.nbr l.zero l.site l.units) (set_of l.free) l.k
+invariant-loop-k l = (l.k ≤ l.budget + 1) × (l.k-end ≡ l.budget + 1)
+    × NoFewer (grid_with l.n l.nbr l.zero l.site l.units) (set_of l.free) l.k
     × KeptGroups (grid_with l.n l.nbr l.zero l.site l.units) (direct (neighbours l.nbr)) (set_of l.free) l.pool
 
 abbrev pub decreases-loop-k : goal.decreases-loop-k

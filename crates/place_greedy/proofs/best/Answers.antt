@@ -21,8 +21,12 @@ loop-x-preserved c = λ n sites units m l.
     let compared = c.loop-x.invariant n sites units m l in
     let observed = lit-least l c.lit.ensures in
     elim c.if-most-size.branch [
-      | then-most-size w ↦ compared-to (compared_yes compared c.lowest-x.ensures c.without-left.ensures observed c.count-size.ensures.is w.if-most-size.true) w.site-is w.most-is
-      | else-most-size w ↦ compared-to (compared_no compared c.lowest-x.ensures c.without-left.ensures observed c.count-size.ensures.is w.if-most-size.false) w.site-is w.most-is
+      | then-most-size w ↦ compared-to
+          (compared_yes compared c.lowest-x.ensures c.without-left.ensures observed c.count-size.ensures.is w.if-most-size.true) w.site-is
+          w.most-is
+      | else-most-size w ↦ compared-to
+          (compared_no compared c.lowest-x.ensures c.without-left.ensures observed c.count-size.ensures.is w.if-most-size.false) w.site-is
+          w.most-is
     ]
 
 pub returns : goal.returns

@@ -7,7 +7,8 @@ use Rattle.place_pool.specs.Asking.{MeetsKept, Says}
 use Rattle.place_pool.proofs.ask_kept.Given as goal
 
 abbrev pub invariant-loop-i : goal.invariant-loop-i
-invariant-loop-i l = (l.i ≤ most_kept) × (l.a.apart ≤ l.k) × ((v : ℕ) → size v ≤ l.k → Sub v (set_of l.sites) → MeetsKept l.pool (set_of l.units) v → Says l.a v)
+invariant-loop-i l = (l.i ≤ most_kept) × (l.a.apart ≤ l.k)
+    × ((v : ℕ) → size v ≤ l.k → Sub v (set_of l.sites) → MeetsKept l.pool (set_of l.units) v → Says l.a v)
 
 abbrev pub decreases-loop-i : goal.decreases-loop-i
 decreases-loop-i l = most_kept - l.i

@@ -2,7 +2,6 @@
 use Rattle.report_lines.proofs.Printed.{printed-by}
 use Rattle.case_inverse.proofs.Answers.{read-good, read-bad}
 use Rattle.report_day.proofs.Reports.{day_by}
-use borrow.Author.Rules.{rules}
 use Rattle.report_day.proofs.day_report.Goals as goal
 
 pub report-requires : goal.report-requires

@@ -2,7 +2,6 @@
 use native.Mathlib.Omega.{arith}
 use Rattle.report_lines.proofs.Printed.{in_bytes, no_refusal}
 use Rattle.report_day.proofs.Days.{day-fits}
-use borrow.Author.Rules.{rules}
 use Rattle.report_day.proofs.program_report.Goals as goal
 
 pub returns-in-Bytes : goal.returns-in-Bytes

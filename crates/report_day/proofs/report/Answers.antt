@@ -1,7 +1,6 @@
 -- Each step of a derivation names buses 1 to n, which is what printing the list requires.
 use Rattle.report_lines.proofs.Printed.{printed-by}
 use Rattle.report_day.proofs.Reports.{derived-named, reported}
-use borrow.Author.Rules.{rules}
 use Rattle.report_day.proofs.report.Goals as goal
 
 pub print_day-requires : goal.print_day-requires

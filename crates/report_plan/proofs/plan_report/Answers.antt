@@ -4,7 +4,6 @@ use native.Mathlib.Omega.{arith}
 use Rattle.report_lines.proofs.Printed.{printed-by}
 use Rattle.plan_input.proofs.Inputs.{asked_valid, asked_placed}
 use Rattle.report_plan.proofs.Reports.{plan_by}
-use borrow.Author.Rules.{rules}
 use Rattle.report_plan.proofs.plan_report.Goals as goal
 
 pub report-requires : goal.report-requires

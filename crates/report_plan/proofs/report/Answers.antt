@@ -1,7 +1,6 @@
 -- Three exits: the budget is over its limit, the search has the fewest, or it has that no plan is within the budget.
 use Rattle.report_lines.proofs.Printed.{printed-by}
 use Rattle.report_plan.proofs.Reports.{over-budget, no_cover, fewest_found}
-use borrow.Author.Rules.{rules}
 use Rattle.report_plan.proofs.report.Goals as goal
 
 pub returns-then-most_budget-budget : goal.returns-then-most_budget-budget

@@ -1,4 +1,5 @@
--- Three texts, put one after another, are the line. A number has at most most_digits digits, so each part ends within the bound of the next.
+-- Three texts, put one after another, are the line. A number has at most most_digits digits, so each part ends within the bound of the
+-- next.
 use native.Mathlib.Omega.{arith}
 use Rattle.text_put.proofs.Putting.{put_then, tagged_near}
 use Rattle.text_put.proofs.put_pair.Goals as goal

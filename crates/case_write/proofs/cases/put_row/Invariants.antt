@@ -8,7 +8,8 @@ use Rattle.case_write.proofs.Turns.{Turn}
 use Rattle.case_write.proofs.cases.put_row.Given as goal
 
 abbrev pub invariant-loop-b : goal.invariant-loop-b
-invariant-loop-b l = Turn (members (line_from (circuits l.nbr) l.a) (set_of l.row)) line_room (l.a + 1) (l.n - l.a) l.n l.initial.out l.at l.b-end l.out l.k l.b
+invariant-loop-b l = Turn (members (line_from (circuits l.nbr) l.a) (set_of l.row)) line_room (l.a + 1) (l.n - l.a) l.n l.initial.out l.at
+    l.b-end l.out l.k l.b
 
 abbrev pub decreases-loop-b : goal.decreases-loop-b
 decreases-loop-b l = l.b-end - l.b

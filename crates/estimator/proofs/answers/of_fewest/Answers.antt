@@ -1,6 +1,5 @@
 -- Two arms, as `of_fewest` maps a reply.
 use mathlib.Core.Path.{sym, ap}
-use borrow.Author.Rules.{rules}
 use Rattle.estimator.specs.Answers.{of_fewest}
 use Rattle.estimator.proofs.answers.of_fewest.Goals as goal
 

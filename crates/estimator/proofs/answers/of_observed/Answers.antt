@@ -1,6 +1,5 @@
 -- Two arms, as `of_observed` maps a reply.
 use mathlib.Core.Path.{sym, ap}
-use borrow.Author.Rules.{rules}
 use Rattle.estimator.specs.Answers.{of_observed}
 use Rattle.estimator.proofs.answers.of_observed.Goals as goal
 

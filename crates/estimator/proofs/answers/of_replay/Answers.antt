@@ -1,6 +1,5 @@
 -- Three arms, as `of_replay` maps a reply: a refusal in reading the steps is apart from one in replaying them.
 use mathlib.Core.Path.{sym, ap}
-use borrow.Author.Rules.{rules}
 use Rattle.estimator.specs.Answers.{of_replay}
 use Rattle.estimator.proofs.answers.of_replay.Goals as goal
 

@@ -1,6 +1,5 @@
 -- Two arms, as `of_verdict` maps a reply.
 use mathlib.Core.Path.{sym, ap}
-use borrow.Author.Rules.{rules}
 use Rattle.estimator.specs.Answers.{of_verdict}
 use Rattle.estimator.proofs.answers.of_verdict.Goals as goal
 

@@ -1,6 +1,5 @@
 -- A refused case text is the answer. Otherwise the reply of `cross_validate` meets its own promise, and the answer is that of the reply.
 use Rattle.estimator.proofs.Reading.{of_read, of_refused}
-use borrow.Author.Rules.{rules}
 use Rattle.estimator.proofs.answers.unconfirmed.Goals as goal
 
 pub returns-in-Read : goal.returns-in-Read

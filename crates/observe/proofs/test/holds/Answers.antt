@@ -17,8 +17,10 @@ returns-in-OwnUnit c n sites =
 
 pub returns-in-NeighbourOf : goal.returns-in-NeighbourOf
 returns-in-NeighbourOf c n sites =
-    holds_by (grid_with n c.args.nbr.now c.args.zero sites c.args.units) (set_of c.args.s) c.args.x (NeighbourOf _) c.in-NeighbourOf.is c.by_unit.ensures
+    holds_by (grid_with n c.args.nbr.now c.args.zero sites c.args.units) (set_of c.args.s) c.args.x (NeighbourOf _) c.in-NeighbourOf.is
+    c.by_unit.ensures
 
 pub returns-in-ZeroInjection : goal.returns-in-ZeroInjection
 returns-in-ZeroInjection c n sites =
-    holds_by (grid_with n c.args.nbr.now c.args.zero sites c.args.units) (set_of c.args.s) c.args.x (ZeroInjection _) c.in-ZeroInjection.is c.by_zero.ensures
+    holds_by (grid_with n c.args.nbr.now c.args.zero sites c.args.units) (set_of c.args.s) c.args.x (ZeroInjection _)
+    c.in-ZeroInjection.is c.by_zero.ensures

@@ -25,11 +25,18 @@ pub returns-then-not-holds : goal.returns-then-not-holds
 returns-then-not-holds c sites =
     inr (
       c.names.ensures.yes c.if-not-names.false,
-      inr (out_of (set_of c.args.s) c.args.x.bus (refutes c.has.ensures c.if-has.false), inl (refutes (c.holds.ensures c.args.n sites) c.if-not-holds.true, itself _)),
+      inr (
+        out_of (set_of c.args.s) c.args.x.bus (refutes c.has.ensures c.if-has.false),
+        inl
+            (refutes (c.holds.ensures c.args.n sites) c.if-not-holds.true, itself _),
+      ),
     )
 
 pub returns : goal.returns
 returns c sites = (
   c.names.ensures.yes c.if-not-names.false,
-  (out_of (set_of c.args.s) c.args.x.bus (refutes c.has.ensures c.if-has.false), ((c.holds.ensures c.args.n sites).yes c.if-not-holds.false, tt)),
+  (
+    out_of (set_of c.args.s) c.args.x.bus (refutes c.has.ensures c.if-has.false),
+    ((c.holds.ensures c.args.n sites).yes c.if-not-holds.false, tt),
+  ),
 )

@@ -13,7 +13,8 @@ abbrev pub invariant-loop-x : goal.invariant-loop-x
 invariant-loop-x l =
     Sub (set_of l.left) (set_of l.initial.left) × Sub (set_of l.tries) (set_of l.initial.tries)
     × Keeping (bare_grid l.n l.nbr l.zero) (set_of l.free) (set_of l.units) l.initial.pool l.pool
-    (λ g. ToTry g (set_of l.sites) l.k (set_of l.initial.left) (set_of l.initial.tries) → ToTry g (set_of l.sites) l.k (set_of l.left) (set_of l.tries))
+    (λ g. ToTry g (set_of l.sites) l.k (set_of l.initial.left) (set_of l.initial.tries)
+    → ToTry g (set_of l.sites) l.k (set_of l.left) (set_of l.tries))
 
 abbrev pub decreases-loop-x : goal.decreases-loop-x
 decreases-loop-x l = size (set_of l.tries)

@@ -8,7 +8,8 @@ use Rattle.place_bound.specs.Branches.{Keeping}
 use Rattle.place_bound.proofs.hopeless.seed.Given as goal
 
 abbrev pub invariant-loop-m : goal.invariant-loop-m
-invariant-loop-m l = (l.m ≤ l.budget + 1) × Keeping (bare_grid l.n l.nbr l.zero) (set_of l.free) (set_of l.units) l.initial.pool l.pool (λ g. Closed g (set_of l.s))
+invariant-loop-m l = (l.m ≤ l.budget + 1)
+    × Keeping (bare_grid l.n l.nbr l.zero) (set_of l.free) (set_of l.units) l.initial.pool l.pool (λ g. Closed g (set_of l.s))
 
 abbrev pub decreases-loop-m : goal.decreases-loop-m
 decreases-loop-m l = l.budget + 1 - l.m

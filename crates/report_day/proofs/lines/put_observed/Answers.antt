@@ -1,6 +1,5 @@
 -- The line of two numbers is what `put_pair` puts, once `join` is unfolded.
 use Rattle.text_field.specs.Split.{join}
-use borrow.Author.Rules.{rules}
 use Rattle.report_day.proofs.lines.put_observed.Goals as goal
 
 pub returns : goal.returns

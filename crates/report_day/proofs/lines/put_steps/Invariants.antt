@@ -1,12 +1,10 @@
 -- Invariant: the lines of the steps from i on are left to put. i-end - i falls. The steps name buses, which bounds the whole text.
-use borrow.Author.Rules.{rules}
 use Prim.Native.Nat.{◌-◌, ◌≤◌}
-use mathlib.Core.Path.{◌≡◌, refl}
-use native.Mathlib.Omega.{arith}
+use mathlib.Core.Path.{◌≡◌}
 use Rattle.list_value.specs.Lists.{listed_steps}
-use Rattle.text_put.proofs.Left.{Left, left-none, left-more, left-all}
+use Rattle.text_put.proofs.Left.{Left}
 use Rattle.report_day.specs.Day.{steps_text}
-use Rattle.report_day.proofs.Texts.{rest_steps, rest-first, rest-next, rest_all, nth_named, list_length}
+use Rattle.report_day.proofs.Texts.{rest_steps}
 use Rattle.report_day.proofs.lines.put_steps.Given as goal
 
 abbrev pub invariant-loop-i : goal.invariant-loop-i

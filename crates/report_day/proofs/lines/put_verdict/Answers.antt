@@ -4,7 +4,6 @@ use Rattle.text_field.specs.Split.{join}
 use Rattle.text_field.proofs.Digits.{text_length}
 use Rattle.text_put.proofs.Putting.{put_then}
 use Rattle.report_day.proofs.Texts.{verdict-some}
-use borrow.Author.Rules.{rules}
 use Rattle.report_day.proofs.lines.put_verdict.Goals as goal
 
 pub returns-then-alone-eq0 : goal.returns-then-alone-eq0

@@ -1,6 +1,5 @@
 -- What counts is what writes: the length put into one byte of room is that of the text, so refusal 6 is decided before it is put.
 use Rattle.report_lines.proofs.Printed.{put-printed, not_printed}
-use borrow.Author.Rules.{rules}
 use Rattle.report_plan.proofs.printing.print_plan.Goals as goal
 
 pub returns-then-out-put_plan : goal.returns-then-out-put_plan

@@ -1,8 +1,6 @@
 -- Four texts, put one after another, are the plan. The first ends after 7 bytes and a number, and the units take at most row_room bytes.
-use Prim.Native.Nat.{◌+◌, ◌≤◌}
 use native.Mathlib.Omega.{arith}
 use Rattle.text_field.specs.Split.{join}
-use Rattle.text_field.specs.Number.{most_digits}
 use Rattle.text_field.proofs.Digits.{text_length}
 use Rattle.case_read.proofs.Lengths.{members_most}
 use Rattle.report_plan.proofs.Reports.{plan_put}
@@ -18,15 +16,15 @@ put_units-d-requires c = (omega (arith, c.put_byte-b.ensures.next, c.put_tagged-
 
 pub put_all-requires : goal.put_all-requires
 put_all-requires c = (
-      omega (
-        arith,
-        put-near c.put_units-d.ensures (members_most _ c.requires _ _),
-        c.put_byte-b.ensures.next,
-        c.put_tagged-a.ensures.next,
-        text_length c.count.result,
-      ),
-      omega arith,
-    )
+  omega (
+    arith,
+    put-near c.put_units-d.ensures (members_most _ c.requires _ _),
+    c.put_byte-b.ensures.next,
+    c.put_tagged-a.ensures.next,
+    text_length c.count.result,
+  ),
+  omega arith,
+)
 
 pub returns : goal.returns
 unfolding join
