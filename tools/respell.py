@@ -1,12 +1,16 @@
 #!/usr/bin/env python3
-"""Respells the repository's own definitions and lemmas as today's Rattle spells them. It ran once, right after the kit's port.py.
+"""Respells the repository's own definitions and lemmas as today's Rattle spells them.
 
-usage: respell.py          at the top of the repository: rewrites crates/, docs/ and README.md in place, and prints each new spelling
-       respell.py --list   prints each new spelling, and writes nothing
+It ran once, right after the kit's port.py.
 
-Words are in snake case, so that setOf becomes set_of. A dash joins two names: where what stands on one of its sides is no name of a
-definition, a field or a function, it becomes an underscore. Types, modules and what src/ declares keep their names, and so does every
-string, input and output. A spelling that is already in use, or that two names would have, is not taken: such a name stays as it was.
+usage: respell.py          at the top of the repository: rewrites crates/, docs/ and README.md in place
+       respell.py --list   writes nothing
+Both print each new spelling.
+
+Words are in snake case, so that setOf becomes set_of. A dash joins two names: where what is on one of its sides is no
+name of a definition, a field or a function, it becomes an underscore. Types, modules and what src/ declares keep their
+names, and so does every string, input and output. A spelling that is already in use, or that two names would have, is
+not taken: such a name stays as it was, or, if it is a lemma's beside its definition's, it ends in _lem.
 """
 
 import collections

@@ -92,7 +92,8 @@ weave (c, xs) before after =
     reply-meets (WeaveReply c xs before after) (weave_checks c xs (length before)) wove.Refused
     (weave_ordered c xs (length before)) (λ q p. p) cases
   where
-    cases : (r : Wove) → WeaveReply c xs before after r → Passed (weave_checks c xs (length before)) ⊎ ((q : Refusal) × (r ≡ wove.Refused q))
+    cases : (r : Wove) → WeaveReply c xs before after r → Passed (weave_checks c xs (length before))
+        ⊎ ((q : Refusal) × (r ≡ wove.Refused q))
     cases (wove.Written count s) p = inl p.0
     cases (wove.Refused q) p = inr (q, refl)
 

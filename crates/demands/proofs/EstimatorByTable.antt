@@ -116,7 +116,8 @@ of-text text P checks inner a p = go (case-judged text)
     by : CaseRead → Type 0
     by x = OfRead x.answer x.case P a
 
-    go : SaidBy refused IsCase (case_checks text) (read_case text) → Ends (case_checks text ++ checks (read_case text).case) (AnswerRefuses a)
+    go : SaidBy refused IsCase (case_checks text) (read_case text)
+        → Ends (case_checks text ++ checks (read_case text).case) (AnswerRefuses a)
     go (good h (c, e)) =
         ends-later (case_checks text) (checks (read_case text).case) (AnswerRefuses a) h
         (subst⁻¹ (λ (x : CaseRead). Ends (checks x.case) (AnswerRefuses a)) e (inner c a (subst by e p)))

@@ -108,7 +108,8 @@ plan_line-judged numeral.Wrong r checks h = failing (IsNumber numeral.Wrong) 2 1
 plan_lines-judged : (l : List ℕ) (ms : List (List ℕ)) → ReadBy (plan_line_checks l ms) (plan_lines l ms).read
 unfolding plan_lines
 plan_lines-judged l [] = failing ⊥ 2 1 (WrongForm 1) (λ x. x) (itself (WrongForm 1))
-plan_lines-judged l (m ∷ ms) = plan_line-judged (budget_of l) (read_lines start 2 m ms) (line_checks start 2 m ms) (lines-judged start 2 m ms)
+plan_lines-judged l (m ∷ ms) = plan_line-judged (budget_of l) (read_lines start 2 m ms) (line_checks start 2 m ms)
+    (lines-judged start 2 m ms)
 
 input-judged : (input : List ℕ) → ReadBy (input_checks input) (read_plan input).read
 unfolding read_plan

@@ -12,7 +12,8 @@ use Rattle.refusals.proofs.Orders.{failed-unique, failed_or_passed}
 use Rattle.place_calls.specs.declared.Verdict.TheVariants as verdict
 use Rattle.place_calls.specs.declared.Greedy.TheVariants as greedy
 use Rattle.place_calls.specs.declared.Fewest.TheVariants as fewest
-use Rattle.place_calls.specs.Replies.{verdict_checks, cross_validate_call, greedy_checks, place_greedy_call, fewest_checks, place_fewest_call}
+use Rattle.place_calls.specs.Replies.{verdict_checks, cross_validate_call, greedy_checks}
+use Rattle.place_calls.specs.Replies.{place_greedy_call, fewest_checks, place_fewest_call}
 use Rattle.demands.specs.Determined.{OneReply}
 
 pub cross_validate : OneReply cross_validate_call

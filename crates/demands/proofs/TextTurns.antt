@@ -72,7 +72,8 @@ lines-turn s k l (m ∷ ms) =
     )
 
 pub case_ordered : (text : List ℕ) → InTableOrder (case_checks text)
-case_ordered text = lines_ordered start 1 (split line_feed text).first (split line_feed text).rest (check_that (length text ≤ most_bytes) 1 0) (inl (lit< tt))
+case_ordered text = lines_ordered start 1 (split line_feed text).first (split line_feed text).rest
+    (check_that (length text ≤ most_bytes) 1 0) (inl (lit< tt))
 
 pub case-turn : (text : List ℕ) → TurnsBy line_turn (case_checks text)
 case-turn text = (lit≤ tt, lines-turn start 1 (split line_feed text).first (split line_feed text).rest)

@@ -170,7 +170,8 @@ text-replay-ends c text r p = go (steps-judged text)
 
 pub text-replay-follows : (c : Case) (text : List ℕ) → ComesAfter 1 (text_replay_checks c text)
 text-replay-follows c text =
-    then_follows 3 1 (with_fifty (step_text_checks text)) (replay_checks c (steps_of text)) (fifty-follows text) (fifty-text-turn text) (lit≤ tt)
+    then_follows 3 1 (with_fifty (step_text_checks text)) (replay_checks c (steps_of text)) (fifty-follows text) (fifty-text-turn text)
+    (lit≤ tt)
     (replay-follows c (steps_of text))
 
 pub replay-text : AllByTable replay_text_call

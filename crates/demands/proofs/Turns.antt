@@ -133,15 +133,23 @@ steps_ordered Replay c rest later k s (x ∷ xs) p before = (
   (
     refl,
     inr (refl, inr (refl, lit< tt)),
-    (refl, inr (refl, inr (refl, lit< tt)), steps_ordered Replay c rest later (suc k) (add s x.bus) xs
-        (check_that (Holds (grid_of c) s x.bus x.reason) 9 k) (inr (refl, omega arith))),
+    (
+      refl,
+      inr (refl, inr (refl, lit< tt)),
+      steps_ordered Replay c rest later (suc k) (add s x.bus) xs
+          (check_that (Holds (grid_of c) s x.bus x.reason) 9 k) (inr (refl, omega arith)),
+    ),
   ),
 )
 steps_ordered Weave c rest later k s (x ∷ xs) p before = (
   in_table p (omega (arith, ahead_most p before)),
   ahead_first p 7 before refl,
-  (refl, inr (refl, inr (refl, lit< tt)), steps_ordered Weave c rest later (suc k) (add s x.bus) xs
-      (check_that (Out s x.bus → Holds (grid_of c) s x.bus x.reason) 9 k) (inr (refl, omega arith))),
+  (
+    refl,
+    inr (refl, inr (refl, lit< tt)),
+    steps_ordered Weave c rest later (suc k) (add s x.bus) xs
+        (check_that (Out s x.bus → Holds (grid_of c) s x.bus x.reason) 9 k) (inr (refl, omega arith)),
+  ),
 )
 
 pub replay_ordered : (c : Case) (xs : List Step) → InTableOrder (replay_checks c xs)
@@ -149,13 +157,18 @@ replay_ordered c xs = (
   refl,
   inl (lit< tt),
   subst (λ (qs : List Check). InTableOrder (check_that (length xs ≤ most_steps) 12 0 ∷ qs)) (append-nil (checks_from Replay c 1 empty xs))
-      (steps_ordered Replay c [] (λ q h. in_table q (omega (arith, h))) 1 empty xs (check_that (length xs ≤ most_steps) 12 0) (inl (lit< tt))),
+      (steps_ordered Replay c [] (λ q h. in_table q (omega (arith, h))) 1 empty xs (check_that (length xs ≤ most_steps) 12 0)
+      (inl (lit< tt))),
 )
 
 pub weave_ordered : (c : Case) (xs : List Step) (room : ℕ) → InTableOrder (weave_checks c xs room)
 weave_ordered c xs room =
-    let last = check_that (length (woven xs) ≤ room) 6 0 ∷ [] in
-    (refl, inl (lit< tt), steps_ordered Weave c last (later-follows step_turn last (lit≤ tt) (lit< tt) refl).1 1 empty xs (check_that (length xs ≤ most_steps) 12 0) (inl (lit< tt)))
+    let last = check_that (length (woven xs) ≤ room) 6 0 ∷ [] in (
+      refl,
+      inl (lit< tt),
+      steps_ordered Weave c last (later-follows step_turn last (lit≤ tt) (lit< tt) refl).1 1 empty xs
+          (check_that (length xs ≤ most_steps) 12 0) (inl (lit< tt)),
+    )
 
 steps-turn : (c : Case) (k s : ℕ) (xs : List Step) → TurnsBy step_turn (checks_from Replay c k s xs)
 steps-turn c k s [] = tt

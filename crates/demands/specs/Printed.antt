@@ -43,4 +43,5 @@ plan_line_checks l (m ∷ ms) = check_that (IsNumber (budget_of l)) 2 1 ∷ line
 
 -- 1 for the whole input, then the first bad line
 abbrev pub input_checks : List ℕ → List Check
-input_checks input = check_that (length input ≤ most_bytes) 1 0 ∷ plan_line_checks (split line_feed input).first (split line_feed input).rest
+input_checks input = check_that (length input ≤ most_bytes) 1 0 ∷ plan_line_checks (split line_feed input).first
+    (split line_feed input).rest

@@ -40,7 +40,8 @@ room_for (Refused q) room e = absurd (code-some q e)
 room_for (Unread q) room e = absurd (omega arith)
 
 -- the bytes where the result is 0, and where it is not
-pub bytes-filled : (a : Answer) (lent : List ℕ) → result_of a (length lent) ≡ 0 → set_bytes (set_in a) ++ drop set_length lent ≡ left_by a lent
+pub bytes-filled : (a : Answer) (lent : List ℕ) → result_of a (length lent) ≡ 0
+    → set_bytes (set_in a) ++ drop set_length lent ≡ left_by a lent
 bytes-filled (Set s) lent e = sym (has_room_lem _ _ (room_for (Set s) (length lent) e))
 bytes-filled (Refused q) lent e = absurd (code-some q e)
 bytes-filled (Unread q) lent e = absurd (omega arith)

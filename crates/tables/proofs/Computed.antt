@@ -49,7 +49,8 @@ pub record Known : Type 0 where
 
 pub known : Known
 unfolding valid_test lines_test within_test row_test above least_test accepted_test holds_test closed_test sub_test is_one gap given total
-    neighbours hold word_of set_of up_to less lack add ones ones_in pick reason_for reason_at step_for pass_from extended derive set_at written_row
+    neighbours hold word_of set_of up_to less lack add ones ones_in pick reason_for reason_at step_for pass_from extended derive set_at
+    written_row
 known = record {
   none = observed (seven []) (set []) refl refl;
   at2 = observed (seven (2 ∷ [])) (set (1 ∷ 2 ∷ 3 ∷ [])) refl refl;

@@ -49,13 +49,13 @@ alone d bs v w e =
 
 -- no units, and a unit alone
 pub nobody : UnconfirmedSet (seven_grid []).neighbours (set []) (set [])
-unfolding valid_test lines_test within_test above row_test unconfirmed_test alone_test confirm_test gap given total meet up_to neighbours hold
-    word_of add set_of ones ones_in lack set_at written_row
+unfolding valid_test lines_test within_test above row_test unconfirmed_test alone_test confirm_test gap given total meet up_to neighbours
+    hold word_of add set_of ones ones_in lack set_at written_row
 nobody = alone (seven []) [] refl refl refl
 
 pub itself : UnconfirmedSet (seven_grid []).neighbours (set (3 ∷ [])) (set (3 ∷ []))
-unfolding valid_test lines_test within_test above row_test unconfirmed_test alone_test confirm_test gap given total meet up_to neighbours hold
-    word_of add set_of ones ones_in lack set_at written_row
+unfolding valid_test lines_test within_test above row_test unconfirmed_test alone_test confirm_test gap given total meet up_to neighbours
+    hold word_of add set_of ones ones_in lack set_at written_row
 itself = alone (seven (3 ∷ [])) (3 ∷ []) refl refl refl
 
 pub unconfirmed-right : AllRight tables.unconfirmed_table
@@ -67,8 +67,8 @@ unconfirmed-right =
     & tt
 
 pub sets_right : AllRight tables.unconfirmed_set_table
-unfolding valid_test lines_test within_test above row_test unconfirmed_test alone_test confirm_test gap given total meet up_to neighbours hold
-    word_of add set_of ones ones_in lack set_at written_row
+unfolding valid_test lines_test within_test above row_test unconfirmed_test alone_test confirm_test gap given total meet up_to neighbours
+    hold word_of add set_of ones ones_in lack set_at written_row
 sets_right =
     nobody
     & itself

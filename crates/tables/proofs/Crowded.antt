@@ -26,5 +26,6 @@ too_many v =
     omega (arith, v.few, one-too_many, ap (line_count 24) same)
 
 pub most-right : AllRight most_lines_table
-unfolding valid_test lines_test within_test above row_test total neighbours hold word_of add less lack up_to set_of ones ones_in set_at written_row
+unfolding valid_test lines_test within_test above row_test total neighbours hold word_of add less lack up_to set_of ones ones_in set_at
+    written_row
 most-right = filled_passes (short_crowd 3) refl & too_many & tt

@@ -52,8 +52,8 @@ table_right = refl
 -- ---- which case values are valid
 
 pub valid-right : AllRight grids.valid_table
-unfolding valid_test lines_test within_test above row_test total lack less up_to written_row neighbours set_at circuits with_circuits with_bit hold
-    word_of add set_of ones ones_in
+unfolding valid_test lines_test within_test above row_test total lack less up_to written_row neighbours set_at circuits with_circuits
+    with_bit hold word_of add set_of ones ones_in
 valid-right =
     filled_passes (short_case (seven (3 ∷ []))) refl
     & filled_passes (short_case path) refl
@@ -87,7 +87,8 @@ proper-right =
     & tt
 
 pub lines-right : AllRight grids.line_table
-unfolding neighbours hold word_of add set_of valid_test lines_test within_test above row_test total lack up_to ones ones_in set_at written_row
+unfolding neighbours hold word_of add set_of valid_test lines_test within_test above row_test total lack up_to ones ones_in set_at
+    written_row
 lines-right =
     pair_lines 1 2 refl
     & (λ l. omega (arith, l.back))

@@ -175,8 +175,8 @@ pub record Placed : Type 0 where
 
 pub known_places : Placed
 unfolding valid_test lines_test within_test row_test above least_test accepted_test holds_test closed_test sub_test is_one gap given total
-    neighbours hold word_of set_of up_to less lack add ones ones_in pick reason_for reason_at step_for pass_from extended derive sought_from judge
-    or_else choose seek first_of smallest no_better best_test none_test greedy_test set_at written_row
+    neighbours hold word_of set_of up_to less lack add ones ones_in pick reason_for reason_at step_for pass_from extended derive
+    sought_from judge or_else choose seek first_of smallest no_better best_test none_test greedy_test set_at written_row
 known_places = record {
   fewest1 = found (short_case (seven [])) 1 none refl refl;
   fewest2 = found (short_case (seven [])) 2 (some (set (1 ∷ 4 ∷ []))) refl refl;
@@ -248,7 +248,8 @@ best-right =
     & tt
 
 -- of two lists that differ at some place, greedy adds only one
-not_greedy : (g : Grid) (budget i : ℕ) (xs ys : List ℕ) → GreedyList g budget xs → (get_or xs i 0 ≡ get_or ys i 0 → ⊥) → GreedyList g budget ys
+not_greedy : (g : Grid) (budget i : ℕ) (xs ys : List ℕ) → GreedyList g budget xs → (get_or xs i 0 ≡ get_or ys i 0 → ⊥)
+    → GreedyList g budget ys
     → ⊥
 not_greedy g budget i xs ys h ne k = ne (ap (λ (zs : List ℕ). get_or zs i 0) (greedy-unique g budget xs ys h k))
 

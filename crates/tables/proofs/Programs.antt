@@ -66,9 +66,9 @@ other : (i : ℕ) (s t : List ℕ) → s ≡ t → (get_or s i 0 ≡ get_or t i 
 other i s t e ne = ne (ap (λ (x : List ℕ). get_or x i 0) e)
 
 pub days_right : AllRight tables.day_printed_table
-unfolding read_case read_text read_lines judged is_bus is_after past_buses record_of record_word_of line_fields bus_fields mark_of if_one_field
-    if_no_field split same is_digit takes_digit number_from numeral_of add held.hold held.word_of set_of neighbours steps_text step_text refused_text
-    join digits ones ones_in set_at is_several with_line with_end with_circuits with_bit less lack
+unfolding read_case read_text read_lines judged is_bus is_after past_buses record_of record_word_of line_fields bus_fields mark_of
+    if_one_field if_no_field split same is_digit takes_digit number_from numeral_of add held.hold held.word_of set_of neighbours
+    steps_text step_text refused_text join digits ones ones_in set_at is_several with_line with_end with_circuits with_bit less lack
 days_right =
     day
     & day_none
@@ -101,10 +101,10 @@ days_right =
     }
 
 pub plans_right : AllRight tables.plan_printed_table
-unfolding read_plan plan_lines budget_of plan_fields read_case read_text read_lines judged is_bus is_after past_buses record_of record_word_of
-    line_fields bus_fields mark_of if_one_field if_no_field split same is_digit takes_digit number_from numeral_of add held.hold held.word_of set_of
-    neighbours refused_text members lines_text record_text join digits ones ones_in set_at is_several with_line with_end with_circuits with_bit less
-    lack
+unfolding read_plan plan_lines budget_of plan_fields read_case read_text read_lines judged is_bus is_after past_buses record_of
+    record_word_of line_fields bus_fields mark_of if_one_field if_no_field split same is_digit takes_digit number_from numeral_of add
+    held.hold held.word_of set_of neighbours refused_text members lines_text record_text join digits ones ones_in set_at is_several
+    with_line with_end with_circuits with_bit less lack
 plans_right =
     found (set (1 ∷ 4 ∷ [])) (omega arith, (fewest-some known_places.fewest2, tt)) known_places.fewest2 refl
     & no-plan NoCover (omega arith then stop known_places.fewest1 (itself _)) refl
@@ -125,8 +125,8 @@ not_unread (listed.Reached s f) q e = let z : ◌≡◌ {A = ℕ} 0 1 = cc in om
 not_unread (listed.Refused r) q e = let z : ◌≡◌ {A = ℕ} 0 1 = cc in omega arith
 
 pub replays_right : AllRight tables.text_replay_table
-unfolding read_steps step_lines step_in_range steps_from steps_in step_line_of step_word_of lettered_fields reason_fields step_fields if_one_field
-    if_no_field split same is_bus is_digit takes_digit number_from numeral_of
+unfolding read_steps step_lines step_in_range steps_from steps_in step_line_of step_word_of lettered_fields reason_fields step_fields
+    if_one_field if_no_field split same is_bus is_digit takes_digit number_from numeral_of
 replays_right =
     (listed.Reached _ true, (replies.replays_right).0, refl)
     & refl
@@ -138,8 +138,8 @@ replays_right =
     & tt
 
 pub readings_right : AllRight tables.steps_read_table
-unfolding read_steps step_lines step_in_range steps_from steps_in step_line_of step_word_of lettered_fields reason_fields step_fields if_one_field
-    if_no_field split same is_bus is_digit takes_digit number_from numeral_of
+unfolding read_steps step_lines step_in_range steps_from steps_in step_line_of step_word_of lettered_fields reason_fields step_fields
+    if_one_field if_no_field split same is_bus is_digit takes_digit number_from numeral_of
 readings_right =
     (refl, refl)
     & (refl, refl)
@@ -176,10 +176,10 @@ abbrev five : SetWord
 five = word_with (1 ∷ 2 ∷ 3 ∷ 4 ∷ 7 ∷ [])
 
 pub calls-right : AllRight tables.estimator_table
-unfolding read_case read_text read_lines judged is_bus is_after past_buses record_of record_word_of line_fields bus_fields mark_of if_one_field
-    if_no_field split same is_digit takes_digit number_from numeral_of add held.hold held.word_of set_of neighbours read_steps step_lines
-    step_in_range steps_from steps_in step_line_of step_word_of lettered_fields reason_fields step_fields byte_of bytes_from set_at is_several with_line
-    with_end with_circuits with_bit less lack
+unfolding read_case read_text read_lines judged is_bus is_after past_buses record_of record_word_of line_fields bus_fields mark_of
+    if_one_field if_no_field split same is_digit takes_digit number_from numeral_of add held.hold held.word_of set_of neighbours
+    read_steps step_lines step_in_range steps_from steps_in step_line_of step_word_of lettered_fields reason_fields step_fields byte_of
+    bytes_from set_at is_several with_line with_end with_circuits with_bit less lack
 calls-right =
     gives tables.lent (Set five) (says (observed.Set five) (replies.sets_right).0)
     & gives tables.lent (Set (word_with (3 ∷ [])))

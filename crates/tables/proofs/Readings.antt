@@ -35,9 +35,9 @@ use Rattle.tables.proofs.Deriving.{names_pass}
 -- ---- case texts
 
 pub cases-right : case.CasesRight
-unfolding read_case read_text read_lines judged is_bus is_after past_buses record_of record_word_of line_fields bus_fields mark_of if_one_field
-    if_no_field split same is_digit takes_digit number_from numeral_of add held.hold held.word_of set_of neighbours set_at is_several with_line
-    with_end with_circuits with_bit less lack
+unfolding read_case read_text read_lines judged is_bus is_after past_buses record_of record_word_of line_fields bus_fields mark_of
+    if_one_field if_no_field split same is_digit takes_digit number_from numeral_of add held.hold held.word_of set_of neighbours set_at
+    is_several with_line with_end with_circuits with_bit less lack
 cases-right = refl
 
 pub texts_right : case.CaseTextsRight
@@ -46,8 +46,8 @@ unfolding bus_records members line_records lines_text record_text join digits ne
 texts_right = refl
 
 pub allowed-right : AllRight case.grammar_table
-unfolding read_lines judged is_bus is_after past_buses record_of record_word_of line_fields bus_fields mark_of if_one_field if_no_field split join same
-    is_digit takes_digit number_from numeral_of is_several
+unfolding read_lines judged is_bus is_after past_buses record_of record_word_of line_fields bus_fields mark_of if_one_field if_no_field
+    split join same is_digit takes_digit number_from numeral_of is_several
 allowed-right =
     read-reads (split line_feed (block case.one_input)).rest start 1 (split line_feed (block case.one_input)).first case.one_case refl
     & (λ h. not_got _ (reads-read start _ _ 1 (omega arith) h))
@@ -59,18 +59,18 @@ unfolding with_line with_end with_circuits with_bit set_at neighbours less lack 
 wired_right = refl
 
 pub whole-right : case.WholeTextsRight
-unfolding read_case read_text read_lines judged is_bus is_after past_buses record_of record_word_of line_fields bus_fields mark_of if_one_field
-    if_no_field split same is_digit takes_digit number_from numeral_of is_several
+unfolding read_case read_text read_lines judged is_bus is_after past_buses record_of record_word_of line_fields bus_fields mark_of
+    if_one_field if_no_field split same is_digit takes_digit number_from numeral_of is_several
 whole-right = refl
 
 pub bus_limits_right : case.BusLimitsRight
-unfolding read_case read_text read_lines judged is_bus is_after past_buses record_of record_word_of record_text join digits if_one_field split same
-    is_digit takes_digit number_from numeral_of is_several
+unfolding read_case read_text read_lines judged is_bus is_after past_buses record_of record_word_of record_text join digits if_one_field
+    split same is_digit takes_digit number_from numeral_of is_several
 bus_limits_right = refl
 
 pub later-right : case.LaterLinesRight
-unfolding read_case read_text read_lines judged is_bus is_after past_buses record_of record_word_of line_fields bus_fields mark_of if_one_field
-    if_no_field split same is_digit takes_digit number_from numeral_of is_several
+unfolding read_case read_text read_lines judged is_bus is_after past_buses record_of record_word_of line_fields bus_fields mark_of
+    if_one_field if_no_field split same is_digit takes_digit number_from numeral_of is_several
 later-right = refl
 
 pub case_limits_right : case.CaseLimitsRight
@@ -88,13 +88,13 @@ unfolding step_in_range is_bus
 ranges_right = refl
 
 pub readings_right : steps.ReadStepsRight
-unfolding read_steps step_lines step_in_range is_bus step_line_of step_word_of lettered_fields reason_fields step_fields if_one_field if_no_field split
-    same is_digit takes_digit number_from numeral_of
+unfolding read_steps step_lines step_in_range is_bus step_line_of step_word_of lettered_fields reason_fields step_fields if_one_field
+    if_no_field split same is_digit takes_digit number_from numeral_of
 readings_right = refl
 
 pub beyond-right : steps.BeyondRight
-unfolding step_lines step_in_range is_bus step_line_of step_word_of lettered_fields reason_fields step_fields if_one_field if_no_field split same is_digit
-    takes_digit number_from numeral_of
+unfolding step_lines step_in_range is_bus step_line_of step_word_of lettered_fields reason_fields step_fields if_one_field if_no_field
+    split same is_digit takes_digit number_from numeral_of
 beyond-right = refl
 
 pub step_limits_right : steps.StepLimitsRight
@@ -102,13 +102,13 @@ unfolding read_steps step_lines step_line_of step_word_of split same
 step_limits_right = refl
 
 pub lists-right : steps.StepsOfRight
-unfolding steps_from steps_in step_line_of step_word_of lettered_fields reason_fields step_fields if_one_field if_no_field split same is_digit
-    takes_digit number_from numeral_of
+unfolding steps_from steps_in step_line_of step_word_of lettered_fields reason_fields step_fields if_one_field if_no_field split same
+    is_digit takes_digit number_from numeral_of
 lists-right = refl
 
 pub found_right : AllRight steps.step_at_table
-unfolding steps_from steps_in step_line_of step_word_of lettered_fields reason_fields step_fields if_one_field if_no_field split same is_digit
-    takes_digit number_from numeral_of
+unfolding steps_from steps_in step_line_of step_word_of lettered_fields reason_fields step_fields if_one_field if_no_field split same
+    is_digit takes_digit number_from numeral_of
 found_right =
     (names_pass most_buses (own 1) refl, (names_pass most_buses (near most_buses 1) refl, tt))
     & (λ h. omega (arith, h.1.0.reason.most))
@@ -151,14 +151,14 @@ unfolding budget_of plan_fields split same is_digit takes_digit number_from nume
 budgets_right = refl
 
 pub inputs_right : reports.InputsRight
-unfolding read_plan plan_lines budget_of plan_fields read_lines judged is_bus is_after past_buses record_of record_word_of line_fields bus_fields
-    mark_of if_one_field if_no_field split same is_digit takes_digit number_from numeral_of is_several
+unfolding read_plan plan_lines budget_of plan_fields read_lines judged is_bus is_after past_buses record_of record_word_of line_fields
+    bus_fields mark_of if_one_field if_no_field split same is_digit takes_digit number_from numeral_of is_several
 inputs_right = refl
 
 pub asked-right : reports.AskedRight
-unfolding read_plan plan_lines budget_of plan_fields read_lines judged is_bus is_after past_buses record_of record_word_of line_fields bus_fields
-    mark_of if_one_field if_no_field split same is_digit takes_digit number_from numeral_of add held.hold held.word_of set_of neighbours set_at
-    is_several with_line with_end with_circuits with_bit less lack
+unfolding read_plan plan_lines budget_of plan_fields read_lines judged is_bus is_after past_buses record_of record_word_of line_fields
+    bus_fields mark_of if_one_field if_no_field split same is_digit takes_digit number_from numeral_of add held.hold held.word_of set_of
+    neighbours set_at is_several with_line with_end with_circuits with_bit less lack
 asked-right = refl
 
 pub plan_limits_right : reports.PlanLimitsRight

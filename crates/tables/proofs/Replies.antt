@@ -244,10 +244,9 @@ fewests_right =
     over = v then stop (λ h. omega arith) (itself _)
 
 pub texts_right : AllRight tables.text_reply_table
-unfolding read_case read_text read_lines read_steps step_lines step_line_of step_word_of if_no_field split same valid_test lines_test within_test above
-    row_test total bus_records members line_records lines_text record_text join digits neighbours set_of ones ones_in lack set_at written_row
-    with_line
-    with_end with_circuits with_bit less circuits
+unfolding read_case read_text read_lines read_steps step_lines step_line_of step_word_of if_no_field split same valid_test lines_test
+    within_test above row_test total bus_records members line_records lines_text record_text join digits neighbours set_of ones ones_in
+    lack set_at written_row with_line with_end with_circuits with_bit less circuits
 texts_right =
     refl
     & refl

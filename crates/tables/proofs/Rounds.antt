@@ -44,8 +44,8 @@ record Shown : Type 0 where
   pub path : RoundsOf (drawn_grid onward) ((1 ∷ 2 ∷ []) ∷ (3 ∷ []) ∷ (4 ∷ []) ∷ [])
 
 shown : Shown
-unfolding rounds_test rising_test others_test among_test no_reason no_unit no_zero allowed_test reason_test holds_test sub_test given gap total
-    neighbours add lack less hold word_of set_of ones ones_in set_at
+unfolding rounds_test rising_test others_test among_test no_reason no_unit no_zero allowed_test reason_test holds_test sub_test given gap
+    total neighbours add lack less hold word_of set_of ones ones_in set_at
 shown = record {
   seven =
       rounds_pass (seven_grid (3 ∷ [])) empty ((near 2 3 ∷ own 3 ∷ near 4 3 ∷ near 7 3 ∷ []) ∷ (zero_at 1 2 ∷ []) ∷ [])
@@ -125,9 +125,9 @@ replies-right = (
         omega (arith, ap (λ (r : List ℕ). get_or r 7 0) (e ∙ sym (ap (λ (rs : List (List ℕ)). round_numbers rs ++ 9 ∷ []) is)))
 
 pub printed-right : AllRight tables.rounds_printed_table
-unfolding read_case read_text read_lines judged is_bus is_after past_buses record_of record_word_of line_fields bus_fields mark_of if_one_field
-    if_no_field split same is_digit takes_digit number_from numeral_of add hold word_of set_of neighbours refused_text join digits set_at is_several
-    with_line with_end with_circuits with_bit less lack round_lines round_fields
+unfolding read_case read_text read_lines judged is_bus is_after past_buses record_of record_word_of line_fields bus_fields mark_of
+    if_one_field if_no_field split same is_digit takes_digit number_from numeral_of add hold word_of set_of neighbours refused_text join
+    digits set_at is_several with_line with_end with_circuits with_bit less lack round_lines round_fields
 printed-right =
     seven
     & (λ h. different (rounds-text-unique (block input) _ _ seven h))

@@ -73,7 +73,8 @@ inside : (bs : List ℕ) → within_test 3 (set bs) ≡ 0 → Within 3 (set bs)
 inside bs e = within_passes 3 (set bs) (set-zero (word_with bs)) e
 
 -- what an operation on digits says of three such lists
-listed : (f : ℕ → ℕ → ℕ) (bs cs ds : List ℕ) → f 0 0 ≡ 0 → within_test 3 (set bs) ≡ 0 → within_test 3 (set cs) ≡ 0 → within_test 3 (set ds) ≡ 0
+listed : (f : ℕ → ℕ → ℕ) (bs cs ds : List ℕ) → f 0 0 ≡ 0 → within_test 3 (set bs) ≡ 0 → within_test 3 (set cs) ≡ 0
+    → within_test 3 (set ds) ≡ 0
     → total 3 (λ b. gap (bit (set ds) b) (f (bit (set bs) b) (bit (set cs) b))) ≡ 0
     → (b : ℕ) → bit (set ds) b ≡ f (bit (set bs) b) (bit (set cs) b)
 listed f bs cs ds z wb wc wd e = by_bus 3 f (set bs) (set cs) (set ds) z (inside bs wb) (inside cs wc) (inside ds wd) e

@@ -134,8 +134,8 @@ all_right (r ∷ rs) e = (row-right r (omega arith), all_right rs (omega arith))
 
 -- every row of the table is right
 pub table_right : AllStarredRight starred_table
-unfolding all_wrong wrong gap_sought valid_test lines_test within_test row_test least_test accepted_test holds_test closed_test sub_test is_one gap
-    given total neighbours hold word_of set_of figure up_to less lack meet add ones ones_in pick reason_for reason_at step_for pass_from extended
-    derive confirm_test alone_test unconfirmed_test no_better best_test none_test greedy_test above sought_from judge or_else choose seek first_of
-    smallest set_at written_row
+unfolding all_wrong wrong gap_sought valid_test lines_test within_test row_test least_test accepted_test holds_test closed_test sub_test
+    is_one gap given total neighbours hold word_of set_of figure up_to less lack meet add ones ones_in pick reason_for reason_at step_for
+    pass_from extended derive confirm_test alone_test unconfirmed_test no_better best_test none_test greedy_test above sought_from judge
+    or_else choose seek first_of smallest set_at written_row
 table_right = all_right starred_table refl

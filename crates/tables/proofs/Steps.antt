@@ -100,8 +100,8 @@ names-right =
 
 -- document 01's derivation
 pub is-derivation : Derivation (seven_grid (3 ∷ [])) steps.derivation_steps
-unfolding derived_test next_test no_sooner no_reason no_unit no_zero allowed_test reason_test holds_test sub_test given gap total neighbours add
-    lack less hold word_of set_of ones ones_in set_at
+unfolding derived_test next_test no_sooner no_reason no_unit no_zero allowed_test reason_test holds_test sub_test given gap total
+    neighbours add lack less hold word_of set_of ones ones_in set_at
 is-derivation = derived_passes (seven_grid (3 ∷ [])) known.at3.valid.proper (set []) steps.derivation_steps refl
 
 -- and that of no units
@@ -114,7 +114,10 @@ unfolding reason_test allowed_test gap neighbours lack add hold word_of set_of o
 accepted-right =
     (derived-accepted is-derivation).0
     & tt
-    & (allowed_passes (seven_grid (3 ∷ [])) (set []) (own 3) refl, (allowed_passes (seven_grid (3 ∷ [])) (set (3 ∷ [])) (near 2 3) refl, tt))
+    & (
+      allowed_passes (seven_grid (3 ∷ [])) (set []) (own 3) refl,
+      (allowed_passes (seven_grid (3 ∷ [])) (set (3 ∷ [])) (near 2 3) refl, tt),
+    )
     & (λ h. omega (arith, h.0.holds.observed))
     & (λ h. omega (arith, h.1.0.new))
     & (allowed_passes (seven_grid (3 ∷ [])) (set (2 ∷ 3 ∷ [])) (zero_at 1 2) refl, tt)
@@ -153,8 +156,8 @@ before-right =
     & tt
 
 pub next-right : AllRight derivation.next_step_table
-unfolding next_test no_sooner no_reason no_unit no_zero allowed_test reason_test holds_test sub_test given gap total neighbours lack less hold
-    word_of add set_of ones ones_in set_at
+unfolding next_test no_sooner no_reason no_unit no_zero allowed_test reason_test holds_test sub_test given gap total neighbours lack less
+    hold word_of add set_of ones ones_in set_at
 next-right =
     next_passes (seven_grid (3 ∷ [])) known.at3.valid.proper (set []) (near 2 3) refl
     & (λ h. omega (arith, h.lowest (near 2 3) (allowed_passes (seven_grid (3 ∷ [])) (set []) (near 2 3) refl)))
@@ -181,8 +184,8 @@ other : (g : Grid) (i : ℕ) (xs ys : List Step) → Derivation g xs
 other g i xs ys d ne h = let e = derived-unique d ys h in ne (ap length e) (ap (λ (zs : List Step). (get_or zs i no_step).bus) e)
 
 pub derivations_right : AllRight derivation.derivation_table
-unfolding derived_test next_test no_sooner no_reason no_unit no_zero allowed_test reason_test holds_test sub_test given gap total neighbours add
-    lack less hold word_of set_of ones ones_in set_at
+unfolding derived_test next_test no_sooner no_reason no_unit no_zero allowed_test reason_test holds_test sub_test given gap total
+    neighbours add lack less hold word_of set_of ones ones_in set_at
 derivations_right =
     is-derivation
     & (λ xs d. sym (derived-unique is-derivation xs d))

@@ -56,7 +56,8 @@ unfolding mark_of
 sites-right = refl
 
 pub records-right : records.RecordsRight
-unfolding record_of record_word_of line_fields bus_fields mark_of if_one_field if_no_field split same is_digit takes_digit number_from numeral_of
+unfolding record_of record_word_of line_fields bus_fields mark_of if_one_field if_no_field split same is_digit takes_digit number_from
+    numeral_of
 records-right = refl
 
 pub record_lines-right : records.RecordTextsRight
@@ -79,8 +80,8 @@ formed-right =
     & tt
 
 pub step-lines-right : records.StepLinesRight
-unfolding step_line_of step_word_of lettered_fields reason_fields step_fields if_one_field if_no_field split same is_digit takes_digit number_from
-    numeral_of
+unfolding step_line_of step_word_of lettered_fields reason_fields step_fields if_one_field if_no_field split same is_digit takes_digit
+    number_from numeral_of
 step-lines-right = refl
 
 pub step_texts_right : records.StepTextsRight

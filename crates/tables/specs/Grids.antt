@@ -5,7 +5,8 @@ use Rattle.busset.specs.Held.{SetWord, empty_word, word_of, hold_if}
 use Rattle.busset.specs.Bytes.{set_length}
 use Rattle.rules.specs.Grids.{Line, Proper, total, line_count}
 use Rattle.grid.specs.declared.Case.{Case}
-use Rattle.grid.specs.Limits.{most_buses, most_lines, most_circuits, least_several, most_steps, largest_budget, most_budget, most_greedy_budget}
+use Rattle.grid.specs.Limits.{most_buses, most_lines, most_circuits, least_several}
+use Rattle.grid.specs.Limits.{most_steps, largest_budget, most_budget, most_greedy_budget}
 use Rattle.grid.specs.Limits.{most_bytes, most_step_bytes}
 use Rattle.grid.specs.Rows.{neighbours, circuits}
 use Rattle.grid.specs.Cases.{grid_of, line_added, LinesAt, Lines, Valid}

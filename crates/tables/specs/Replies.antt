@@ -105,7 +105,8 @@ weave_reply_table =
     -- a refusal writes nothing
     ∷ fails (WeaveReply (seven_case (3 ∷ [])) (own 3 ∷ near 2 3 ∷ []) (own 7 ∷ []) (own 3 ∷ []) (wove.Refused NoRoom))
     -- 6 comes last
-    ∷ holds (WeaveReply (seven_case (3 ∷ [])) (own 3 ∷ near 2 3 ∷ zero_at 6 5 ∷ []) (own 7 ∷ []) (own 7 ∷ []) (wove.Refused (ReasonFails 3)))
+    ∷ holds (WeaveReply (seven_case (3 ∷ [])) (own 3 ∷ near 2 3 ∷ zero_at 6 5 ∷ []) (own 7 ∷ []) (own 7 ∷ [])
+    (wove.Refused (ReasonFails 3)))
     ∷ []
 
 -- ---- whole cases

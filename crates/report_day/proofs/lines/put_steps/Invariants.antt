@@ -8,7 +8,8 @@ use Rattle.report_day.proofs.Texts.{rest_steps}
 use Rattle.report_day.proofs.lines.put_steps.Given as goal
 
 abbrev pub invariant-loop-i : goal.invariant-loop-i
-invariant-loop-i l = (l.i ≤ l.i-end) × (l.i-end ≡ l.list.n) × Left l.initial.out l.at (steps_text (listed_steps l.list)) l.out l.k (rest_steps l.list l.i)
+invariant-loop-i l = (l.i ≤ l.i-end) × (l.i-end ≡ l.list.n)
+    × Left l.initial.out l.at (steps_text (listed_steps l.list)) l.out l.k (rest_steps l.list l.i)
 
 abbrev pub decreases-loop-i : goal.decreases-loop-i
 decreases-loop-i l = l.i-end - l.i

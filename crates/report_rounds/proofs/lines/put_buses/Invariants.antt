@@ -11,7 +11,8 @@ use Rattle.report_rounds.specs.Lines.{tabbed}
 use Rattle.report_rounds.proofs.lines.put_buses.Given as goal
 
 abbrev pub invariant-loop-b : goal.invariant-loop-b
-invariant-loop-b l = (l.k + (1 + most_digits) * size (set_of l.left) ≤ l.at + (1 + most_digits) * size (set_of l.r)) × (length l.out ≡ length l.initial.out)
+invariant-loop-b l = (l.k + (1 + most_digits) * size (set_of l.left) ≤ l.at + (1 + most_digits) * size (set_of l.r))
+    × (length l.out ≡ length l.initial.out)
     × ((buses : List ℕ) → HoldsBuses l.r buses → BusesLeft tabbed l.initial.out l.at buses l.out l.k l.left)
 
 abbrev pub decreases-loop-b : goal.decreases-loop-b
