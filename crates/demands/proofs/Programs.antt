@@ -1,5 +1,5 @@
 -- What each program prints: the contract is the claim itself, and no text that is asked for is longer than the bytes lent.
-use mathlib.Core.Path.{◌≡◌, refl}
+use mathlib.Core.Path.{refl}
 use mathlib.Core.List.{List}
 use Prim.Native.Nat.{ℕ, ◌≤◌}
 use native.Mathlib.Omega.{arith}

@@ -16,7 +16,7 @@ use Rattle.refusals.specs.declared.Refusal.TheVariants.{TextTooLong, WrongForm}
 use Rattle.refusals.specs.Refusals.{Check, check_that, Passed, Failed}
 use Rattle.refusals.proofs.Orders.{itself, failed-unique, failed_or_passed, passed_then, failed_sooner, failed-later}
 use Rattle.grid.specs.Limits.{most_bytes}
-use Rattle.case_read.specs.Reading.{start, refused, read_lines, read_case}
+use Rattle.case_read.specs.Reading.{start, read_lines, read_case}
 use Rattle.case_read.specs.declared.CaseRead.{CaseRead}
 use Rattle.case_read.specs.declared.ReadAnswer.{ReadAnswer}
 use Rattle.case_read.specs.declared.ReadAnswer.TheVariants.{Read, Refused}

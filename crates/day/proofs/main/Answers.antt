@@ -2,7 +2,6 @@
 use mathlib.Core.Path.{sym}
 use lib.Seq.{length-take-le}
 use Rattle.report_lines.proofs.Printed.{printed-within}
-use borrow.Author.Rules.{rules}
 use Rattle.day.proofs.main.Goals as goal
 
 pub slice_bounds-out-end : goal.slice_bounds-out-end

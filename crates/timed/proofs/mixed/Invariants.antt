@@ -1,5 +1,4 @@
 -- Invariant: i is at most the length, so each number read is there. i-end - i falls. The remainders keep the sum in its range.
-use borrow.Author.Rules.{rules}
 use mathlib.Core.Path.{◌≡◌}
 use Prim.Native.Nat.{◌-◌, ◌≤◌}
 use lib.ListN.{length}

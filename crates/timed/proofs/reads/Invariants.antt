@@ -1,5 +1,4 @@
 -- Invariant: i is at most the turns, and the turns less i fall. No value is promised, so nothing is kept of the answer.
-use borrow.Author.Rules.{rules}
 use Prim.Native.Nat.{◌-◌, ◌≤◌}
 use Rattle.timed.proofs.reads.Given as goal
 
