@@ -1,10 +1,10 @@
 -- Steps put into lent records one after another: the records stay as many, and in the end hold the list.
-use mathlib.Core.Path.{◌≡◌, refl, sym, ap, ◌∙◌, subst}
+use mathlib.Core.Path.{◌≡◌, sym, ap, ◌∙◌, subst}
 use mathlib.Core.List.{List, ◌++◌}
 use Prim.Native.Nat.{ℕ, zero, suc, ◌+◌, ◌≤◌, ◌<◌}
 use native.Mathlib.Numerals.{add-one}
 use native.Mathlib.Omega.{arith}
-use lib.ListN.{length, take, drop, get_or, set, length-set}
+use lib.ListN.{length, take, drop, get_or, set}
 use Rattle.step.specs.declared.Step.{Step}
 use Rattle.step.specs.Records.{no_step, put_first}
 use Rattle.step.proofs.Writing.{WrittenSoFar, written_none, written-more}
