@@ -18,12 +18,14 @@ RT = """#!/bin/sh
 echo "$*" >>"{home}/calls"
 [ "$1" != doc ] || {{ echo "{home}/kit/docs/START-HERE.md"; exit 0; }}
 [ "$1" = run ] || {{ echo "{kit}"; exit 0; }}
-echo "begin $2" >>"{home}/calls"
+crate=${{PWD##*/}}
+cd ../..
+echo "begin $crate" >>"{home}/calls"
 [ ! -e "{home}/rt-does" ] || . "{home}/rt-does"
-mkdir -p crates/$2/out
-cp program crates/$2/out/$2 && chmod 755 crates/$2/out/$2
-echo "rt: $2 proved"
-echo "end $2" >>"{home}/calls"
+mkdir -p crates/$crate/out
+cp program crates/$crate/out/$crate && chmod 755 crates/$crate/out/$crate
+echo "rt: $crate proved"
+echo "end $crate" >>"{home}/calls"
 """
 # On another machine than x86-64 an emulator is given a loader, an option, a folder and then the program.
 EMULATOR = "#!/bin/sh\nshift 3\nexec \"$@\"\n"
@@ -130,6 +132,8 @@ class Checkout:
         os.makedirs(self.at("tools"))
         shutil.copy(os.path.join(TOP, "tools", "build"), self.at("tools"))
         copy_modules(self.home)
+        for name in ("day", "plan", "rounds"):
+            os.makedirs(self.at("crates", name))
         for name in ("crates.txt", "crates/grid/lib.rt"):
             self.edit(name)
         self.program(program)
