@@ -108,8 +108,11 @@ def build(name):
     try:
         open(new, "wb").close()
         began = os.stat(new).st_mtime_ns
-        if prove(name) != 0 or not os.access(places.program(name), os.X_OK):
+        if prove(name) != 0 or not os.access(places.made(name), os.X_OK):
             raise Stop("the program '%s' could not be proved and built" % name)
+        os.makedirs(places.programs(), exist_ok=True)
+        shutil.copy(places.made(name), places.program(name) + ".new")
+        os.replace(places.program(name) + ".new", places.program(name))
         with open(new, "wb") as file:
             file.write(kit().encode() + b"\n")
         os.utime(new, ns=(began, began))
@@ -119,12 +122,15 @@ def build(name):
 
 
 def prove(name):
-    """Runs tools/build, shows rt's own lines as they come, and the last lines if it fails. Answers its status."""
+    """Runs `rt run`, shows its own lines as they come, and its last lines if it fails. Answers its status.
+
+    rt builds a program only to run it, and with nothing to read it ends at once.
+    """
     last = collections.deque(maxlen=LAST_LINES)
     options = {"stdin": subprocess.DEVNULL, "stdout": subprocess.PIPE, "stderr": subprocess.STDOUT}
-    words = [places.builder(), name]
+    words = [kit_command(), "run"]
     try:
-        with started(words, with_group=True, cwd=places.HOME, env=surroundings(), **options) as process:
+        with started(words, with_group=True, cwd=places.crate(name), env=surroundings(), **options) as process:
             for line in process.stdout:
                 line = line.decode("utf-8", "replace")
                 last.append(line)

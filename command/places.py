@@ -1,7 +1,7 @@
 """Where the files of the command are: the only module that knows a place.
 
-A checkout has command/ at its top, with VERSION, crates/ and tools/ beside it. tools/build puts the programs into
-target/bin/; what rt makes of a crate is in the folder out/ of the crate.
+A checkout has command/ at its top, with VERSION and crates/ beside it. What rt makes of a crate is in the folder out/ of
+the crate, and a build puts a copy of the program into target/bin/.
 An installed copy has command/ in PREFIX/lib/wozgrzyt/, and beside it
 
     installed     a file that says that this is an installed copy; what is in it does not matter
@@ -49,9 +49,14 @@ def stamp(name):
     return at("target", "built." + name)
 
 
-def builder():
-    """The script that proves and builds a program."""
-    return at("tools", "build")
+def crate(name):
+    """The folder of a program's crate."""
+    return at("crates", name)
+
+
+def made(name):
+    """The binary that rt leaves of a program."""
+    return at("crates", name, MADE, name)
 
 
 def lock():

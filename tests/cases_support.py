@@ -9,7 +9,7 @@ import traceback
 
 TOP = os.path.dirname(os.path.dirname(os.path.realpath(__file__)))
 Called = collections.namedtuple("Called", "status out err")
-TOOLS = "sh cat sleep cp mkdir mv chmod touch neato".split()
+TOOLS = "sh cat sleep cp mkdir chmod touch neato".split()
 KIT = "kit-for-tests 7"
 NOBODY = 65534
 
@@ -129,8 +129,6 @@ class Checkout:
         os.makedirs(os.path.join(self.home, "bin"))
         shutil.copy(os.path.join(TOP, "wozgrzyt"), self.command)
         shutil.copy(os.path.join(TOP, "VERSION"), self.home)
-        os.makedirs(self.at("tools"))
-        shutil.copy(os.path.join(TOP, "tools", "build"), self.at("tools"))
         copy_modules(self.home)
         for name in ("day", "plan", "rounds"):
             os.makedirs(self.at("crates", name))

@@ -96,15 +96,15 @@ def check_documents(checks):
 def check_limits(checks):
     """The limits are those of docs/CALLS.md."""
     calls = stored("docs", "CALLS.md").decode()
-    rows = re.findall(r"\| ([0-9,]+) \| `(most[A-Z][A-Za-z]*)` \|$", calls, re.M)
+    rows = re.findall(r"\| ([0-9,]+) \| `(most_[a-z_]*)` \|$", calls, re.M)
     known = {name: int(most.replace(",", "")) for most, name in rows}
-    for ours, theirs in [("MOST_BUSES", "mostBuses"), ("MOST_LINES", "mostLines"), ("MOST_CIRCUITS", "mostCircuits"),
-                         ("MOST_BYTES", "mostBytes"), ("MOST_BUDGET", "mostBudget")]:
+    for ours, theirs in [("MOST_BUSES", "most_buses"), ("MOST_LINES", "most_lines"), ("MOST_CIRCUITS", "most_circuits"),
+                         ("MOST_BYTES", "most_bytes"), ("MOST_BUDGET", "most_budget")]:
         checks.that("%s is %s" % (ours, theirs), getattr(limits, ours) == known.get(theirs))
     defined = stored("crates", "grid", "specs", "Limits.antt").decode()
-    checks.that("LEAST_SEVERAL is leastSeveral", "\nleastSeveral = %d\n" % limits.LEAST_SEVERAL in defined)
+    checks.that("LEAST_SEVERAL is least_several", "\nleast_several = %d\n" % limits.LEAST_SEVERAL in defined)
     defined = stored("crates", "plan_input", "specs", "Asking.antt").decode()
-    checks.that("DEFAULT_BUDGET is defaultBudget", "\ndefaultBudget = %d\n" % limits.DEFAULT_BUDGET in defined)
+    checks.that("DEFAULT_BUDGET is default_budget", "\ndefault_budget = %d\n" % limits.DEFAULT_BUDGET in defined)
     given = "0 to %d, and %d if none is given" % (limits.MOST_BUDGET, limits.DEFAULT_BUDGET)
     checks.that("the help on 'plan' says both", given in helping.PLAN)
     checks.that("the manual page says both", given in stored("docs", "wozgrzyt.1").decode())
