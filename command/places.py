@@ -1,7 +1,7 @@
 """Where the files of the command are: the only module that knows a place.
 
-A checkout has command/ at its top, with VERSION and crates/ beside it. What rt makes of a crate is in the folder out/ of
-the crate, and a build puts a copy of the program into target/bin/.
+A checkout has command/ at its top, with VERSION and crates/ beside it. What rt makes of a crate is in its folder out/,
+and a build puts a copy of the program into target/bin/.
 An installed copy has command/ in PREFIX/lib/wozgrzyt/, and beside it
 
     installed     a file that says that this is an installed copy; what is in it does not matter

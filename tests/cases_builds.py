@@ -113,7 +113,7 @@ def check_no_kit(checks):
 
 
 def check_rt_surroundings(checks):
-    """rt runs in a crate of the checkout, without CDPATH and without a TMPDIR that cannot be used, with nothing to read."""
+    """rt runs in a crate, without CDPATH and without a TMPDIR that cannot be used, with nothing to read."""
     checkout = Checkout(checks, "a path with blanks")
     checkout.rt_does('echo "$PWD|${CDPATH-none}|${TMPDIR-none}|$(cat)" >>seen\n')
     case = write(checkout.at("one bus.case"), ONE_BUS)

@@ -1,13 +1,36 @@
--- Each call's own contract is its promise: it asks nothing of the caller, and what it tells of a reply is what the promise says.
+-- Each call's own contract is its promise: it asks nothing of the caller, and what it says of a reply entails what the promise says.
+use mathlib.Core.List.{List}
+use base.Logic.{ent, emp, id⊢}
+use contract.Monad.{fact}
 use contract.Lifetimes.{Lfts}
-use Rattle.refusals.specs.Calls.{Keeps}
+use Rattle.std.specs.Borrow.{Bor, MutBor}
+use denote.Triple.Entry.{Args}
+use denote.Triple.Clauses.{ClausesAt}
+use borrow.Fn.World.{World}
+use Rattle.step.specs.declared.Step.{Step}
+use Rattle.grid.specs.declared.Case.{Case}
 use Rattle.list_follow.specs.Replies.{replay_call, weave_call}
-use Rattle.list_calls.proofs.replay.Reads as replay
-use Rattle.list_calls.proofs.weave.Reads as weave
+use Rattle.list_follow.specs.declared.Replayed.{Replayed}
+use Rattle.list_follow.specs.declared.Wove.{Wove}
+use Rattle.list_calls.specs.contracts.replay as replay
+use Rattle.list_calls.specs.contracts.weave as weave
 
-pub replay-promised : (κs : Lfts 1) → Keeps replay_call (λ (c, (steps, _)). (c, steps.now)) (λ a. tt) (replay.Asked κs) (replay.Learnt κs)
-replay-promised κs a = (tt, λ r b told. told)
+-- a contract's clauses for these arguments, in a model
+abbrev replay-says : (w : World) (κs : Lfts 1) → Args replay.signature κs → ClausesAt w.𝓤 replay.ended κs
+replay-says w = replay.clauses w.𝓛 w.𝓜.mem w.𝓡.run
 
-pub weave-promised : (κs : Lfts 2) → Keeps weave_call (λ (c, (steps, _)). (c, steps.now)) (λ (_, (_, (out, _))). out.now)
-    (weave.Asked κs) (weave.Learnt κs)
-weave-promised κs a = (tt, λ r b told. told)
+abbrev weave-says : (w : World) (κs : Lfts 2) → Args weave.signature κs → ClausesAt w.𝓤 weave.ended κs
+weave-says w = weave.clauses w.𝓛 w.𝓜.mem w.𝓡.run
+
+pub replay-promised : (w : World) (κs : Lfts 1) (c : Case) (steps : Bor (List Step)) →
+    let says = replay-says w κs (c, (steps, tt)) in
+    ent w.𝓤 (emp w.𝓤) (says.requires tt)
+    × ((r : Replayed) → ent w.𝓤 (says.ensures tt r (c, (steps, tt))) (fact w.𝓤 (replay_call.promise (c, steps.now) tt tt r)))
+replay-promised w κs c steps = (id⊢ w.𝓤 _, λ r. id⊢ w.𝓤 _)
+
+pub weave-promised : (w : World) (κs : Lfts 2) (c : Case) (steps : Bor (List Step)) (out : MutBor (List Step)) →
+    let says = weave-says w κs (c, (steps, (out, tt))) in
+    ent w.𝓤 (emp w.𝓤) (says.requires tt)
+    × ((r : Wove) (left : MutBor (List Step)) → ent w.𝓤 (says.ensures tt r (c, (steps, (left, tt))))
+    (fact w.𝓤 (weave_call.promise (c, steps.now) out.now left.now r)))
+weave-promised w κs c steps out = (id⊢ w.𝓤 _, λ r left. id⊢ w.𝓤 _)

@@ -1,9 +1,25 @@
--- The call's own contract is its promise: it asks nothing of the caller, and what it tells of a reply is what the promise says.
+-- The call's own contract is its promise: it asks nothing of the caller, and what it says of a reply entails what the promise says.
+use mathlib.Core.List.{List}
+use Prim.Native.Nat.{ℕ}
+use base.Logic.{ent, emp, id⊢}
+use contract.Monad.{fact}
 use contract.Lifetimes.{Lfts}
-use Rattle.refusals.specs.Calls.{Keeps}
+use Rattle.std.specs.Borrow.{Bor, MutBor}
+use denote.Triple.Entry.{Args}
+use denote.Triple.Clauses.{ClausesAt}
+use borrow.Fn.World.{World}
+use Rattle.step.specs.declared.Step.{Step}
+use Rattle.step_text.specs.declared.StepsRead.{StepsRead}
 use Rattle.step_text.specs.Taking.{read_steps_call}
-use Rattle.step_records.proofs.read_steps.Reads as read-steps
+use Rattle.step_records.specs.contracts.read_steps as read-steps
 
-pub read-steps-promised : (κs : Lfts 2) → Keeps read_steps_call (λ (text, _). text.now) (λ (_, (out, _)). out.now)
-    (read-steps.Asked κs) (read-steps.Learnt κs)
-read-steps-promised κs a = (tt, λ r b told. told)
+-- the contract's clauses for these arguments, in a model
+abbrev read-steps-says : (w : World) (κs : Lfts 2) → Args read-steps.signature κs → ClausesAt w.𝓤 read-steps.ended κs
+read-steps-says w = read-steps.clauses w.𝓛 w.𝓜.mem w.𝓡.run
+
+pub read-steps-promised : (w : World) (κs : Lfts 2) (text : Bor (List ℕ)) (out : MutBor (List Step)) →
+    let says = read-steps-says w κs (text, (out, tt)) in
+    ent w.𝓤 (emp w.𝓤) (says.requires tt)
+    × ((r : StepsRead) (left : MutBor (List Step)) → ent w.𝓤 (says.ensures tt r (text, (left, tt)))
+    (fact w.𝓤 (read_steps_call.promise text.now out.now left.now r)))
+read-steps-promised w κs text out = (id⊢ w.𝓤 _, λ r left. id⊢ w.𝓤 _)
