@@ -48,7 +48,7 @@ use Rattle.estimator.proofs.wz_unconfirmed.Reads as wz_unconfirmed
 use Rattle.estimator.proofs.wz_fewest.Reads as wz_fewest
 use Rattle.estimator.proofs.wz_replay.Reads as wz_replay
 
--- ---- the contracts of replay, weave and read_steps are not read for a caller: their clauses are assertions, in every model
+-- ---- the ties of replay, weave and read_steps are stated of the clauses themselves, which are assertions, in every model
 
 -- an assertion that asks nothing
 abbrev AsksNothing : (w : World) → Pr w → Type 1
