@@ -77,6 +77,9 @@ def declared(file, lines, header=()):
                 current.constructors = [line.split()[0] for line in run[1:] if re.match(r"  \S+ :", line)]
             current.lines += header
             yield current
+        elif words[i] == "ruleset":
+            current = Declaration(file, words[i + 1], "pub" in words[:i], "definition")
+            yield current
         elif re.match(r"(?:(?:%s) )*%s(?: \{\S+\})* :(?: |$)" % ("|".join(MODIFIERS), WORD), run[0]):
             current = Declaration(file, words[i], "pub" in words[:i], "definition")
             current.lines += header
@@ -130,6 +133,15 @@ def uses(text, own, names, whole, hidden=()):
             yield names[first]
 
 
+def given(file):
+    """The declarations that a tactic is given in a function's attribute, by their paths in Rust's spelling."""
+    for attribute in re.findall(r"#\[tactic\(.*?\)\]", file.read_text(), re.S):
+        for path in re.findall(r"[\w+]+(?:::[\w+]+)+", attribute):
+            first, *inner, name = path.split("::")
+            crate = file.parts[1] if first == "crate" else first
+            yield pathlib.Path("crates", crate, *inner).with_suffix(".antt"), name
+
+
 def read():
     """Every file of the proof language with its declarations, and the names by which others call it."""
     files, modules = {}, {}
@@ -176,6 +188,7 @@ def dead():
     for file in sorted(pathlib.Path("crates").glob("*/src/**/*.rt")):
         names, whole = imports(file, modules)
         live.update(uses(file.read_text(), {}, names, whole))
+        live.update(key for key in given(file) if key in table)
     quoted = set()
     for pattern in DOCUMENTS:
         for document in pathlib.Path(".").glob(pattern):

@@ -1,176 +1,116 @@
-// Lists of up to 1,032 steps by value, more than a list may have.
-ghost use Rattle.std.specs.Prelude.{◌≡◌, ◌+◌, ◌≤◌, ◌<◌, length};
+// Lists of up to 1,032 steps, more than a list may have, and records that are lent.
+ghost use Rattle.std.specs.Prelude.{◌≤◌, length};
 
 use crate::printing;
-use grid::limits::MOST_BUSES;
-use step::{Given, NamedBus};
-use wozgrzyt::{Reason, Refusal, Step, StepList};
+use arrayvec::ArrayVec;
+use wozgrzyt::{Reason, Refusal, Step};
 
-#[derive(Clone, Copy)]
-pub struct Plan {
-    pub n: usize,
-    pub steps: [Step; 1032],
-}
+// How many steps a list has at most, and how many records are lent.
+pub const MOST_RECORDS: usize = 1032;
+
+pub type Plan = ArrayVec<Step, MOST_RECORDS>;
 
 // The reason with this letter: that names bus b, or that names none.
-fn reason_of(letter: u8, b: usize) -> Given {
-    match step::reason_of(letter, NamedBus::Bus(b)) {
-        Given::Is(r) => Given::Is(r),
-        Given::Wrong => step::reason_of(letter, NamedBus::Nothing),
-    }
+fn reason_of(letter: u8, b: usize) -> Option<Reason> {
+    Reason::of(letter, Some(b)).or(Reason::of(letter, None))
 }
 
 fn is_step(letter: u8) -> bool {
-    match reason_of(letter, 0) {
-        Given::Is(_) => true,
-        Given::Wrong => false,
-    }
+    reason_of(letter, 0).is_some()
 }
 
-// The step of bus a whose reason has this letter. A letter of no reason says a step that is not counted.
+// The step of bus a whose reason has this letter; own unit for a letter of no reason.
 fn step_of(letter: u8, a: usize, b: usize) -> Step {
-    let reason = match reason_of(letter, b) {
-        Given::Is(r) => r,
-        Given::Wrong => Reason::OwnUnit,
-    };
-    Step { bus: a, reason }
-}
-
-// One more for a step.
-fn counted(n: usize, letter: u8) -> usize
-    requires { n < 1032 }
-    ensures { (n ≤ result) × (result ≤ n + 1) }
-{
-    if is_step(letter) {
-        return n + 1;
+    Step {
+        bus: a,
+        reason: reason_of(letter, b).unwrap_or_default(),
     }
-    n
 }
 
 // The steps of the lines of the block from `from` up to `to`.
 pub fn listed(block: &[u8], from: usize, to: usize) -> Plan
     requires { to ≤ length block.now }
 {
-    let mut steps = [Step {
-        bus: 0,
-        reason: Reason::OwnUnit,
-    }; 1032];
-    let mut n: usize = 0;
+    let mut steps = Plan::new();
     let mut at = from;
     while at < to {
-        if 1032 <= n {
-            return Plan { n, steps };
+        if steps.is_full() {
+            return steps;
         }
         let l = asked::line_at(block, at);
-        steps[n] = step_of(l.letter, l.a, l.b);
-        n = counted(n, l.letter);
+        if is_step(l.letter) {
+            steps.push(step_of(l.letter, l.a, l.b));
+        }
         at = l.next;
     }
-    Plan { n, steps }
+    steps
 }
 
-// The step at i, counted from 0.
-pub fn nth(p: Plan, i: usize) -> Step {
-    if 1032 <= i {
-        return Step {
-            bus: 0,
-            reason: Reason::OwnUnit,
-        };
+// The first of these steps; where there is none, what the last line says, by own unit.
+pub fn first(block: &[u8], from: usize, to: usize) -> Step
+    requires { to ≤ length block.now }
+{
+    let mut step = Step::default();
+    let mut at = from;
+    while at < to {
+        let l = asked::line_at(block, at);
+        step = step_of(l.letter, l.a, l.b);
+        if is_step(l.letter) {
+            return step;
+        }
+        at = l.next;
     }
-    p.steps[i]
+    step
 }
 
-fn print(p: Plan) {
-    let n = p.n;
-    for i in 0..n {
-        printing::step(nth(p, i));
-    }
-}
-
-fn derived(l: StepList, i: usize) -> Step {
-    if MOST_BUSES <= i {
-        return Step {
-            bus: 0,
-            reason: Reason::OwnUnit,
-        };
-    }
-    l.steps[i]
-}
-
-// The steps of a derivation, printed.
-pub fn print_derived(l: StepList) {
-    let n = l.n;
-    for i in 0..n {
-        printing::step(derived(l, i));
+pub fn print(steps: &[Step]) {
+    for &x in steps {
+        printing::step(x);
     }
 }
 
 // What record i is filled with before it is lent: a step that no list has.
-fn filling(i: usize) -> Step
-    requires { i < 1032 }
-{
+fn filling(i: usize) -> Step {
+    let i = i % MOST_RECORDS;
     Step {
         bus: 100 + i,
         reason: Reason::NeighbourOf(200 + i),
     }
 }
 
-pub fn filled() -> [Step; 1032] {
-    let mut out = [Step {
-        bus: 0,
-        reason: Reason::OwnUnit,
-    }; 1032];
-    for i in 0..1032 {
-        out[i] = filling(i);
+pub fn filled() -> [Step; MOST_RECORDS] {
+    let mut records = [Step::default(); MOST_RECORDS];
+    for (i, x) in records.iter_mut().enumerate() {
+        *x = filling(i);
     }
-    out
+    records
 }
 
-fn is_near(r: Reason, p: usize) -> bool {
-    if step::letter(r) != b'N' {
-        return false;
-    }
-    match step::named(r) {
-        NamedBus::Nothing => false,
-        NamedBus::Bus(q) => p == q,
-    }
+// Whether every record from `from` on is as it was filled.
+fn is_kept(records: &[Step; MOST_RECORDS], from: usize) -> bool {
+    records
+        .iter()
+        .enumerate()
+        .skip(from)
+        .all(|(i, &x)| x == filling(i))
 }
 
-fn is_filling(s: Step, i: usize) -> bool
-    requires { i < 1032 }
+// The first `count` records, printed.
+pub fn written(records: &[Step; MOST_RECORDS], count: usize)
+    requires { count ≤ MOST_RECORDS }
 {
-    let r = s.reason;
-    if s.bus == 100 + i {
-        return is_near(r, 200 + i);
-    }
-    false
-}
-
-// Whether every record from the list's end on is as it was filled.
-fn is_kept(p: Plan) -> bool {
-    let out = p.steps;
-    for i in p.n..1032 {
-        if !is_filling(out[i], i) {
-            return false;
-        }
-    }
-    true
-}
-
-// The list in the records, printed.
-pub fn written(p: Plan) {
-    printing::spaced(p.n);
+    printing::spaced(count);
     printing::text(b" written");
-    print(p);
+    print(&records[..count]);
 }
 
-// Whether the records past the list are as they were, printed.
-pub fn rest(p: Plan) {
-    printing::rest(is_kept(p));
+// Whether the records from `from` on are as they were, printed.
+pub fn rest(records: &[Step; MOST_RECORDS], from: usize) {
+    printing::rest(is_kept(records, from));
 }
 
 // A refusal, and whether all records are as they were.
-pub fn refused(r: Refusal, steps: [Step; 1032]) {
-    printing::refused(r);
-    rest(Plan { n: 0, steps });
+pub fn refused(q: Refusal, records: &[Step; MOST_RECORDS]) {
+    printing::refused(q);
+    rest(records, 0);
 }

@@ -7,7 +7,6 @@ ghost use Rattle.std.specs.Prelude.{◌≤◌, length};
 ghost use Rattle.asked.specs.Lines.{LineAt};
 
 mod drawing;
-mod lending;
 mod lists;
 mod numbers;
 mod of_case;
@@ -60,15 +59,9 @@ fn marked(m: Marks, letter: u8, next: usize, end: usize) -> Marks {
 
 // What is asked of the text.
 fn with_text(block: &[u8], m: Marks, case: Case, letter: u8, a: usize) {
-    let from = m.from;
-    let to = m.to;
-    if to < from {
-        return;
+    if let Some(text) = block.get(m.from..m.to) {
+        of_text::reply(text, case, letter, a);
     }
-    if block.len() < to {
-        return;
-    }
-    of_text::reply(&block[from..to], case, letter, a);
 }
 
 // The call that the letter says.
@@ -77,13 +70,7 @@ fn reply(block: &[u8], at: usize, m: Marks, case: Case, s: BusSet, l: Line)
 {
     let letter = l.letter;
     match letter {
-        b't' | b'r' | b'w' => of_steps::reply(
-            lists::listed(block, m.list, at),
-            case,
-            s,
-            letter,
-            l.a,
-        ),
+        b't' | b'r' | b'w' => of_steps::reply(block, m.list, at, case, s, letter, l.a),
         b'R' | b'C' | b'S' | b'P' | b'D' | b'I' | b'L' => with_text(block, m, case, letter, l.a),
         _ => of_case::reply(case, s, letter, l.a, l.b),
     }
@@ -93,10 +80,8 @@ fn reply(block: &[u8], at: usize, m: Marks, case: Case, s: BusSet, l: Line)
 fn ask(block: &[u8], at: usize, m: Marks, case: Case, s: BusSet, l: Line)
     requires { (at ≤ length block.now) × LineAt block.now at l }
 {
-    let name = l.name;
-    let end = l.end;
-    if name < end {
-        printing::text(&block[name..end]);
+    if l.name < l.end {
+        printing::text(&block[l.name..l.end]);
         printing::text(b":");
         reply(block, at, m, case, s, l);
         printing::text(b"\n");
@@ -106,7 +91,7 @@ fn ask(block: &[u8], at: usize, m: Marks, case: Case, s: BusSet, l: Line)
 // Line after line: each draws at the case, states a bus, says a text or a step, or asks.
 fn questions(block: &[u8]) {
     let mut case = drawing::blank(0);
-    let mut stated = busset::none();
+    let mut stated = BusSet::none();
     let mut marks = Marks {
         list: 0,
         from: 0,
@@ -115,7 +100,7 @@ fn questions(block: &[u8]) {
     let mut at: usize = 0;
     while at < block.len() {
         let l = asked::line_at(block, at);
-        case = drawing::drawn(case, l.letter, l.a, l.b);
+        drawing::draw(&mut case, l.letter, l.a, l.b);
         stated = drawing::stated(stated, l.letter, l.a);
         ask(block, at, marks, case, stated, l);
         let end = text_end(block.len(), l.letter, l.a, l.next);
@@ -124,20 +109,14 @@ fn questions(block: &[u8]) {
     }
 }
 
-fn first(room: &[u8], n: usize) {
-    if n <= room.len() {
-        questions(&room[0..n]);
-    }
-}
-
 // Block after block. No question goes over the end of one.
 fn main() {
     let mut room: [u8; 32768] = [0; 32768];
-    for _i in 0..65536usize {
+    for _ in 0..65536usize {
         let n = io::read_full(0, &mut room);
         if n == 0 {
             return;
         }
-        first(&room, n);
+        questions(&room[..n]);
     }
 }

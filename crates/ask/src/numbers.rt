@@ -1,31 +1,26 @@
 // Calls that write into lent numbers: greedy placement and rounds. Each number is filled with one of its own, which is
 // no bus and no count of buses.
-ghost use Rattle.std.specs.Prelude.{◌≡◌, ◌<◌, length};
+use crate::printing;
+use wozgrzyt::{Listed, Refusal};
 
-use crate::{printing, rooms};
-use wozgrzyt::{Case, Greedy, RoundsAnswer};
+// How many numbers are lent at most.
+const MOST_LENT: usize = 136;
 
 // What number i is filled with.
-fn filling(i: usize) -> usize
-    requires { i < 136 }
-{
-    100 + i
+fn filling(i: usize) -> usize {
+    100 + i % MOST_LENT
 }
 
-fn filled() -> [usize; 136]
-    ensures { 136 ≡ length result }
-{
-    let mut out: [usize; 136] = [0; 136];
-    for i in 0..136 {
-        out[i] = filling(i);
+fn filled() -> [usize; MOST_LENT] {
+    let mut out: [usize; MOST_LENT] = [0; MOST_LENT];
+    for (i, b) in out.iter_mut().enumerate() {
+        *b = filling(i);
     }
     out
 }
 
 // Number i: printed if it is one of the first k, and told if it is another and not as it was filled.
-fn one(k: usize, i: usize, b: usize)
-    requires { i < 136 }
-{
+fn one(k: usize, i: usize, b: usize) {
     if i < k {
         printing::spaced(b);
     } else if b != filling(i) {
@@ -33,28 +28,23 @@ fn one(k: usize, i: usize, b: usize)
     }
 }
 
-fn first(k: usize, out: &[usize; 136]) {
-    for i in 0..136 {
-        one(k, i, out[i]);
+// Lends the first `room` numbers to a call, which prints its answer and gives back how many it wrote. These are
+// printed.
+pub fn lent<F: FnOnce(&mut [usize]) -> usize>(room: usize, call: F)
+    requires { F.IsAlwaysCallable call }
+{
+    let mut out = filled();
+    let k = call(&mut out[..room.min(MOST_LENT)]);
+    for (i, &b) in out.iter().enumerate() {
+        one(k, i, b);
     }
 }
 
-// Into the first `room` numbers.
-fn greedy_first(case: Case, budget: usize, out: &mut [usize], room: usize) -> Greedy {
-    let k = rooms::least(room, out.len());
-    wozgrzyt::place_greedy(case, budget, &mut out[0..k])
-}
-
-fn rounds_first(case: Case, out: &mut [usize], room: usize) -> RoundsAnswer {
-    let k = rooms::least(room, out.len());
-    wozgrzyt::observed_rounds(case, &mut out[0..k])
-}
-
 // How many sites were added; none beside a refusal, which is printed.
-fn added(r: Greedy) -> usize {
-    match r {
-        Greedy::Added(k) => k,
-        Greedy::Refused(q) => {
+pub fn added(answer: Result<usize, Refusal>) -> usize {
+    match answer {
+        Ok(k) => k,
+        Err(q) => {
             printing::refused(q);
             0
         }
@@ -62,29 +52,17 @@ fn added(r: Greedy) -> usize {
 }
 
 // How many numbers were written; none beside a refusal. How many rounds there are, or the refusal, is printed.
-fn listed(r: RoundsAnswer) -> usize {
-    match r {
-        RoundsAnswer::Listed(k, rounds) => {
+pub fn listed(answer: Result<Listed, Refusal>) -> usize {
+    match answer {
+        Ok(list) => {
             printing::text(b" rounds");
-            printing::spaced(rounds);
+            printing::spaced(list.rounds);
             printing::text(b", list");
-            k
+            list.numbers
         }
-        RoundsAnswer::Refused(q) => {
+        Err(q) => {
             printing::refused(q);
             0
         }
     }
-}
-
-pub fn greedy(case: Case, budget: usize, room: usize) {
-    let mut out = filled();
-    let r = greedy_first(case, budget, &mut out, room);
-    first(added(r), &out);
-}
-
-pub fn rounds(case: Case, room: usize) {
-    let mut out = filled();
-    let r = rounds_first(case, &mut out, room);
-    first(listed(r), &out);
 }

@@ -1,47 +1,25 @@
 // What is asked of a case value, and what is printed for it.
 use crate::{lists, numbers, printing, rooms};
-use wozgrzyt::{BusSet, Case, DerivationAnswer, Fewest, Figured, Observed, Verdict};
+use wozgrzyt::{BusSet, Case, Refusal};
 
-fn observed(case: Case) {
-    match wozgrzyt::observed_set(case) {
-        Observed::Set(s) => printing::set(s),
-        Observed::Refused(r) => printing::refused(r),
+fn set(answer: Result<BusSet, Refusal>) {
+    match answer {
+        Ok(s) => printing::set(s),
+        Err(q) => printing::refused(q),
     }
 }
 
 fn figure(case: Case, s: BusSet, i: usize, j: usize) {
     match wozgrzyt::firing_figure(case, s, i, j) {
-        Figured::Figure(y) => printing::signed(y),
-        Figured::Refused(r) => printing::refused(r),
+        Ok(y) => printing::signed(y),
+        Err(q) => printing::refused(q),
     }
 }
 
-fn derived(answer: DerivationAnswer) {
-    if let DerivationAnswer::Refused(r) = answer {
-        printing::refused(r);
-    }
-}
-
-// The refusal, and the list, which is empty beside one.
 fn derivation(case: Case) {
-    let d = wozgrzyt::derivation(case);
-    let answer = d.answer;
-    let list = d.list;
-    derived(answer);
-    lists::print_derived(list);
-}
-
-fn verdict(case: Case) {
-    match wozgrzyt::cross_validate(case) {
-        Verdict::Unconfirmed(s) => printing::set(s),
-        Verdict::Refused(r) => printing::refused(r),
-    }
-}
-
-fn fewest(case: Case, budget: usize) {
-    match wozgrzyt::place_fewest(case, budget) {
-        Fewest::Sites(s) => printing::set(s),
-        Fewest::Refused(r) => printing::refused(r),
+    match wozgrzyt::derivation(case) {
+        Ok(steps) => lists::print(&steps),
+        Err(q) => printing::refused(q),
     }
 }
 
@@ -50,14 +28,20 @@ fn fewest(case: Case, budget: usize) {
 // W: the case written into a bytes.
 pub fn reply(case: Case, s: BusSet, letter: u8, a: usize, b: usize) {
     match letter {
-        b'o' => observed(case),
-        b'i' => numbers::rounds(case, a),
+        b'o' => set(wozgrzyt::observed_set(case)),
+        b'i' => numbers::lent(
+            a,
+            |out| numbers::listed(wozgrzyt::observed_rounds(case, out)),
+        ),
         b'f' => figure(case, s, a, b),
         b'd' => derivation(case),
-        b'v' => verdict(case),
-        b'g' => numbers::greedy(case, a, b),
-        b'p' => fewest(case, a),
-        b'W' => rooms::case_into(case, a),
+        b'v' => set(wozgrzyt::cross_validate(case)),
+        b'g' => numbers::lent(
+            b,
+            |out| numbers::added(wozgrzyt::place_greedy(case, a, out)),
+        ),
+        b'p' => set(wozgrzyt::place_fewest(case, a)),
+        b'W' => rooms::lent(a, |out| wozgrzyt::write_case(case, out)),
         _ => printing::text(b" no such question"),
     }
 }

@@ -1,56 +1,50 @@
 // What is asked of a text, and what is printed for it.
-use crate::lending::{Filled, read_first};
-use crate::lists::Plan;
-use crate::rooms::least;
-use crate::{lists, printing, rooms};
-use wozgrzyt::{Case, ReadAnswer, StepsRead, TextReplayed};
+use crate::lists::MOST_RECORDS;
+use crate::{drawing, lists, printing, rooms};
+use wozgrzyt::{Case, ReplayError};
 
-fn said(answer: ReadAnswer) {
-    match answer {
-        ReadAnswer::Read => printing::text(b" read"),
-        ReadAnswer::Refused(q) => printing::refused(q),
-    }
-}
-
-// The answer, and every field of the case that comes with it.
+// The answer, and every field of the case that is read; of a case of no buses where the text is refused.
 fn read(text: &[u8]) {
-    let r = wozgrzyt::read_case(text);
-    let answer = r.answer;
-    let case = r.case;
-    said(answer);
-    printing::case(case);
+    match wozgrzyt::read_case(text) {
+        Ok(case) => {
+            printing::text(b" read");
+            printing::case(&case);
+        }
+        Err(q) => {
+            printing::refused(q);
+            printing::case(&drawing::blank(0));
+        }
+    }
 }
 
 fn checked(text: &[u8]) {
     match wozgrzyt::check_steps(text) {
-        StepsRead::Steps(n) => printing::spaced(n),
-        StepsRead::Refused(q) => printing::refused(q),
-    }
-}
-
-fn filled(f: Filled) {
-    let answer = f.answer;
-    let steps = f.out;
-    match answer {
-        StepsRead::Steps(n) => {
-            lists::written(Plan { n, steps });
-            lists::rest(Plan { n, steps });
-        }
-        StepsRead::Refused(q) => lists::refused(q, steps),
+        Ok(n) => printing::spaced(n),
+        Err(q) => printing::refused(q),
     }
 }
 
 // The steps, in the first `room` records, and whether the other records are as they were.
 fn steps_into(text: &[u8], room: usize) {
-    filled(read_first(text, lists::filled(), least(room, 1032)));
+    let mut records = lists::filled();
+    let most = room.min(MOST_RECORDS);
+    let answer = wozgrzyt::read_steps(text, &mut records[..most]);
+    match answer {
+        Ok(n) => {
+            let count = n.min(MOST_RECORDS);
+            lists::written(&records, count);
+            lists::rest(&records, count);
+        }
+        Err(q) => lists::refused(q, &records),
+    }
 }
 
 // The set reached, a refusal of the list, or a refusal in reading its text.
-fn replayed(answer: TextReplayed) {
-    match answer {
-        TextReplayed::Reached(s, finished) => printing::reached(s, finished),
-        TextReplayed::Refused(q) => printing::refused(q),
-        TextReplayed::Unread(q) => {
+fn replayed(case: Case, text: &[u8]) {
+    match wozgrzyt::replay_text(case, text) {
+        Ok(r) => printing::reached(r.set, r.finished),
+        Err(ReplayError::List(q)) => printing::refused(q),
+        Err(ReplayError::Text(q)) => {
             printing::text(b" unread,");
             printing::refused(q);
         }
@@ -65,9 +59,9 @@ pub fn reply(text: &[u8], case: Case, letter: u8, a: usize) {
         b'R' => read(text),
         b'C' => checked(text),
         b'S' => steps_into(text, a),
-        b'P' => replayed(wozgrzyt::replay_text(case, text)),
-        b'D' => rooms::day_into(text, a),
-        b'I' => rooms::rounds_into(text, a),
-        _ => rooms::plan_into(text, a),
+        b'P' => replayed(case, text),
+        b'D' => rooms::lent(a, |out| wozgrzyt::day_report(text, out)),
+        b'I' => rooms::lent(a, |out| wozgrzyt::rounds_report(text, out)),
+        _ => rooms::lent(a, |out| wozgrzyt::plan_report(text, out)),
     }
 }

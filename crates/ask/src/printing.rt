@@ -1,9 +1,7 @@
 // Texts, numbers, sets, steps, cases and refusals, printed.
 ghost use Rattle.busset.specs.Sets.{Bus, width};
 
-use grid::Rows;
 use grid::limits::MOST_BUSES;
-use step::NamedBus;
 use wozgrzyt::{BusSet, Case, Reason, Refusal, Step};
 
 pub fn text(bytes: &[u8]) {
@@ -19,34 +17,24 @@ pub fn spaced(n: usize) {
     number(n);
 }
 
-// The number without its sign.
-fn unsigned(y: i32) -> u64 {
-    if y < 0 {
-        return (-(y as i64)) as u64;
-    }
-    y as u64
-}
-
 pub fn signed(y: i32) {
     text(b" ");
     if y < 0 {
         text(b"-");
     }
-    io::print_decimal(1, unsigned(y));
+    io::print_decimal(1, y.unsigned_abs() as u64);
 }
 
-pub fn refused(r: Refusal) {
+pub fn refused(q: Refusal) {
     text(b" refused");
-    spaced(refusals::number(r) as usize);
-    spaced(refusals::place(r));
+    spaced(q.number() as usize);
+    spaced(q.place());
 }
 
 // The buses of a set.
 pub fn set(s: BusSet) {
-    for b in 1..=MOST_BUSES {
-        if busset::has(s, b) {
-            spaced(b);
-        }
+    for b in s {
+        spaced(b);
     }
 }
 
@@ -61,18 +49,15 @@ pub fn reached(s: BusSet, finished: bool) {
 }
 
 fn reason(r: Reason) {
-    let letter = [step::letter(r)];
-    text(&letter);
-    match step::named(r) {
-        NamedBus::Nothing => {}
-        NamedBus::Bus(b) => number(b),
+    text(&[r.letter()]);
+    if let Some(b) = r.named() {
+        number(b);
     }
 }
 
-pub fn step(s: Step) {
-    let r = s.reason;
-    spaced(s.bus);
-    reason(r);
+pub fn step(x: Step) {
+    spaced(x.bus);
+    reason(x.reason);
 }
 
 // Whether what was lent past the answer is as it was.
@@ -85,7 +70,7 @@ pub fn rest(is_kept: bool) {
 }
 
 fn row(b: usize, s: BusSet) {
-    if !busset::is_none(s) {
+    if !s.is_none() {
         text(b",");
         spaced(b);
         text(b" to");
@@ -93,9 +78,9 @@ fn row(b: usize, s: BusSet) {
     }
 }
 
-fn rows(nbr: &Rows) {
+fn rows(case: &Case) {
     for b in 1..=MOST_BUSES {
-        row(b, grid::row(nbr, b));
+        row(b, case.neighbours(b));
     }
 }
 
@@ -103,18 +88,15 @@ fn rows(nbr: &Rows) {
 fn said(row: BusSet, b: usize) -> usize
     requires { Bus width b }
 {
-    if busset::has(row, b) {
-        return 1;
-    }
-    0
+    if row.has(b) { 1 } else { 0 }
 }
 
 // The circuits that a counts to b, if the row of a does not say them.
-fn count(nbr: &Rows, a: usize, b: usize)
+fn count(case: &Case, a: usize, b: usize)
     requires { Bus width a × Bus width b }
 {
-    let k = grid::circuits(nbr, a, b);
-    if k != said(grid::row(nbr, a), b) {
+    let k = case.circuits(a, b);
+    if k != said(case.neighbours(a), b) {
         text(b", circuits");
         spaced(a);
         spaced(b);
@@ -122,17 +104,11 @@ fn count(nbr: &Rows, a: usize, b: usize)
     }
 }
 
-fn counts_of(nbr: &Rows, a: usize)
-    requires { Bus width a }
-{
-    for b in 1..=MOST_BUSES {
-        count(nbr, a, b);
-    }
-}
-
-fn counts(nbr: &Rows) {
+fn counts(case: &Case) {
     for a in 1..=MOST_BUSES {
-        counts_of(nbr, a);
+        for b in 1..=MOST_BUSES {
+            count(case, a, b);
+        }
     }
 }
 
@@ -142,12 +118,12 @@ fn named(name: &[u8], s: BusSet) {
 }
 
 // Every field of a case; a row with no bus is left out, and so is a count that the rows say.
-pub fn case(c: Case) {
+pub fn case(case: &Case) {
     text(b", n");
-    spaced(c.n);
-    rows(&c.nbr);
-    counts(&c.nbr);
-    named(b", zero", c.zero);
-    named(b", site", c.site);
-    named(b", units", c.units);
+    spaced(case.n);
+    rows(case);
+    counts(case);
+    named(b", zero", case.zero);
+    named(b", site", case.site);
+    named(b", units", case.units);
 }

@@ -1,7 +1,7 @@
 // The lines by which a program is asked: a letter, two numbers and a name, with tabs between.
 #![tactic(auto)]
 
-ghost use Rattle.std.specs.Prelude.{◌≡◌, ◌+◌, ◌≤◌, ◌<◌, min, length};
+ghost use Rattle.std.specs.Prelude.{◌≡◌, ◌+◌, ◌≤◌, ◌<◌, min, length, IfSome};
 ghost use Rattle.asked.specs.Lines.{LineAt};
 
 // A line's letter and numbers, where its name starts and ends, and where the next line starts.
@@ -38,23 +38,19 @@ fn line_end(text: &[u8], at: usize) -> usize
     requires { at ≤ length text.now }
     ensures { (at ≤ result) × (result ≤ length text.now) }
 {
-    for i in at..text.len() {
-        if text[i] == b'\n' {
-            return i;
-        }
-    }
-    text.len()
+    let rest = &text[at..];
+    at + rest.iter().position(|&c| c == b'\n').unwrap_or(rest.len())
 }
 
-// The value of a digit; 10 for any other byte.
-fn digit(c: u8) -> usize {
-    if c < b'0' {
-        return 10;
+// The value of a digit.
+fn digit(c: u8) -> Option<usize>
+    ensures { IfSome result (λ d. d ≤ 9) }
+{
+    if c.is_ascii_digit() {
+        Some(usize::from(c - b'0'))
+    } else {
+        None
     }
-    if b'9' < c {
-        return 10;
-    }
-    (c - b'0') as usize
 }
 
 // The number whose digits start at `at`: 0 if there is none. The highest is 18446744073709551609.
@@ -64,10 +60,9 @@ fn number_at(text: &[u8], at: usize, end: usize) -> Figures
 {
     let mut value: usize = 0;
     for i in at..end {
-        let d = digit(text[i]);
-        if 10 <= d {
+        let Some(d) = digit(text[i]) else {
             return Figures { value, end: i };
-        }
+        };
         value = value % 1844674407370955161 * 10 + d;
     }
     Figures { value, end }

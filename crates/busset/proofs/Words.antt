@@ -1,4 +1,5 @@
 -- The set that a word holds, and what each operation on the word does to it. Over any width k.
+use Rattle.std.specs.Prelude.{nat_eq}
 use mathlib.Core.Path.{◌≡◌, refl, sym, ap, ap₂, ◌∙◌, subst⁻¹}
 use mathlib.Core.Bool.{Bool}
 use mathlib.Core.Logic.{⊎_elim}
@@ -61,6 +62,10 @@ set-size k {w} h = size-most k (set_of w) (λ b p. set-bus k b h p)
 -- an equation of sets is one of words
 pub decides-set : {r : Bool} (v w : ℕ) → Decides (v ≡ w) r → Decides (set_of v ≡ set_of w) r
 decides-set v w d = decides-by (λ e. ap set_of e) (set_inj v w) d
+
+-- and so `==` of two words
+pub same-test : (v w : ℕ) {r : Bool} → r ≡ nat_eq v w → Decides (set_of v ≡ set_of w) r
+same-test v w e = rw e (decides-set v w (decides_eq v w))
 
 -- ---- the operations, digit by digit
 

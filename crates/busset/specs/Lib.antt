@@ -1,3 +1,4 @@
 pub mod Sets
 pub mod Held
 pub mod Bytes
+pub mod Walking

@@ -3,7 +3,7 @@ use Rattle.std.specs.Prelude.{ℕ}
 use Rattle.busset.specs.Held.{empty_word, hold, hold_if}
 use Rattle.case_line.specs.declared.Record.{Record}
 use Rattle.case_line.specs.declared.Record.TheVariants.{Grid, Bus, Line, Circuits, Pmu, End, Wrong}
-use Rattle.grid.specs.Rows.{Rows, with_line, no_rows}
+use Rattle.grid.specs.Rows.{Rows, with_line}
 use Rattle.grid.specs.declared.Case.{Case}
 use Rattle.case_build.specs.declared.Marks.{Marks}
 
@@ -34,7 +34,3 @@ no_marks = record { zero = empty_word; site = empty_word; units = empty_word }
 -- a case of n buses
 abbrev pub case_with : ℕ → Rows → Marks → Case
 case_with n rows m = record { n = n; nbr = rows; zero = m.zero; site = m.site; units = m.units }
-
--- what stands beside a refusal
-abbrev pub no_case : Case
-no_case = case_with 0 no_rows no_marks

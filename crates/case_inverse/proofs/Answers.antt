@@ -1,5 +1,6 @@
 -- What reading answers: a case that is valid, or a refusal whose place prints.
-use mathlib.Core.Path.{◌≡◌, sym, ap, ◌∙◌, subst, subst⁻¹}
+use Rattle.std.specs.Prelude.{Result, Ok, Err}
+use mathlib.Core.Path.{◌≡◌, sym, ◌∙◌, subst, subst⁻¹}
 use mathlib.Core.List.{List}
 use Prim.Native.Nat.{ℕ, ◌<◌}
 use native.Mathlib.Omega.{arith}
@@ -9,20 +10,16 @@ use Rattle.grid.specs.declared.Case.{Case}
 use Rattle.refusals.specs.Refusals.{place_of}
 use Rattle.refusals.specs.declared.Refusal.{Refusal}
 use Rattle.case_read.specs.Reading.{read_case}
-use Rattle.case_read.specs.declared.CaseRead.{CaseRead}
-use Rattle.case_read.specs.declared.ReadAnswer.{ReadAnswer}
-use Rattle.case_read.specs.declared.ReadAnswer.TheVariants.{Read, Refused}
 use Rattle.case_read.proofs.Refusing.{read-place}
 use Rattle.case_inverse.proofs.Inverse.{read-valid}
 
--- what r says is what reading says
-module _ (text : List ℕ) (r : CaseRead) where
-  pub read-good : r ≡ read_case text → r.answer ≡ Read → Valid r.case
-  read-good e told = (read-valid text r.case (sym e ∙ (λ i. record { answer = told i; case = r.case }))).valid
+-- what r is is what reading gives
+module _ (text : List ℕ) {r : Result Case Refusal} (is : r ≡ read_case text) where
+  pub read-good : {c : Case} → r ≡ Ok c → Valid c
+  read-good {c} told = (read-valid text c (sym is ∙ told)).valid
 
-  pub read-bad : (q : Refusal) → r ≡ read_case text → r.answer ≡ Refused q → place_of q < most_printed
-  read-bad q e told = omega (arith, read-place text q (ap (λ (x : CaseRead). x.answer) (sym e) ∙ told))
+  pub read-bad : {q : Refusal} → r ≡ Err q → place_of q < most_printed
+  read-bad {q} told = omega (arith, read-place text q (sym is ∙ told))
 
-  pub read-says : (P : ReadAnswer → Case → Type 0) {a : ReadAnswer} → r ≡ read_case text → r.answer ≡ a → P a r.case
-      → P (read_case text).answer (read_case text).case
-  read-says P e told p = subst (λ (x : CaseRead). P x.answer x.case) e (subst⁻¹ (λ (a : ReadAnswer). P a r.case) told p)
+  pub read-says : (P : Result Case Refusal → Type 0) {a : Result Case Refusal} → r ≡ a → P a → P (read_case text)
+  read-says P told p = subst P is (subst⁻¹ P told p)

@@ -1,4 +1,5 @@
 -- What is read has at most the most lines.
+use Rattle.std.specs.Prelude.{Ok}
 use mathlib.Core.Path.{◌≡◌, refl, ap, ◌∙◌, subst}
 use mathlib.Core.Bool.{Bool, true, false, cond}
 use mathlib.Core.List.{List, [], ◌∷◌, ◌++◌}
@@ -14,12 +15,13 @@ use Rattle.grid.specs.Rows.{neighbours, circuits}
 use Rattle.case_line.specs.declared.Record.{Record}
 use Rattle.case_line.specs.declared.Record.TheVariants.{Grid, Bus, Line, Circuits, Pmu, End, Wrong}
 use Rattle.case_judge.specs.Judging.{judged}
-use Rattle.case_read.specs.Reading.{case_so_far, Reader, next_reader, start}
+use Rattle.case_read.specs.Reading.{case_so_far, next_reader, start}
+use Rattle.case_read.specs.declared.Reader.{Reader}
 use Rattle.case_inverse.specs.Grammar.{ReadsAs}
 use Rattle.case_inverse.specs.Grammar.ReadsAs.{ends, goes}
 use Rattle.case_line.specs.CaseText.{has, members, line_record, line_from, line_records}
 use Rattle.grid.specs.declared.Case.{Case}
-use Rattle.case_judge.specs.declared.Judgement.TheVariants.{Next}
+use Rattle.case_judge.specs.declared.Standing.TheVariants.{Next}
 use Rattle.case_judge.proofs.Judged.{fit_of}
 use Rattle.grid.proofs.Joined.{joined, Pair}
 use Rattle.case_inverse.proofs.Spots.{bus_place, line_place, line-rises, row-rises, bus-line}
@@ -100,7 +102,7 @@ FewAfter s c r =
     → (next_reader s r).place.lines + length M ≤ most_lines
 
 -- after a line's record, where (a, b) is the next line of c
-few-line : {s : Reader} {p : ℕ} {x : List ℕ} {c : Case} {r : Record} {i j k : ℕ} → Stand s p → LineBy r i j k → judged s.place r ≡ Next
+few-line : {s : Reader} {p : ℕ} {x : List ℕ} {c : Case} {r : Record} {i j k : ℕ} → Stand s p → LineBy r i j k → judged s.place r ≡ Ok Next
     → ReadsAs (next_reader s r) x c → (a b : ℕ) (L : List Record) → LineBeyond c p a b → Rising c (line_place a b) L → Stepped s p r
     → FewAfter s c r → s.place.lines + suc (length L) ≤ most_lines
 few-line {s} {p} {x} {c} {r} {i} {j} t y e d a b L g f u on =
@@ -118,7 +120,7 @@ few-line {s} {p} {x} {c} {r} {i} {j} t y e d a b L g f u on =
     (below_or (line_place a b) (record_place r))
 
 few-turn : {s : Reader} {p : ℕ} {x : List ℕ} {c : Case} → Stand s p → s.place.lines ≤ most_lines → (r : Record)
-    → judged s.place r ≡ Next
+    → judged s.place r ≡ Ok Next
     → ReadsAs (next_reader s r) x c → (a b : ℕ) (L : List Record) → LineBeyond c p a b → Rising c (line_place a b) L → Stepped s p r
     → FewAfter s c r → s.place.lines + suc (length L) ≤ most_lines
 few-turn {s} t l (Grid n) e d a b L g f u on = absurd (omega (arith, u.fact, t.grid))
@@ -148,7 +150,7 @@ few-ends t l (End ∷ L) g = absurd g
 few-ends t l (Wrong ∷ L) g = absurd g
 
 few-goes : {s : Reader} {p : ℕ} {x : List ℕ} {c : Case} → Stand s p → s.place.lines ≤ most_lines → (r : Record)
-    → judged s.place r ≡ Next
+    → judged s.place r ≡ Ok Next
     → ReadsAs (next_reader s r) x c → (L : List Record) → Rising c p L → Stepped s p r → FewAfter s c r
     → s.place.lines + length L ≤ most_lines
 few-goes t l r e d [] g u on = omega arith

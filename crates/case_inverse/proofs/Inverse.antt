@@ -1,4 +1,5 @@
 -- Reading and writing undo each other: the two are one form for each case.
+use Rattle.std.specs.Prelude.{Ok}
 use mathlib.Core.Path.{◌≡◌, subst⁻¹}
 use mathlib.Core.List.{List, [], ◌∷◌, ◌++◌}
 use Prim.Native.Nat.{ℕ, ◌≤◌, ◌<◌}
@@ -14,7 +15,7 @@ use Rattle.grid.specs.Rows.{neighbours, circuits}
 use Rattle.grid.proofs.Joined.{circuits-few}
 use Rattle.grid.specs.Cases.{Sized, Valid}
 use Rattle.grid.specs.declared.Case.{Case}
-use Rattle.case_read.specs.Reading.{start, got, read_lines, read_case}
+use Rattle.case_read.specs.Reading.{start, read_lines, read_case}
 use Rattle.case_inverse.specs.Grammar.{ReadsAs}
 use Rattle.case_line.specs.CaseText.{bus_records, members, lines_text, case_text}
 use Rattle.case_read.proofs.Lengths.{lines_length, buses_length, members_length}
@@ -79,7 +80,7 @@ valid-sound : (c : Case) → Sized c → Valid c → Sound c
 valid-sound c l v = record { sized = l; proper = v.proper; counts = record { joins = v.joined; others = v.others; alike = v.alike } }
 
 -- reading what is written for a valid case gives that case
-pub read-written : (c : Case) → Sized c → Valid c → read_case (case_text c) ≡ got c
+pub read-written : (c : Case) → Sized c → Valid c → read_case (case_text c) ≡ Ok c
 read-written c l v =
     let r = readable c (writable c v) in
     let e : c ≡ r.case' =
@@ -110,19 +111,19 @@ reads-valid x c d =
       };
     }
 
-pub read-valid : (x : List ℕ) (c : Case) → read_case x ≡ got c → ReadValid c
+pub read-valid : (x : List ℕ) (c : Case) → read_case x ≡ Ok c → ReadValid c
 read-valid x c e = reads-valid x c (reads_of x c e)
 
 -- the same of lines whose first is line k
-pub lines-valid : (k : ℕ) (l : List ℕ) (ps : List (List ℕ)) (c : Case) → read_lines start k l ps ≡ got c → ReadValid c
+pub lines-valid : (k : ℕ) (l : List ℕ) (ps : List (List ℕ)) (c : Case) → read_lines start k l ps ≡ Ok c → ReadValid c
 lines-valid k l ps c e = reads-valid (join line_feed l ps) c (read-reads ps start k l c e)
 
 -- ---- one form for each case
 
 -- two different texts never give the same case
-pub one-text : (x y : List ℕ) (c : Case) → read_case x ≡ got c → read_case y ≡ got c → x ≡ y
+pub one-text : (x y : List ℕ) (c : Case) → read_case x ≡ Ok c → read_case y ≡ Ok c → x ≡ y
 one-text = same_text
 
 -- a text that reads as a case is the text written for it
-pub written-text : (x : List ℕ) (c : Case) → read_case x ≡ got c → x ≡ case_text c
+pub written-text : (x : List ℕ) (c : Case) → read_case x ≡ Ok c → x ≡ case_text c
 written-text x c e = let v = read-valid x c e in one-text x (case_text c) c e (read-written c v.sized v.valid)

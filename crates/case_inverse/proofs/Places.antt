@@ -24,9 +24,10 @@ use Rattle.grid.specs.declared.Case.{Case}
 use Rattle.grid.proofs.Joined.{joined, SameSeen, same-joined, same-circuits, Pair}
 use Rattle.grid.proofs.Joined.{line_here, count_here, line_there, line_rows}
 use Rattle.case_judge.specs.Judging.{is_after, past_buses, place_after_line, Fit}
-use Rattle.case_read.specs.Reading.{Reader, case_so_far, next_reader}
+use Rattle.case_read.specs.Reading.{case_so_far, next_reader}
+use Rattle.case_read.specs.declared.Reader.{Reader}
 use Rattle.case_judge.specs.declared.Place.{Place}
-use Rattle.case_judge.proofs.Judged.{TestsPassed, Several, inside, line-ends, circuits_range, circuits_passed, not_one}
+use Rattle.case_judge.proofs.Judged.{TestsPassed, Several, inside, line-ends, circuits_range, circuits_passed}
 use Rattle.case_inverse.proofs.Spots.{bus_place, line_place, unit_place, last_place, bus-rises, line-rises, row-rises, unit-rises}
 use Rattle.case_inverse.proofs.Spots.{bus-line, bus-unit, line-unit, unit-last, bus-same, line_same, unit-same}
 
@@ -226,7 +227,7 @@ facts s (Pmu x) h k a =
       rises = ltb-true s.unit x a.order;
     }
 facts s End h k a = past-buses s a.place
-facts s Wrong h k a = let e = a.place in not_one (cc)
+facts s Wrong h k a = let e = a.place in cc
 
 -- ---- one record
 

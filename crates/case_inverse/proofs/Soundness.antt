@@ -22,7 +22,8 @@ use Rattle.grid.specs.Rows.{bus_sets, rows_length, Rows, set_at, neighbours, cir
 use Rattle.grid.specs.Cases.{grid_of, Lines, Sized, JoinedCounted, OthersUncounted, CountedAlike, CircuitCount}
 use Rattle.grid.specs.declared.Case.{Case}
 use Rattle.case_judge.specs.Judging.{in_range}
-use Rattle.case_read.specs.Reading.{Reader, case_so_far, next_reader, start}
+use Rattle.case_read.specs.Reading.{case_so_far, next_reader, start}
+use Rattle.case_read.specs.declared.Reader.{Reader}
 use Rattle.case_inverse.specs.Grammar.{ReadsAs}
 use Rattle.case_inverse.specs.Grammar.ReadsAs.{ends, goes}
 use Rattle.case_judge.proofs.Judged.{accepted_of, inside, line-ends, circuits_range}

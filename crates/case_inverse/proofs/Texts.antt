@@ -1,4 +1,5 @@
 -- Reading a whole text is reading it from its first line.
+use Rattle.std.specs.Prelude.{Ok, Err}
 use mathlib.Core.Path.{◌≡◌, refl, sym, ap, ◌∙◌, subst}
 use mathlib.Core.Bool.{Bool, true, false, cond}
 use mathlib.Core.List.{List, ◌∷◌, ◌++◌}
@@ -22,14 +23,15 @@ use Rattle.case_line.specs.Record.{record_text}
 use Rattle.case_line.specs.declared.Record.{Record}
 use Rattle.case_line.specs.declared.Record.TheVariants.{Grid, Bus, Line, Circuits, Pmu, End, Wrong}
 use Rattle.case_judge.specs.Judging.{judged, past_buses}
-use Rattle.case_read.specs.Reading.{case_so_far, Reader, next_reader, start, refused, got, read_lines, read_text, read_case}
+use Rattle.case_read.specs.Reading.{case_so_far, next_reader, start, read_lines, read_text, read_case}
+use Rattle.case_read.specs.declared.Reader.{Reader}
 use Rattle.case_inverse.specs.Grammar.{ReadsAs}
 use Rattle.case_inverse.specs.Grammar.ReadsAs.{ends, goes}
 use Rattle.grid.specs.declared.Case.{Case}
-use Rattle.case_judge.specs.declared.Judgement.TheVariants.{Next}
+use Rattle.case_judge.specs.declared.Standing.TheVariants.{Next}
 use Rattle.refusals.specs.declared.Refusal.TheVariants.{TextTooLong}
-use Rattle.case_judge.proofs.Judged.{accepted_of, last-place, inside, not_one}
-use Rattle.case_inverse.proofs.Grammars.{not_got, reads-read, read-reads}
+use Rattle.case_judge.proofs.Judged.{accepted_of, inside}
+use Rattle.case_inverse.proofs.Grammars.{reads-read, read-reads}
 use Rattle.case_inverse.proofs.Places.{Ask, answer, same-n}
 use Rattle.case_inverse.proofs.Spots.{bus_place, bus-line, bus-unit}
 use Rattle.case_inverse.proofs.Places.Ask.{zero_at, siteAt, unit_at, line_at}
@@ -38,18 +40,18 @@ use Rattle.case_inverse.proofs.Unique.{Stand, stepped, unique}
 -- ---- the whole text
 
 -- a text is read as c exactly when the grammar has it
-pub reads_of : (x : List ℕ) (c : Case) → read_case x ≡ got c → ReadsAs start x c
+pub reads_of : (x : List ℕ) (c : Case) → read_case x ≡ Ok c → ReadsAs start x c
 unfolding read_case read_text
 reads_of x c e = go (ltb most_bytes (length x)) e
   where
-    go : (b : Bool) → cond b (refused TextTooLong) (read_lines start 1 (split line_feed x).first (split line_feed x).rest) ≡ got c
+    go : (b : Bool) → cond b (Err TextTooLong) (read_lines start 1 (split line_feed x).first (split line_feed x).rest) ≡ Ok c
         → ReadsAs start x c
-    go true e = absurd (not_got c e)
+    go true e = cc
     go false e =
         subst (λ (y : List ℕ). ReadsAs start y c) (join-split line_feed x)
         (read-reads (split line_feed x).rest start 1 (split line_feed x).first c e)
 
-pub of-reads : (x : List ℕ) (c : Case) → length x ≤ most_bytes → ReadsAs start x c → read_case x ≡ got c
+pub of-reads : (x : List ℕ) (c : Case) → length x ≤ most_bytes → ReadsAs start x c → read_case x ≡ Ok c
 unfolding read_case read_text
 of-reads x c h d = rw (le-ltb most_bytes (length x) h) (reads-read start x c 1 (omega arith) d)
 
@@ -75,7 +77,7 @@ empty-answer n (siteAt k) = no-bus k
 empty-answer n (unit_at k) = no-bus k
 empty-answer n (line_at i j) = omega (arith, no_line i j, no-circuits i j)
 
-pub first-stand : (n : ℕ) → judged start.place (Grid n) ≡ Next → Stand (next_reader start (Grid n)) (bus_place 0)
+pub first-stand : (n : ℕ) → judged start.place (Grid n) ≡ Ok Next → Stand (next_reader start (Grid n)) (bus_place 0)
 first-stand n e =
     let b = inside most_buses n (accepted_of start.place (Grid n) e).range in
     record {
@@ -97,41 +99,41 @@ kept {s} {p} t (goes r e d) = let u = stepped r t e in kept u.on d ∙ same-n s 
 
 pub record BegunText (x : List ℕ) (c : Case) : Type 0 where
   pub rest : List ℕ
-  pub told : judged start.place (Grid c.n) ≡ Next
+  pub told : judged start.place (Grid c.n) ≡ Ok Next
   pub on : ReadsAs (next_reader start (Grid c.n)) rest c
   pub text : x ≡ record_text (Grid c.n) ++ line_feed ∷ rest
 
 not_past : past_buses start.place ≡ true → ⊥
 unfolding past_buses
-not_past e = not_one (cc)
+not_past e = cc
 
 -- at the start only `grid` is accepted
-first-grid : (r : Record) (x : List ℕ) (c : Case) → judged start.place r ≡ Next → ReadsAs (next_reader start r) x c
+first-grid : (r : Record) (x : List ℕ) (c : Case) → judged start.place r ≡ Ok Next → ReadsAs (next_reader start r) x c
     → BegunText (record_text r ++ line_feed ∷ x) c
 first-grid (Grid n) x c e d =
     let f : n ≡ c.n = sym (kept (first-stand n e) d) in
     record {
       rest = x;
-      told = subst (λ (m : ℕ). judged start.place (Grid m) ≡ Next) f e;
+      told = subst (λ (m : ℕ). judged start.place (Grid m) ≡ Ok Next) f e;
       on = subst (λ (m : ℕ). ReadsAs (next_reader start (Grid m)) x c) f d;
       text = ap (λ (m : ℕ). record_text (Grid m) ++ line_feed ∷ x) f;
     }
-first-grid (Bus k z o) x c e d = let a = (accepted_of start.place (Bus k z o) e).place in not_one (cc)
+first-grid (Bus k z o) x c e d = let a = (accepted_of start.place (Bus k z o) e).place in cc
 first-grid (Line a b) x c e d =
     let p = both (past_buses start.place) true (accepted_of start.place (Line a b) e).place in absurd (not_past p.0)
 first-grid (Circuits a b k) x c e d =
     let p = both (past_buses start.place) true (accepted_of start.place (Circuits a b k) e).place in absurd (not_past p.0)
 first-grid (Pmu p) x c e d = absurd (not_past (accepted_of start.place (Pmu p) e).place)
 first-grid End x c e d = absurd (not_past (accepted_of start.place End e).place)
-first-grid Wrong x c e d = let a = (accepted_of start.place Wrong e).place in not_one (cc)
+first-grid Wrong x c e d = let a = (accepted_of start.place Wrong e).place in cc
 
 pub begun : {x : List ℕ} {c : Case} → ReadsAs start x c → BegunText x c
-begun (ends e) = absurd (not_past (last-place start.place End e))
+begun (ends e) = absurd (not_past ((accepted_of start.place End e).place))
 begun (goes r {x = x} {c = c} e d) = first-grid r x c e d
 
 -- ---- two different texts never give the same case
 
-pub same_text : (x y : List ℕ) (c : Case) → read_case x ≡ got c → read_case y ≡ got c → x ≡ y
+pub same_text : (x y : List ℕ) (c : Case) → read_case x ≡ Ok c → read_case y ≡ Ok c → x ≡ y
 same_text x y c e f =
     let a = begun (reads_of x c e) in
     let b = begun (reads_of y c f) in

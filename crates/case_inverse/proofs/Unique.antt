@@ -1,4 +1,5 @@
 -- The next record is determined by the case that is read, and so is the text.
+use Rattle.std.specs.Prelude.{Ok}
 use mathlib.Core.Path.{◌≡◌, refl, sym, ap, ap₂, ◌∙◌, subst, subst⁻¹}
 use mathlib.Core.Bool.{Bool, true, false, cond}
 use mathlib.Core.List.{List, [], ◌∷◌, ◌++◌}
@@ -13,13 +14,14 @@ use Rattle.case_line.specs.Record.{record_text}
 use Rattle.case_line.specs.declared.Record.{Record}
 use Rattle.case_line.specs.declared.Record.TheVariants.{Grid, Bus, Line, Circuits, Pmu, End, Wrong}
 use Rattle.case_judge.specs.Judging.{judged, next_or_last}
-use Rattle.case_read.specs.Reading.{case_so_far, Reader, next_reader}
+use Rattle.case_read.specs.Reading.{case_so_far, next_reader}
+use Rattle.case_read.specs.declared.Reader.{Reader}
 use Rattle.case_inverse.specs.Grammar.{ReadsAs}
 use Rattle.case_inverse.specs.Grammar.ReadsAs.{ends, goes}
 use Rattle.grid.specs.declared.Case.{Case}
 use Rattle.case_judge.specs.declared.Place.{Place}
-use Rattle.case_judge.specs.declared.Judgement.TheVariants.{Next, Last}
-use Rattle.case_judge.proofs.Judged.{accepted_of, goes_of, last-place, not_one}
+use Rattle.case_judge.specs.declared.Standing.TheVariants.{Next, Last}
+use Rattle.case_judge.proofs.Judged.{accepted_of, standing_of}
 use Rattle.case_inverse.proofs.Places.{Ask, AskInRange, place, record_place, answer, Facts, facts, At}
 use Rattle.case_inverse.proofs.Places.{NextLine, LineBy, line-place, line_read_lem, line-count, line-by-same, line-pair, line-tie}
 use Rattle.case_inverse.proofs.Places.LineBy.{single, multiple}
@@ -38,10 +40,10 @@ pub record Stepped (s : Reader) (p : ℕ) (r : Record) : Type 0 where
   pub over : p < record_place r
   pub on : Stand (next_reader s r) (record_place r)
 
-pub not_end : (s : Place) (r : Record) → judged s r ≡ Next → r ≡ End → ⊥
-not_end s r e f = not_one (cc (goes_of s r e, ap next_or_last f))
+pub not_end : (s : Place) (r : Record) → judged s r ≡ Ok Next → r ≡ End → ⊥
+not_end s r e f = cc (standing_of s r e, ap next_or_last f)
 
-pub stepped : {s : Reader} {p : ℕ} (r : Record) → Stand s p → judged s.place r ≡ Next → Stepped s p r
+pub stepped : {s : Reader} {p : ℕ} (r : Record) → Stand s p → judged s.place r ≡ Ok Next → Stepped s p r
 stepped {s} {p} r t e =
     let f = facts s.place r t.at.small t.at.low (accepted_of s.place r e) in
     record {
@@ -97,7 +99,7 @@ line-answered {s} {p} {r} {a} {b} {k} t y u =
 -- beside it only a line's record may stand
 line-record : {s : Reader} {p : ℕ} {r : Record} {a b k : ℕ} → Stand s p → LineBy r a b k → (q : Record)
     → ((i j h : ℕ) → LineBy q i j h → r ≡ q) → NextLine s.place a b
-    → judged s.place q ≡ Next → Stepped s p q → (record_place r < record_place q → ⊥) → r ≡ q
+    → judged s.place q ≡ Ok Next → Stepped s p q → (record_place r < record_place q → ⊥) → r ≡ q
 line-record t y (Grid n) same f e v passed = absurd (omega (arith, v.fact, t.grid))
 line-record t y (Bus j z o) same f e v passed = absurd (omega (arith, f.past, v.fact.more))
 line-record t y (Line i j) same f e v passed = same i j 1 single
@@ -164,7 +166,7 @@ module _ {s : Reader} {p : ℕ} (c : Case) (t : Stand s p) where
       let hv = v.fact.bus.most in
       ap Pmu (unit-same k j (omega arith) (omega arith) e)
 
-  same_record : (r r' : Record) → judged s.place r ≡ Next → judged s.place r' ≡ Next → Stepped s p r → Stepped s p r'
+  same_record : (r r' : Record) → judged s.place r ≡ Ok Next → judged s.place r' ≡ Ok Next → Stepped s p r → Stepped s p r'
       → Settled c (next_reader s r) (record_place r) → Settled c (next_reader s r') (record_place r') → r ≡ r'
   same_record (Grid n) r' d e u v m n' = absurd (omega (arith, u.fact, t.grid))
   same_record (Bus k z o) (Grid n) d e u v m n' = absurd (omega (arith, v.fact, t.grid))
@@ -201,7 +203,7 @@ module _ {s : Reader} {p : ℕ} (c : Case) (t : Stand s p) where
       )
 
   -- and where the case is complete, none is
-  no_more : (r : Record) → c ≡ case_so_far s → s.place.n ≤ s.place.bus → judged s.place r ≡ Next → Stepped s p r
+  no_more : (r : Record) → c ≡ case_so_far s → s.place.n ≤ s.place.bus → judged s.place r ≡ Ok Next → Stepped s p r
       → Settled c (next_reader s r) (record_place r) → ⊥
   no_more (Grid n) e l d u m = omega (arith, u.fact, t.grid)
   no_more (Bus k z o) e l d u m = omega (arith, u.fact.more)
@@ -222,14 +224,14 @@ module _ {s : Reader} {p : ℕ} (c : Case) (t : Stand s p) where
 -- ---- the texts
 
 pub record Ended (s : Reader) (y : List ℕ) (c : Case) : Type 0 where
-  pub last : judged s.place End ≡ Last
+  pub last : judged s.place End ≡ Ok Last
   pub text : y ≡ record_text End ++ line_feed ∷ []
   pub is : c ≡ case_so_far s
 
 pub record Went (s : Reader) (y : List ℕ) (c : Case) : Type 0 where
   pub by : Record
   pub rest : List ℕ
-  pub told : judged s.place by ≡ Next
+  pub told : judged s.place by ≡ Ok Next
   pub on : ReadsAs (next_reader s by) rest c
   pub text : y ≡ record_text by ++ line_feed ∷ rest
 
@@ -243,13 +245,13 @@ unique {s} {p} {y = y} t (ends e) d =
     (λ (w : Ended s y (case_so_far s)). sym w.text)
     (λ (w : Went s y (case_so_far s)).
     let u = stepped w.by t w.told in
-    absurd (no_more (case_so_far s) t w.by refl (past-buses s.place (last-place s.place End e)) w.told u (settled u.on w.on)))
+    absurd (no_more (case_so_far s) t w.by refl (past-buses s.place (accepted_of s.place End e).place) w.told u (settled u.on w.on)))
     (seen d)
 unique {s} {p} {y = y} {c = c} t (goes r {x = x} e g) d =
     let u = stepped r t e in
     ⊎_elim
     (λ (w : Ended s y c). absurd
-    (no_more c t r w.is (past-buses s.place (last-place s.place End w.last)) e u (settled u.on g)))
+    (no_more c t r w.is (past-buses s.place (accepted_of s.place End w.last).place) e u (settled u.on g)))
     (λ (w : Went s y c).
     let v = stepped w.by t w.told in
     let f : r ≡ w.by = same_record c t r w.by e w.told u v (settled u.on g) (settled v.on w.on) in

@@ -1,4 +1,5 @@
 -- What is written is read: the writer goes through the places in order, and the reader accepts each record.
+use Rattle.std.specs.Prelude.{Ok}
 use mathlib.Core.Path.{◌≡◌, refl, sym, ◌∙◌, subst, subst⁻¹}
 use mathlib.Core.Bool.{Bool, true, false, cond}
 use mathlib.Core.List.{List, [], ◌∷◌, ◌++◌}
@@ -18,13 +19,14 @@ use Rattle.case_judge.specs.declared.Place.{Place}
 use Rattle.case_line.specs.declared.Record.{Record}
 use Rattle.case_line.specs.declared.Record.TheVariants.{Grid, Line, Circuits, Pmu, End}
 use Rattle.case_judge.specs.Judging.{is_bus, is_after, past_buses, judged}
-use Rattle.case_read.specs.Reading.{case_so_far, Reader, next_reader, start}
+use Rattle.case_read.specs.Reading.{case_so_far, next_reader, start}
+use Rattle.case_read.specs.declared.Reader.{Reader}
 use Rattle.case_inverse.specs.Grammar.{ReadsAs}
 use Rattle.case_inverse.specs.Grammar.ReadsAs.{ends, goes}
 use Rattle.case_line.specs.CaseText.{has, bus_record, bus_records, members, line_record, line_from, line_records, lines_text, records}
 use Rattle.grid.specs.declared.Case.{Case}
 use Rattle.grid.proofs.Joined.{joined, Pair}
-use Rattle.case_judge.specs.declared.Judgement.TheVariants.{Next}
+use Rattle.case_judge.specs.declared.Standing.TheVariants.{Next}
 use Rattle.case_judge.proofs.Judged.{TestsPassed, accept, accept_several}
 use Rattle.case_inverse.proofs.Spots.{next_spot, bus_place, line_place, unit_place, last_place, bus-rises, line-rises, row-rises}
 use Rattle.case_inverse.proofs.Spots.{unit-rises, bus-line, bus-unit, line-unit, unit-last, line-most, line-below}
@@ -67,7 +69,7 @@ skip {c} {s} {p} {w} v l u z =
 
 -- a record whose answers are the case's, up to the place after its own
 pub take_next : {c : Case} {s : Reader} {p : ℕ} (r : Record) (v : ℕ) → record_place r + 1 ≡ v → Upto c s p (record_place r)
-    → judged s.place r ≡ Next → (next_reader s r).place.n ≡ s.place.n
+    → judged s.place r ≡ Ok Next → (next_reader s r).place.n ≡ s.place.n
     → ((q : Ask) → AskInRange q → place q ≡ record_place r → answer c q ≡ answer (case_so_far (next_reader s r)) q)
     → Upto c (next_reader s r) (record_place r) v
 take_next {c} {s} {p} r v z u e m a =
@@ -92,7 +94,7 @@ pub record Readable (c : Case) (s : Reader) (rs : List Record) : Type 0 where
   pub size : c.n ≡ case'.n
   pub agree : (q : Ask) → AskInRange q → answer c q ≡ answer case' q
 
-read-on : {c : Case} {s : Reader} (r : Record) {rs : List Record} → judged s.place r ≡ Next → Readable c (next_reader s r) rs
+read-on : {c : Case} {s : Reader} (r : Record) {rs : List Record} → judged s.place r ≡ Ok Next → Readable c (next_reader s r) rs
     → Readable c s (r ∷ rs)
 unfolding lines_text
 read-on r e t = record { case' = t.case'; reads = goes r e t.reads; size = t.size; agree = t.agree }
@@ -237,17 +239,17 @@ line-by a b k n =
     (multiple (record { least = l; most = n.most })))
     (below_or k least_several)
 
-line-accepted : (s : Place) {r : Record} {a b k : ℕ} → LineBy r a b k → TestsPassed s (Line a b) → judged s r ≡ Next
+line-accepted : (s : Place) {r : Record} {a b k : ℕ} → LineBy r a b k → TestsPassed s (Line a b) → judged s r ≡ Ok Next
 line-accepted s {a = a} {b = b} single t = accept s (Line a b) t.place t.range t.order
 line-accepted s {a = a} {b = b} {k = k} (multiple v) t = accept_several s a b k t v
 
-line_on : {c : Case} {s : Reader} {r : Record} {a b k : ℕ} {rs : List Record} → LineBy r a b k → judged s.place r ≡ Next
+line_on : {c : Case} {s : Reader} {r : Record} {a b k : ℕ} {rs : List Record} → LineBy r a b k → judged s.place r ≡ Ok Next
     → Readable c (line_read s a b k) rs → Readable c s (r ∷ rs)
 line_on {a = a} {b = b} single e t = read-on (Line a b) e t
 line_on {a = a} {b = b} {k = k} (multiple v) e t = read-on (Circuits a b k) e t
 
 line-upto : {c : Case} {s : Reader} {p : ℕ} {r : Record} {a b k : ℕ} → LineBy r a b k → Upto c s p (line_place a b)
-    → judged s.place r ≡ Next
+    → judged s.place r ≡ Ok Next
     → ((q : Ask) → AskInRange q → place q ≡ line_place a b → answer c q ≡ answer (case_so_far (line_read s a b k)) q)
     → Upto c (line_read s a b k) (line_place a b) (line_place a (b + 1))
 line-upto {a = a} {b = b} single u e h = take_next (Line a b) (line_place a (b + 1)) (next_spot _ _ _) u e refl h
@@ -439,7 +441,7 @@ no_place c n (line_at i j) h l = absurd (omega (arith, bus-line 1 i j (omega ari
 
 pub readable : (c : Case) → Writable c → Readable c start (records c)
 readable c w =
-    let e : judged start.place (Grid c.n) ≡ Next =
+    let e : judged start.place (Grid c.n) ≡ Ok Next =
     accept start.place (Grid c.n) refl (inside most_buses c.n w.one w.most) refl in
     let k = w.most in
     read-on (Grid c.n) e

@@ -1,10 +1,11 @@
 -- What the three tests of a record say, and what an accepted record gives.
-use mathlib.Core.Path.{◌≡◌, refl, sym}
+use Rattle.std.specs.Prelude.{Ok, Err}
+use mathlib.Core.Path.{◌≡◌, refl}
 use mathlib.Core.Bool.{Bool, true, false, cond, ◌&&◌}
-use Prim.Native.Nat.{ℕ, ◌+◌, ◌-◌, ◌≤◌, ◌<◌}
+use Prim.Native.Nat.{ℕ, ◌≤◌, ◌<◌}
 use native.Mathlib.Omega.{arith}
-use borrow.Author.Tests.{eq-eqb, ne_eqb, eqb-true, eqb-false, leb-true, ltb-true, le-leb}
-use lib.Dec.{eqb, ltb, leb}
+use borrow.Author.Tests.{leb-true, ltb-true, le-leb}
+use lib.Dec.{ltb, leb}
 use Rattle.basics.specs.Deciding.{Decides}
 use Rattle.basics.proofs.Tests.{decides-same}
 use Rattle.busset.specs.Sets.{width, Bus as IsBus}
@@ -15,20 +16,9 @@ use Rattle.case_line.specs.declared.Record.TheVariants.{Grid, Bus, Line, Circuit
 use Rattle.grid.specs.Limits.{most_buses, most_lines, most_circuits, least_several}
 use Rattle.case_judge.specs.Judging.{is_bus, is_several, in_place, in_range, in_order, next_or_last, judged, next_place, Fit}
 use Rattle.case_judge.specs.declared.Place.{Place}
-use Rattle.case_judge.specs.declared.Judgement.{Judgement}
-use Rattle.case_judge.specs.declared.Judgement.TheVariants.{Next, Last, Form, Range, Order}
-
--- ---- the next bus
-
-pub next-none : (k last : ℕ) → k ≡ 0 → false ≡ eqb k (last + 1)
-next-none k last e = sym (ne_eqb _ _ (λ (p : k ≡ last + 1). omega arith))
-
-pub next-some : (k last : ℕ) → (k ≡ 0 → ⊥) → eqb (k - 1) last ≡ eqb k (last + 1)
-next-some k last n = go (eqb (k - 1) last) refl
-  where
-    go : (b : Bool) → eqb (k - 1) last ≡ b → b ≡ eqb k (last + 1)
-    go true e = sym (eq-eqb k (last + 1) (omega (arith, eqb-true (k - 1) last e)))
-    go false e = sym (ne_eqb _ _ (λ (p : k ≡ last + 1). eqb-false (k - 1) last e (omega arith)))
+use Rattle.case_judge.specs.declared.Standing.{Standing}
+use Rattle.case_judge.specs.declared.Standing.TheVariants.{Next}
+use Rattle.case_judge.specs.declared.Fault.TheVariants.{Form, Range, Order}
 
 -- ---- three tests passed
 
@@ -37,45 +27,30 @@ pub record TestsPassed (s : Place) (r : Record) : Type 0 where
   pub range : in_range s r ≡ true
   pub order : in_order s r ≡ true
 
--- a judgement that is none of the refusals comes of three tests passed
-passed : (p q o : Bool) {v w : Judgement} → cond p (cond q (cond o v Order) Range) Form ≡ w →
-    (Form ≡ w → ⊥) → (Range ≡ w → ⊥) → (Order ≡ w → ⊥) → (p ≡ true) × (q ≡ true) × (o ≡ true) × (v ≡ w)
-passed true true true e f r o = (refl, refl, refl, e)
-passed true true false e f r o = absurd (o e)
-passed true false q e f r o = absurd (r e)
-passed false p q e f r o = absurd (f e)
+-- an accepted record has passed three tests
+passed : (p q o : Bool) {v w : Standing} → cond p (cond q (cond o (Ok v) (Err Order)) (Err Range)) (Err Form) ≡ Ok w
+    → (p ≡ true) × (q ≡ true) × (o ≡ true) × (v ≡ w)
+passed true true true e = (refl, refl, refl, cc)
+passed true true false e = cc
+passed true false q e = cc
+passed false p q e = cc
 
 pub not_one : {A : Type 0} → ◌≡◌ {A = ℕ} 0 1 → A
 not_one e = absurd (omega arith)
 
-module _ (s : Place) (r : Record) where
-  pub last_of : judged s r ≡ Last → next_or_last r ≡ Last
+module _ (s : Place) (r : Record) {v : Standing} (e : judged s r ≡ Ok v) where
+  pub standing_of : next_or_last r ≡ v
   unfolding judged
-  last_of e =
-      (passed (in_place s r) (in_range s r) (in_order s r) {v = next_or_last r} e (λ z. not_one (cc)) (λ z. not_one (cc))
-      (λ z. not_one (cc))).3
+  standing_of = (passed (in_place s r) (in_range s r) (in_order s r) e).3
 
-  pub last-place : judged s r ≡ Last → in_place s r ≡ true
+  pub accepted_of : TestsPassed s r
   unfolding judged
-  last-place e =
-      (passed (in_place s r) (in_range s r) (in_order s r) {v = next_or_last r} e (λ z. not_one (cc)) (λ z. not_one (cc))
-      (λ z. not_one (cc))).0
-
-  pub goes_of : judged s r ≡ Next → next_or_last r ≡ Next
-  unfolding judged
-  goes_of e =
-      (passed (in_place s r) (in_range s r) (in_order s r) {v = next_or_last r} e (λ z. not_one (cc)) (λ z. not_one (cc))
-      (λ z. not_one (cc))).3
-
-  pub accepted_of : judged s r ≡ Next → TestsPassed s r
-  unfolding judged
-  accepted_of e =
-      let p =
-      passed (in_place s r) (in_range s r) (in_order s r) {v = next_or_last r} e (λ z. not_one (cc)) (λ z. not_one (cc))
-      (λ z. not_one (cc)) in
+  accepted_of =
+      let p = passed (in_place s r) (in_range s r) (in_order s r) e in
       record { place = p.0; range = p.1; order = p.2 }
 
-  pub accept : in_place s r ≡ true → in_range s r ≡ true → in_order s r ≡ true → judged s r ≡ next_or_last r
+module _ (s : Place) (r : Record) where
+  pub accept : in_place s r ≡ true → in_range s r ≡ true → in_order s r ≡ true → judged s r ≡ Ok (next_or_last r)
   unfolding judged
   accept p q o = rw (p, q, o)
 
@@ -84,12 +59,6 @@ module _ (s : Place) (r : Record) where
 pub inside : (n k : ℕ) → is_bus n k ≡ true → IsBus n k
 unfolding is_bus
 inside n k e = let p = both (leb 1 k) (leb k n) e in record { some = leb-true 1 k p.0; most = leb-true k n p.1 }
-
--- what decides whether k is a bus number is the test is_bus
-pub is-bus-by : {n k : ℕ} {r : Bool} → Decides (IsBus n k) r → r ≡ is_bus n k
-unfolding is_bus
-is-bus-by {n} {k} d =
-    decides-same d (record { yes = inside n k; no = λ b. rw (le-leb 1 k b.some, le-leb k n b.most) })
 
 pub bounded : (n k : ℕ) → n ≤ most_buses → is_bus n k ≡ true → IsBus width k
 bounded n k h e = bus-more (inside n k e) h
@@ -129,10 +98,10 @@ module _ (s : Place) (a b k : ℕ) where
   pub circuits_passed : TestsPassed s (Circuits a b k) → TestsPassed s (Line a b)
   circuits_passed t = record { place = t.place; range = (circuits_range t.range).0; order = t.order }
 
-  pub several : judged s (Circuits a b k) ≡ Next → TestsPassed s (Line a b) × Several k
+  pub several : judged s (Circuits a b k) ≡ Ok Next → TestsPassed s (Line a b) × Several k
   several e = let t = accepted_of s (Circuits a b k) e in (circuits_passed t, (circuits_range t.range).1)
 
-  pub accept_several : TestsPassed s (Line a b) → Several k → judged s (Circuits a b k) ≡ Next
+  pub accept_several : TestsPassed s (Line a b) → Several k → judged s (Circuits a b k) ≡ Ok Next
   accept_several t v = accept s (Circuits a b k) t.place (rw (t.range, is-several v)) t.order
 
 line-fits : (s : Place) (a b : ℕ) → s.n ≤ most_buses → in_range s (Line a b) ≡ true → Fit s (Line a b)
@@ -147,22 +116,8 @@ fit s (Pmu p) h e = bounded s.n p h e
 fit s End h e = tt
 fit s Wrong h e = tt
 
-pub fit_of : (s : Place) (r : Record) → s.n ≤ most_buses → judged s r ≡ Next → Fit s r
+pub fit_of : (s : Place) (r : Record) → s.n ≤ most_buses → judged s r ≡ Ok Next → Fit s r
 fit_of s r h e = fit s r h (accepted_of s r e).range
-
--- what fits, in the arm of a record
-module _ (s : Place) {r : Record} where
-  pub bus_fit : {k : ℕ} {z o : Bool} → r ≡ Bus k z o → Fit s r → IsBus width k
-  bus_fit e f = rw e at f
-
-  pub pmu_fit : {p : ℕ} → r ≡ Pmu p → Fit s r → IsBus width p
-  pmu_fit e f = rw e at f
-
-  pub line_fit : {a b : ℕ} → r ≡ Line a b → Fit s r → IsBus width a × IsBus width b × (s.lines < most_lines)
-  line_fit e f = rw e at f
-
-  pub circuits_fit : {a b k : ℕ} → r ≡ Circuits a b k → Fit s r → Fit s (Line a b) × (k ≤ most_circuits)
-  circuits_fit e f = rw e at f
 
 small : (s : Place) (r : Record) → s.n ≤ most_buses → in_range s r ≡ true → (next_place s r).n ≤ most_buses
 small s (Grid n) h e = (inside most_buses n e).most
@@ -173,5 +128,5 @@ small s (Pmu p) h e = h
 small s End h e = h
 small s Wrong h e = h
 
-pub small_of : (s : Place) (r : Record) → s.n ≤ most_buses → judged s r ≡ Next → (next_place s r).n ≤ most_buses
+pub small_of : (s : Place) (r : Record) → s.n ≤ most_buses → judged s r ≡ Ok Next → (next_place s r).n ≤ most_buses
 small_of s r h e = small s r h (accepted_of s r e).range

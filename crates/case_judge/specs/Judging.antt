@@ -1,12 +1,16 @@
 -- One record, where the reader stands: it is the next, the last, or refused.
-use Rattle.std.specs.Prelude.{Bool, true, false, cond, ◌&&◌, ◌||◌, ℕ, ◌+◌, ◌≤◌, ◌<◌, eqb, ltb, leb}
+use Rattle.std.specs.Prelude.{Bool, true, false, cond, ◌&&◌, ◌||◌, ℕ, ◌+◌, ◌≤◌, ◌<◌, eqb, ltb, leb, Result, Ok, Err}
 use Rattle.busset.specs.Sets.{width, Bus as IsBus}
 use Rattle.case_line.specs.declared.Record.{Record}
 use Rattle.case_line.specs.declared.Record.TheVariants.{Grid, Bus, Line, Circuits, Pmu, End, Wrong}
 use Rattle.grid.specs.Limits.{most_buses, most_lines, most_circuits, least_several}
 use Rattle.case_judge.specs.declared.Place.{Place}
-use Rattle.case_judge.specs.declared.Judgement.{Judgement}
-use Rattle.case_judge.specs.declared.Judgement.TheVariants.{Next, Last, Form, Range, Order}
+use Rattle.refusals.specs.declared.Refusal.{Refusal}
+use Rattle.refusals.specs.declared.Refusal.TheVariants.{WrongForm, OutOfRange, OutOfOrder}
+use Rattle.case_judge.specs.declared.Standing.{Standing}
+use Rattle.case_judge.specs.declared.Standing.TheVariants.{Next, Last}
+use Rattle.case_judge.specs.declared.Fault.{Fault}
+use Rattle.case_judge.specs.declared.Fault.TheVariants.{Form, Range, Order}
 
 -- k is a number from 1 to n
 unfoldable pub is_bus : ℕ → ℕ → Bool
@@ -79,7 +83,7 @@ in_order s End = true
 in_order s Wrong = true
 
 -- an accepted record is the next, or the last
-abbrev pub next_or_last : Record → Judgement
+abbrev pub next_or_last : Record → Standing
 next_or_last (Grid n) = Next
 next_or_last (Bus k zero site) = Next
 next_or_last (Line a b) = Next
@@ -89,13 +93,19 @@ next_or_last End = Last
 next_or_last Wrong = Next
 
 -- 2 before 3 before 4
-unfoldable pub judged : Place → Record → Judgement
+unfoldable pub judged : Place → Record → Result Standing Fault
 judged s r =
     cond (in_place s r)
     (cond (in_range s r)
-    (cond (in_order s r) (next_or_last r) Order)
-    Range)
-    Form
+    (cond (in_order s r) (Ok (next_or_last r)) (Err Order))
+    (Err Range))
+    (Err Form)
+
+-- the refusal of a fault in line k
+abbrev pub fault_refusal : Fault → ℕ → Refusal
+fault_refusal Form k = WrongForm k
+fault_refusal Range k = OutOfRange k
+fault_refusal Order k = OutOfOrder k
 
 -- where the reader stands after a record
 abbrev pub next_place : Place → Record → Place
@@ -107,7 +117,7 @@ next_place s (Pmu p) = record { n = s.n; bus = s.bus; a = s.a; b = s.b; lines = 
 next_place s End = s
 next_place s Wrong = s
 
--- what the judgement `Next` gives: a record's numbers are buses, one line more is not too many, nor are its circuits
+-- what the turn `Next` gives: a record's numbers are buses, one line more is not too many, nor are its circuits
 abbrev pub Fit : Place → Record → Type 0
 Fit s (Grid n) = Unit {0}
 Fit s (Bus k zero site) = IsBus width k

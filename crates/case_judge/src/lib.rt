@@ -1,18 +1,19 @@
 // What a record is where the reader stands.
 #![tactic(auto)]
 
-ghost use Rattle.std.specs.Prelude.{◌≡◌, ◌&&◌, ◌+◌, ◌<◌, eqb, ltb};
+ghost use Rattle.std.specs.Prelude.{◌≡◌, ◌<◌};
 ghost use Rattle.grid.specs.Limits.{most_lines};
-ghost use Rattle.case_judge.specs.Judging.{is_several, is_after, past_buses, in_place, in_range, in_order};
+ghost use Rattle.case_judge.specs.Judging.{is_several, past_buses, in_place, in_range, in_order};
 ghost use Rattle.case_judge.specs.Judging.{line_in_place, line_in_range, line_in_order, place_after_line};
-ghost use Rattle.case_judge.specs.Judging.{next_or_last, judged, next_place, Fit};
+ghost use Rattle.case_judge.specs.Judging.{next_or_last, judged, next_place, fault_refusal, Fit};
 
 use busset::is_bus;
 use case_line::Record;
 use grid::limits::{LEAST_SEVERAL, MOST_BUSES, MOST_CIRCUITS, MOST_LINES};
+use refusals::Refusal;
 
 // The last bus, line and unit read of a grid of n buses, and how many lines.
-#[derive(Clone, Copy)]
+#[derive(Clone, Copy, Default)]
 pub struct Place {
     pub n: usize,
     pub bus: usize,
@@ -22,189 +23,151 @@ pub struct Place {
     pub unit: usize,
 }
 
-// What a record is where the reader stands: the next, the last, or refused.
+// An accepted record: the next one, or the last.
 #[derive(Clone, Copy)]
-pub enum Judgement {
+pub enum Standing {
     Next,
     Last,
+}
+
+// Why a record is refused.
+#[derive(Clone, Copy)]
+pub enum Fault {
     Form,
     Range,
     Order,
 }
 
-// Whether line c d stands after line a b.
-fn is_after(a: usize, b: usize, c: usize, d: usize) -> bool
-    ensures { result ≡ is_after a b c d }
-{
-    if a < c {
-        return true;
+impl Fault {
+    // The refusal of a fault in this line.
+    pub fn at(self, line: usize) -> Refusal
+        ensures { result ≡ fault_refusal self line }
+    {
+        match self {
+            Fault::Form => Refusal::WrongForm(line),
+            Fault::Range => Refusal::OutOfRange(line),
+            Fault::Order => Refusal::OutOfOrder(line),
+        }
     }
-    a == c && b < d
-}
-
-fn both(p: bool, q: bool) -> bool
-    ensures { result ≡ (p && q) }
-{
-    p && q
-}
-
-fn is_less(a: usize, b: usize) -> bool
-    ensures { result ≡ ltb a b }
-{
-    a < b
-}
-
-fn is_zero(a: usize) -> bool
-    ensures { result ≡ eqb a 0 }
-{
-    a == 0
-}
-
-// Whether k comes right after the last one.
-fn is_next(k: usize, last: usize) -> bool
-    ensures { result ≡ eqb k (last + 1) }
-{
-    if k == 0 {
-        return false;
-    }
-    k - 1 == last
-}
-
-fn is_past_buses(s: Place) -> bool
-    ensures { result ≡ past_buses s }
-{
-    0 < s.n && s.n <= s.bus
 }
 
 // Whether a text may say k circuits: more than one, and not too many.
+#[tactic(auto, unfolding(crate::specs::Judging::is_several))]
 fn is_several(k: usize) -> bool
     ensures { result ≡ is_several k }
 {
-    LEAST_SEVERAL <= k && k <= MOST_CIRCUITS
+    (LEAST_SEVERAL..=MOST_CIRCUITS).contains(&k)
 }
 
-// Whether a `line` may stand here.
-fn is_line_place(s: Place) -> bool
-    ensures { result ≡ line_in_place s }
-{
-    both(is_past_buses(s), is_zero(s.unit))
-}
+impl Place {
+    // Whether `grid` has been read, and every `bus`.
+    #[tactic(auto, unfolding(crate::specs::Judging::past_buses))]
+    fn is_past_buses(self) -> bool
+        ensures { result ≡ past_buses self }
+    {
+        0 < self.n && self.n <= self.bus
+    }
 
-fn is_line_range(s: Place, a: usize, b: usize) -> bool
-    ensures { result ≡ line_in_range s a b }
-{
-    both(
-        both(is_bus(s.n, a), is_bus(s.n, b)),
-        is_less(s.lines, MOST_LINES),
-    )
-}
+    // Whether a `line` may stand here.
+    fn allows_line(self) -> bool
+        ensures { result ≡ line_in_place self }
+    {
+        self.is_past_buses() && self.unit == 0
+    }
 
-fn is_line_order(s: Place, a: usize, b: usize) -> bool
-    ensures { result ≡ line_in_order s a b }
-{
-    both(is_less(a, b), is_after(s.a, s.b, a, b))
-}
+    // Whether its ends are buses, and there is room for it.
+    #[tactic(auto, unfolding(crate::specs::Judging::is_bus))]
+    fn allows_line_numbers(self, a: usize, b: usize) -> bool
+        ensures { result ≡ line_in_range self a b }
+    {
+        is_bus(self.n, a) && is_bus(self.n, b) && self.lines < MOST_LINES
+    }
 
-// Whether a record of this kind may stand here.
-fn in_place(s: Place, r: Record) -> bool
-    ensures { result ≡ in_place s r }
-{
-    match r {
-        Record::Grid(_) => s.n == 0,
-        Record::Bus {
-            number: _,
-            zero: _,
-            site: _,
-        } => s.bus < s.n,
-        Record::Line(_, _) => is_line_place(s),
-        Record::Circuits(_, _, _) => is_line_place(s),
-        Record::Pmu(_) => is_past_buses(s),
-        Record::End => is_past_buses(s),
-        Record::Wrong => false,
+    // Whether it rises, and stands after the last.
+    #[tactic(auto, unfolding(crate::specs::Judging::is_after))]
+    fn allows_line_order(self, a: usize, b: usize) -> bool
+        ensures { result ≡ line_in_order self a b }
+    {
+        a < b && (self.a, self.b) < (a, b)
+    }
+
+    // Whether a record of this kind may stand here.
+    fn allows_kind(self, r: Record) -> bool
+        ensures { result ≡ in_place self r }
+    {
+        match r {
+            Record::Grid(_) => self.n == 0,
+            Record::Bus { .. } => self.bus < self.n,
+            Record::Line(..) | Record::Circuits(..) => self.allows_line(),
+            Record::Pmu(_) | Record::End => self.is_past_buses(),
+            Record::Wrong => false,
+        }
+    }
+
+    // Whether its numbers are in range.
+    #[tactic(auto, unfolding(crate::specs::Judging::is_bus))]
+    fn allows_numbers(self, r: Record) -> bool
+        ensures { result ≡ in_range self r }
+    {
+        match r {
+            Record::Grid(m) => is_bus(MOST_BUSES, m),
+            Record::Bus { number, .. } => is_bus(self.n, number),
+            Record::Line(a, b) => self.allows_line_numbers(a, b),
+            Record::Circuits(a, b, k) => self.allows_line_numbers(a, b) && is_several(k),
+            Record::Pmu(p) => is_bus(self.n, p),
+            Record::End | Record::Wrong => true,
+        }
+    }
+
+    // Whether it stands in order: the next bus, a line after the last, a unit above the last.
+    fn allows_order(self, r: Record) -> bool
+        ensures { result ≡ in_order self r }
+    {
+        match r {
+            Record::Bus { number, .. } => number.checked_sub(1) == Some(self.bus),
+            Record::Line(a, b) | Record::Circuits(a, b, _) => self.allows_line_order(a, b),
+            Record::Pmu(p) => self.unit < p,
+            Record::Grid(_) | Record::End | Record::Wrong => true,
+        }
+    }
+
+    // Where the reader stands after a `line`.
+    fn after_line(self, a: usize, b: usize) -> Place
+        requires { self.lines < most_lines }
+        ensures { result ≡ place_after_line self a b }
+    {
+        Place {
+            a,
+            b,
+            lines: self.lines + 1,
+            ..self
+        }
     }
 }
 
-fn in_range(s: Place, r: Record) -> bool
-    ensures { result ≡ in_range s r }
-{
-    match r {
-        Record::Grid(m) => is_bus(MOST_BUSES, m),
-        Record::Bus {
-            number,
-            zero: _,
-            site: _,
-        } => is_bus(s.n, number),
-        Record::Line(a, b) => is_line_range(s, a, b),
-        Record::Circuits(a, b, k) => both(is_line_range(s, a, b), is_several(k)),
-        Record::Pmu(p) => is_bus(s.n, p),
-        Record::End => true,
-        Record::Wrong => true,
-    }
-}
-
-fn in_order(s: Place, r: Record) -> bool
-    ensures { result ≡ in_order s r }
-{
-    match r {
-        Record::Grid(_) => true,
-        Record::Bus {
-            number,
-            zero: _,
-            site: _,
-        } => is_next(number, s.bus),
-        Record::Line(a, b) => is_line_order(s, a, b),
-        Record::Circuits(a, b, _) => is_line_order(s, a, b),
-        Record::Pmu(p) => s.unit < p,
-        Record::End => true,
-        Record::Wrong => true,
-    }
-}
-
-fn accepts(r: Record) -> Judgement
+// An accepted record is the next one, or the last.
+fn accepted(r: Record) -> Standing
     ensures { result ≡ next_or_last r }
 {
     match r {
-        Record::Grid(_) => Judgement::Next,
-        Record::Bus {
-            number: _,
-            zero: _,
-            site: _,
-        } => Judgement::Next,
-        Record::Line(_, _) => Judgement::Next,
-        Record::Circuits(_, _, _) => Judgement::Next,
-        Record::Pmu(_) => Judgement::Next,
-        Record::End => Judgement::Last,
-        Record::Wrong => Judgement::Next,
+        Record::End => Standing::Last,
+        _ => Standing::Next,
     }
 }
 
-pub fn judge(s: Place, r: Record) -> Judgement
+// What a record is where the reader stands, or why it is refused.
+#[tactic(auto, unfolding(crate::specs::Judging::judged))]
+pub fn judge(s: Place, r: Record) -> Result<Standing, Fault>
     ensures { result ≡ judged s r }
 {
-    if !in_place(s, r) {
-        return Judgement::Form;
-    }
-    if !in_range(s, r) {
-        return Judgement::Range;
-    }
-    if !in_order(s, r) {
-        return Judgement::Order;
-    }
-    accepts(r)
-}
-
-// Where the reader stands after a `line`.
-fn after_line(s: Place, a: usize, b: usize) -> Place
-    requires { s.lines < most_lines }
-    ensures { result ≡ place_after_line s a b }
-{
-    Place {
-        n: s.n,
-        bus: s.bus,
-        a,
-        b,
-        lines: s.lines + 1,
-        unit: s.unit,
+    if !s.allows_kind(r) {
+        Err(Fault::Form)
+    } else if !s.allows_numbers(r) {
+        Err(Fault::Range)
+    } else if !s.allows_order(r) {
+        Err(Fault::Order)
+    } else {
+        Ok(accepted(r))
     }
 }
 
@@ -216,35 +179,11 @@ pub fn next_place(s: Place, r: Record) -> Place
     match r {
         Record::Grid(n) => Place {
             n,
-            bus: 0,
-            a: 0,
-            b: 0,
-            lines: 0,
-            unit: 0,
+            ..Place::default()
         },
-        Record::Bus {
-            number,
-            zero: _,
-            site: _,
-        } => Place {
-            n: s.n,
-            bus: number,
-            a: s.a,
-            b: s.b,
-            lines: s.lines,
-            unit: s.unit,
-        },
-        Record::Line(a, b) => after_line(s, a, b),
-        Record::Circuits(a, b, _) => after_line(s, a, b),
-        Record::Pmu(p) => Place {
-            n: s.n,
-            bus: s.bus,
-            a: s.a,
-            b: s.b,
-            lines: s.lines,
-            unit: p,
-        },
-        Record::End => s,
-        Record::Wrong => s,
+        Record::Bus { number, .. } => Place { bus: number, ..s },
+        Record::Line(a, b) | Record::Circuits(a, b, _) => s.after_line(a, b),
+        Record::Pmu(p) => Place { unit: p, ..s },
+        Record::End | Record::Wrong => s,
     }
 }

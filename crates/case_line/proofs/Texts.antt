@@ -1,4 +1,5 @@
 -- A record's text is read as the record, and a line that is read as a record is that record's text.
+use Rattle.std.specs.Prelude.{Option, Some, None}
 use mathlib.Core.Path.{◌≡◌, refl, sym, ap, ap₂, ◌∙◌}
 use mathlib.Core.Bool.{Bool, true, false, cond}
 use mathlib.Core.List.{List, [], ◌∷◌}
@@ -9,8 +10,6 @@ use lib.Dec.{eqb}
 use borrow.Author.Tests.{eqb-true}
 use Rattle.text_field.specs.Split.{split, join, same, bytes}
 use Rattle.text_field.specs.Number.{numeral_of}
-use Rattle.text_field.specs.declared.Numeral.{Numeral}
-use Rattle.text_field.specs.declared.Numeral.TheVariants.{Is, Wrong as NoNumber}
 use Rattle.text_field.proofs.Cutting.{FreeOf, AllFree, same-is, split-join, join-split, free-join}
 use Rattle.text_field.proofs.Digits.{read_number, written-number, number-free}
 use Rattle.case_line.specs.Fields.{mark_of, class_of, site_of, if_one_field, if_no_field}
@@ -22,8 +21,6 @@ use Rattle.case_line.specs.declared.Record.TheVariants.{Grid, Bus, Line, Circuit
 use Rattle.case_line.specs.declared.Word.{Word}
 use Rattle.case_line.specs.declared.Word.TheVariants.{Grid as GridWord, Bus as BusWord, Line as LineWord}
 use Rattle.case_line.specs.declared.Word.TheVariants.{Pmu as PmuWord, End as EndWord, Other}
-use Rattle.case_line.specs.declared.Mark.{Mark}
-use Rattle.case_line.specs.declared.Mark.TheVariants.{Is as Letter, Neither}
 
 -- ---- written, then read
 
@@ -63,7 +60,7 @@ fields_free c End h f = tt
 fields_free c Wrong h f = tt
 
 read_fields : (r : Record) → Formed r → by_word (record_word_of (word_text r)) (field_texts r) ≡ r
-unfolding record_word_of same if_one_field if_no_field line_fields bus_fields mark_of
+unfolding record_word_of if_one_field if_no_field line_fields bus_fields mark_of
 read_fields (Grid n) f = rw (read_number n f)
 read_fields (Bus n true true) f = rw (read_number n f)
 read_fields (Bus n true false) f = rw (read_number n f)
@@ -107,61 +104,61 @@ word_told w =
     (choose (same w (bytes "pmu")) w PmuWord _ (same-is w _)
     (choose (same w (bytes "end")) w EndWord _ (same-is w _) tt))))
 
-mark_told : (p q : ℕ) (f : List ℕ) (t : Bool) → mark_of p q f ≡ Letter t → letter_if t p q ≡ f
+mark_told : (p q : ℕ) (f : List ℕ) (t : Bool) → mark_of p q f ≡ Some t → letter_if t p q ≡ f
 unfolding mark_of
 mark_told p q [] t e = let z : ◌≡◌ {A = ℕ} 0 1 = cc in absurd (omega arith)
 mark_told p q (b ∷ []) t e = first (eqb b p) (eqb b q) (eqb-true b p) (eqb-true b q) e
   where
-    first : (x y : Bool) → (x ≡ true → b ≡ p) → (y ≡ true → b ≡ q) → cond x (Letter true) (cond y (Letter false) Neither) ≡ Letter t
+    first : (x y : Bool) → (x ≡ true → b ≡ p) → (y ≡ true → b ≡ q) → cond x (Some true) (cond y (Some false) None) ≡ Some t
         → letter_if t p q ≡ b ∷ []
     first true y f g e = let h : true ≡ t = cc in rw (← h) (ap (λ (x : ℕ). x ∷ []) (sym (f refl)))
     first false true f g e = let h : false ≡ t = cc in rw (← h) (ap (λ (x : ℕ). x ∷ []) (sym (g refl)))
     first false false f g e = let z : ◌≡◌ {A = ℕ} 0 1 = cc in absurd (omega arith)
 mark_told p q (b ∷ c ∷ f) t e = let z : ◌≡◌ {A = ℕ} 0 1 = cc in absurd (omega arith)
 
-grid-spells : (w f : List ℕ) (x : Numeral) → w ≡ bytes "grid" → numeral_of f ≡ x → Spells (grid_record_of x) w (f ∷ [])
-grid-spells w f (Is n) e h = let t = written-number f n h in inr (t.small, sym e, ap (λ (x : List ℕ). x ∷ []) t.text)
-grid-spells w f NoNumber e h = inl refl
+grid-spells : (w f : List ℕ) (x : Option ℕ) → w ≡ bytes "grid" → numeral_of f ≡ x → Spells (grid_record_of x) w (f ∷ [])
+grid-spells w f (Some n) e h = let t = written-number f n h in inr (t.small, sym e, ap (λ (x : List ℕ). x ∷ []) t.text)
+grid-spells w f None e h = inl refl
 
-pmu_spells : (w f : List ℕ) (x : Numeral) → w ≡ bytes "pmu" → numeral_of f ≡ x → Spells (pmu_record_of x) w (f ∷ [])
-pmu_spells w f (Is n) e h = let t = written-number f n h in inr (t.small, sym e, ap (λ (x : List ℕ). x ∷ []) t.text)
-pmu_spells w f NoNumber e h = inl refl
+pmu_spells : (w f : List ℕ) (x : Option ℕ) → w ≡ bytes "pmu" → numeral_of f ≡ x → Spells (pmu_record_of x) w (f ∷ [])
+pmu_spells w f (Some n) e h = let t = written-number f n h in inr (t.small, sym e, ap (λ (x : List ℕ). x ∷ []) t.text)
+pmu_spells w f None e h = inl refl
 
-line-spells : (w f g : List ℕ) (x y : Numeral) → w ≡ bytes "line" → numeral_of f ≡ x → numeral_of g ≡ y
+line-spells : (w f g : List ℕ) (x y : Option ℕ) → w ≡ bytes "line" → numeral_of f ≡ x → numeral_of g ≡ y
     → Spells (line_record_of x y) w (f ∷ g ∷ [])
-line-spells w f g (Is a) (Is b) e h i =
+line-spells w f g (Some a) (Some b) e h i =
     let s = written-number f a h in
     let t = written-number g b i in
     inr ((s.small, t.small), sym e, ap₂ (λ (x y : List ℕ). x ∷ y ∷ []) s.text t.text)
-line-spells w f g (Is a) NoNumber e h i = inl refl
-line-spells w f g NoNumber y e h i = inl refl
+line-spells w f g (Some a) None e h i = inl refl
+line-spells w f g None y e h i = inl refl
 
-circuits-spells : (w f g p : List ℕ) (x y z : Numeral) → w ≡ bytes "line" → numeral_of f ≡ x → numeral_of g ≡ y → numeral_of p ≡ z
+circuits-spells : (w f g p : List ℕ) (x y z : Option ℕ) → w ≡ bytes "line" → numeral_of f ≡ x → numeral_of g ≡ y → numeral_of p ≡ z
     → Spells (circuits_record_of x y z) w (f ∷ g ∷ p ∷ [])
-circuits-spells w f g p (Is a) (Is b) (Is k) e h i j =
+circuits-spells w f g p (Some a) (Some b) (Some k) e h i j =
     let s = written-number f a h in
     let t = written-number g b i in
     let u = written-number p k j in
     inr ((s.small, t.small, u.small), sym e, cc (s.text, t.text, u.text))
-circuits-spells w f g p (Is a) (Is b) NoNumber e h i j = inl refl
-circuits-spells w f g p (Is a) NoNumber z e h i j = inl refl
-circuits-spells w f g p NoNumber y z e h i j = inl refl
+circuits-spells w f g p (Some a) (Some b) None e h i j = inl refl
+circuits-spells w f g p (Some a) None z e h i j = inl refl
+circuits-spells w f g p None y z e h i j = inl refl
 
-bus-spells : (w f g h : List ℕ) (x : Numeral) (c s : Mark) → w ≡ bytes "bus" → numeral_of f ≡ x → class_of g ≡ c → site_of h ≡ s
+bus-spells : (w f g h : List ℕ) (x : Option ℕ) (c s : Option Bool) → w ≡ bytes "bus" → numeral_of f ≡ x → class_of g ≡ c → site_of h ≡ s
     → Spells (bus_record_of x c s) w (f ∷ g ∷ h ∷ [])
-bus-spells w f g h (Is n) (Letter z) (Letter o) e i j k =
+bus-spells w f g h (Some n) (Some z) (Some o) e i j k =
     let t = written-number f n i in
     let u = mark_told 90 73 g z j in
     let v = mark_told 89 78 h o k in
     inr (t.small, sym e, cc (t.text, u, v))
-bus-spells w f g h (Is n) (Letter z) Neither e i j k = inl refl
-bus-spells w f g h (Is n) Neither s e i j k = inl refl
-bus-spells w f g h NoNumber c s e i j k = inl refl
+bus-spells w f g h (Some n) (Some z) None e i j k = inl refl
+bus-spells w f g h (Some n) None s e i j k = inl refl
+bus-spells w f g h None c s e i j k = inl refl
 
-bus_neither : (x : Numeral) (c : Mark) → bus_record_of x c Neither ≡ Wrong
-bus_neither (Is n) (Letter z) = refl
-bus_neither (Is n) Neither = refl
-bus_neither NoNumber c = refl
+bus_neither : (x : Option ℕ) (c : Option Bool) → bus_record_of x c None ≡ Wrong
+bus_neither (Some n) (Some z) = refl
+bus_neither (Some n) None = refl
+bus_neither None c = refl
 
 spells : (w : List ℕ) (v : Word) (fs : List (List ℕ)) → word_spelt w v → Spells (by_word v fs) w fs
 unfolding word_spelt if_one_field if_no_field line_fields bus_fields

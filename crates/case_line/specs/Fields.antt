@@ -1,16 +1,12 @@
 -- The fields after a line's word.
-use Rattle.std.specs.Prelude.{true, false, cond, List, [], ◌∷◌, ℕ, eqb}
+use Rattle.std.specs.Prelude.{Bool, true, false, cond, List, [], ◌∷◌, ℕ, eqb, Option, Some, None}
 use Rattle.text_field.specs.Number.{numeral_of}
-use Rattle.text_field.specs.declared.Numeral.{Numeral}
-use Rattle.text_field.specs.declared.Numeral.TheVariants.{Wrong as NoNumber}
-use Rattle.case_line.specs.declared.Mark.{Mark}
-use Rattle.case_line.specs.declared.Mark.TheVariants.{Is as Letter, Neither}
 
 -- which of two letters a field is
-unfoldable pub mark_of : ℕ → ℕ → List ℕ → Mark
-mark_of p q [] = Neither
-mark_of p q (b ∷ []) = cond (eqb b p) (Letter true) (cond (eqb b q) (Letter false) Neither)
-mark_of p q (b ∷ c ∷ f) = Neither
+unfoldable pub mark_of : ℕ → ℕ → List ℕ → Option Bool
+mark_of p q [] = None
+mark_of p q (b ∷ []) = cond (eqb b p) (Some true) (cond (eqb b q) (Some false) None)
+mark_of p q (b ∷ c ∷ f) = None
 
 -- the letters Z and I, Y and N
 abbrev pub letter_z : ℕ
@@ -26,11 +22,11 @@ abbrev pub letter_n : ℕ
 letter_n = 78
 
 -- a class: Z or I
-abbrev pub class_of : List ℕ → Mark
+abbrev pub class_of : List ℕ → Option Bool
 class_of = mark_of letter_z letter_i
 
 -- a site: Y or N
-abbrev pub site_of : List ℕ → Mark
+abbrev pub site_of : List ℕ → Option Bool
 site_of = mark_of letter_y letter_n
 
 -- the value of the one field that there is, or w where there are none or more
@@ -45,9 +41,9 @@ if_no_field w v [] = v
 if_no_field w v (f ∷ fs) = w
 
 -- one field, a number
-abbrev pub one_number : List (List ℕ) → Numeral
-one_number = if_one_field NoNumber numeral_of
+abbrev pub one_number : List (List ℕ) → Option ℕ
+one_number = if_one_field None numeral_of
 
 -- one field, a site
-abbrev pub one_site : List (List ℕ) → Mark
-one_site = if_one_field Neither site_of
+abbrev pub one_site : List (List ℕ) → Option Bool
+one_site = if_one_field None site_of

@@ -1,18 +1,14 @@
 -- A line of a case text, read as a record, one tab between fields: `grid n`, `bus number class site`, `line a b` of one circuit,
 -- `line a b k` of k circuits, `pmu number` or `end`.
-use Rattle.std.specs.Prelude.{Bool, cond, List, [], ◌∷◌, ℕ, ◌<◌}
+use Rattle.std.specs.Prelude.{Bool, cond, List, [], ◌∷◌, ℕ, ◌<◌, Option, Some, None}
 use Rattle.text_field.specs.Split.{split, join, same, bytes, tab}
 use Rattle.text_field.specs.Number.{most_read, numeral_of, number_text}
-use Rattle.text_field.specs.declared.Numeral.{Numeral}
-use Rattle.text_field.specs.declared.Numeral.TheVariants.{Is, Wrong as NoNumber}
 use Rattle.case_line.specs.Fields.{letter_z, letter_i, letter_y, letter_n, class_of, if_no_field, one_number, one_site}
 use Rattle.case_line.specs.declared.Record.{Record}
 use Rattle.case_line.specs.declared.Record.TheVariants.{Grid, Bus, Line, Circuits, Pmu, End, Wrong}
 use Rattle.case_line.specs.declared.Word.{Word}
 use Rattle.case_line.specs.declared.Word.TheVariants.{Grid as GridWord, Bus as BusWord, Line as LineWord}
 use Rattle.case_line.specs.declared.Word.TheVariants.{Pmu as PmuWord, End as EndWord, Other}
-use Rattle.case_line.specs.declared.Mark.{Mark}
-use Rattle.case_line.specs.declared.Mark.TheVariants.{Is as Letter, Neither}
 
 -- the word that a field is
 unfoldable pub record_word_of : List ℕ → Word
@@ -27,34 +23,34 @@ record_word_of f =
 -- ---- the fields of each record
 
 -- `grid n`
-abbrev pub grid_record_of : Numeral → Record
-grid_record_of (Is n) = Grid n
-grid_record_of NoNumber = Wrong
+abbrev pub grid_record_of : Option ℕ → Record
+grid_record_of (Some n) = Grid n
+grid_record_of None = Wrong
 
 -- `pmu number`
-abbrev pub pmu_record_of : Numeral → Record
-pmu_record_of (Is n) = Pmu n
-pmu_record_of NoNumber = Wrong
+abbrev pub pmu_record_of : Option ℕ → Record
+pmu_record_of (Some n) = Pmu n
+pmu_record_of None = Wrong
 
 -- `line a b`
-abbrev pub line_record_of : Numeral → Numeral → Record
-line_record_of (Is a) (Is b) = Line a b
-line_record_of (Is a) NoNumber = Wrong
-line_record_of NoNumber b = Wrong
+abbrev pub line_record_of : Option ℕ → Option ℕ → Record
+line_record_of (Some a) (Some b) = Line a b
+line_record_of (Some a) None = Wrong
+line_record_of None b = Wrong
 
 -- `line a b k`
-abbrev pub circuits_record_of : Numeral → Numeral → Numeral → Record
-circuits_record_of (Is a) (Is b) (Is k) = Circuits a b k
-circuits_record_of (Is a) (Is b) NoNumber = Wrong
-circuits_record_of (Is a) NoNumber k = Wrong
-circuits_record_of NoNumber b k = Wrong
+abbrev pub circuits_record_of : Option ℕ → Option ℕ → Option ℕ → Record
+circuits_record_of (Some a) (Some b) (Some k) = Circuits a b k
+circuits_record_of (Some a) (Some b) None = Wrong
+circuits_record_of (Some a) None k = Wrong
+circuits_record_of None b k = Wrong
 
 -- `bus number class site`
-abbrev pub bus_record_of : Numeral → Mark → Mark → Record
-bus_record_of (Is n) (Letter zero) (Letter site) = Bus n zero site
-bus_record_of (Is n) (Letter zero) Neither = Wrong
-bus_record_of (Is n) Neither site = Wrong
-bus_record_of NoNumber class site = Wrong
+abbrev pub bus_record_of : Option ℕ → Option Bool → Option Bool → Record
+bus_record_of (Some n) (Some zero) (Some site) = Bus n zero site
+bus_record_of (Some n) (Some zero) None = Wrong
+bus_record_of (Some n) None site = Wrong
+bus_record_of None class site = Wrong
 
 -- the two or three fields of `line`
 unfoldable pub line_fields : List (List ℕ) → Record

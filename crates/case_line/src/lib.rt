@@ -1,14 +1,12 @@
 // One line of a case text, read as a record.
 #![tactic(auto)]
 
-ghost use Rattle.std.specs.Prelude.{◌≡◌};
-ghost use Rattle.text_field.specs.Split.{after};
+ghost use Rattle.std.specs.Prelude.{◌≡◌, ◌≢◌, [], ◌∷◌, length, MatchOption, unwrap_or};
+ghost use Rattle.text_field.specs.Split.{after, tab};
 ghost use Rattle.case_line.specs.Fields.{mark_of, one_number, one_site};
-ghost use Rattle.case_line.specs.Record.{record_word_of, grid_record_of, bus_record_of, line_record_of};
-ghost use Rattle.case_line.specs.Record.{circuits_record_of, pmu_record_of, bus_fields, line_fields};
-ghost use Rattle.case_line.specs.Record.{no_fields, record_of};
+ghost use Rattle.case_line.specs.Record.{record_word_of, bus_fields, line_fields, by_word, record_of};
 
-use text_field::Numeral;
+use text_field::{next_field, number_of, piece_end};
 
 // A record of a case text; `zero` says class Z, `site` says site Y. `Circuits` is a `line` that says its circuits.
 #[derive(Clone, Copy)]
@@ -37,202 +35,106 @@ pub enum Word {
     Other,
 }
 
-// A field of one letter out of two: whether it is the first.
-#[derive(Clone, Copy)]
-pub enum Mark {
-    Is(bool),
-    Neither,
-}
-
+#[tactic(auto, unfolding(crate::specs::Record::record_word_of))]
 fn word_of(f: &[u8]) -> Word
     ensures { result ≡ record_word_of f.now }
 {
-    if text_field::is_same(f, b"grid") {
-        return Word::Grid;
+    match f {
+        b"grid" => Word::Grid,
+        b"bus" => Word::Bus,
+        b"line" => Word::Line,
+        b"pmu" => Word::Pmu,
+        b"end" => Word::End,
+        _ => Word::Other,
     }
-    if text_field::is_same(f, b"bus") {
-        return Word::Bus;
-    }
-    if text_field::is_same(f, b"line") {
-        return Word::Line;
-    }
-    if text_field::is_same(f, b"pmu") {
-        return Word::Pmu;
-    }
-    if text_field::is_same(f, b"end") {
-        return Word::End;
-    }
-    Word::Other
 }
 
-fn mark_of(f: &[u8], yes: u8, no: u8) -> Mark
+// A field of one letter out of two: whether it is the first.
+#[tactic(auto, unfolding(crate::specs::Fields::mark_of))]
+fn mark_of(f: &[u8], yes: u8, no: u8) -> Option<bool>
     ensures { result ≡ mark_of yes no f.now }
 {
-    if f.len() != 1 {
-        return Mark::Neither;
-    }
-    let b = f[0];
-    if b == yes {
-        return Mark::Is(true);
-    }
-    if b == no {
-        return Mark::Is(false);
-    }
-    Mark::Neither
-}
-
-fn grid_of(n: Numeral) -> Record
-    ensures { result ≡ grid_record_of n }
-{
-    match n {
-        Numeral::Is(v) => Record::Grid(v),
-        Numeral::Wrong => Record::Wrong,
+    match f {
+        [b] if *b == yes => Some(true),
+        [b] if *b == no => Some(false),
+        _ => None,
     }
 }
 
-fn pmu_of(n: Numeral) -> Record
-    ensures { result ≡ pmu_record_of n }
+// The one field that follows the one that ends at `at`.
+#[tactic(auto, unfolding(text_field::specs::Split::after))]
+fn one_field(line: &[u8], at: usize) -> Option<&[u8]>
+    ensures { MatchOption result
+        (length (after tab line.now at) ≢ 1)
+        (λ f. after tab line.now at ≡ f.now ∷ []) }
 {
-    match n {
-        Numeral::Is(v) => Record::Pmu(v),
-        Numeral::Wrong => Record::Wrong,
-    }
-}
-
-fn line_of(a: Numeral, b: Numeral) -> Record
-    ensures { result ≡ line_record_of a b }
-{
-    match a {
-        Numeral::Is(v) => match b {
-            Numeral::Is(w) => Record::Line(v, w),
-            Numeral::Wrong => Record::Wrong,
-        },
-        Numeral::Wrong => Record::Wrong,
-    }
-}
-
-fn circuits_of(a: Numeral, b: Numeral, k: Numeral) -> Record
-    ensures { result ≡ circuits_record_of a b k }
-{
-    match a {
-        Numeral::Is(v) => match b {
-            Numeral::Is(w) => match k {
-                Numeral::Is(x) => Record::Circuits(v, w, x),
-                Numeral::Wrong => Record::Wrong,
-            },
-            Numeral::Wrong => Record::Wrong,
-        },
-        Numeral::Wrong => Record::Wrong,
-    }
-}
-
-fn bus_of(n: Numeral, class: Mark, site: Mark) -> Record
-    ensures { result ≡ bus_record_of n class site }
-{
-    match n {
-        Numeral::Is(number) => match class {
-            Mark::Is(zero) => match site {
-                Mark::Is(site) => Record::Bus { number, zero, site },
-                Mark::Neither => Record::Wrong,
-            },
-            Mark::Neither => Record::Wrong,
-        },
-        Numeral::Wrong => Record::Wrong,
-    }
-}
-
-// Whether no field follows the one that ends at `at`.
-fn no_fields(line: &[u8], at: usize) -> Record
-    ensures { result ≡ no_fields (after 9 line.now at) }
-{
-    if at < line.len() {
-        return Record::Wrong;
-    }
-    Record::End
+    let (field, end) = next_field(line, at)?;
+    if end < line.len() { None } else { Some(field) }
 }
 
 // The number in the one field that follows the one that ends at `at`.
-pub fn one_number(line: &[u8], at: usize) -> Numeral
-    ensures { result ≡ one_number (after 9 line.now at) }
+#[tactic(auto, unfolding(crate::specs::Fields::if_one_field))]
+pub fn one_number(line: &[u8], at: usize) -> Option<usize>
+    ensures { result ≡ one_number (after tab line.now at) }
 {
-    if line.len() <= at {
-        return Numeral::Wrong;
-    }
-    let a = at + 1;
-    let e = text_field::piece_end(line, a, b'\t');
-    if e < line.len() {
-        return Numeral::Wrong;
-    }
-    text_field::number_of(&line[a..e])
+    number_of(one_field(line, at)?)
+}
+
+#[tactic(auto, unfolding(crate::specs::Fields::if_one_field))]
+fn one_site(line: &[u8], at: usize) -> Option<bool>
+    ensures { result ≡ one_site (after tab line.now at) }
+{
+    mark_of(one_field(line, at)?, b'Y', b'N')
+}
+
+// A `bus` with the three fields that follow the one that ends at `at`.
+#[tactic(auto, unfolding(crate::specs::Record::bus_fields))]
+fn bus_fields(line: &[u8], at: usize) -> Option<Record>
+    ensures { unwrap_or result Record.Wrong ≡ bus_fields (after tab line.now at) }
+{
+    let (number, end) = next_field(line, at)?;
+    let (class, end) = next_field(line, end)?;
+    Some(Record::Bus {
+        number: number_of(number)?,
+        zero: mark_of(class, b'Z', b'I')?,
+        site: one_site(line, end)?,
+    })
 }
 
 // A `line` with the two or three fields that follow the one that ends at `at`.
-fn line_fields(line: &[u8], at: usize) -> Record
-    ensures { result ≡ line_fields (after 9 line.now at) }
+#[tactic(auto, unfolding(crate::specs::Record::line_fields, crate::specs::Fields::if_one_field))]
+fn line_fields(line: &[u8], at: usize) -> Option<Record>
+    ensures { unwrap_or result Record.Wrong ≡ line_fields (after tab line.now at) }
 {
-    if line.len() <= at {
-        return Record::Wrong;
+    let (from, end) = next_field(line, at)?;
+    let (to, end) = next_field(line, end)?;
+    let (a, b) = (number_of(from)?, number_of(to)?);
+    match next_field(line, end) {
+        None => Some(Record::Line(a, b)),
+        Some(_) => Some(Record::Circuits(a, b, one_number(line, end)?)),
     }
-    let a = at + 1;
-    let e = text_field::piece_end(line, a, b'\t');
-    if line.len() <= e {
-        return Record::Wrong;
-    }
-    let b = e + 1;
-    let d = text_field::piece_end(line, b, b'\t');
-    let x = text_field::number_of(&line[a..e]);
-    let y = text_field::number_of(&line[b..d]);
-    if line.len() <= d {
-        return line_of(x, y);
-    }
-    circuits_of(x, y, one_number(line, d))
 }
 
-fn one_site(line: &[u8], at: usize) -> Mark
-    ensures { result ≡ one_site (after 9 line.now at) }
+// The record of this word with the fields that follow the one that ends at `at`.
+#[tactic(auto, unfolding(crate::specs::Fields::if_no_field))]
+fn by_word(word: Word, line: &[u8], at: usize) -> Option<Record>
+    ensures { unwrap_or result Record.Wrong ≡ by_word word (after tab line.now at) }
 {
-    if line.len() <= at {
-        return Mark::Neither;
+    match word {
+        Word::Grid => Some(Record::Grid(one_number(line, at)?)),
+        Word::Bus => bus_fields(line, at),
+        Word::Line => line_fields(line, at),
+        Word::Pmu => Some(Record::Pmu(one_number(line, at)?)),
+        Word::End => next_field(line, at).is_none().then_some(Record::End),
+        Word::Other => None,
     }
-    let a = at + 1;
-    let e = text_field::piece_end(line, a, b'\t');
-    if e < line.len() {
-        return Mark::Neither;
-    }
-    mark_of(&line[a..e], b'Y', b'N')
-}
-
-fn bus_fields(line: &[u8], at: usize) -> Record
-    ensures { result ≡ bus_fields (after 9 line.now at) }
-{
-    if line.len() <= at {
-        return Record::Wrong;
-    }
-    let a = at + 1;
-    let e = text_field::piece_end(line, a, b'\t');
-    if line.len() <= e {
-        return Record::Wrong;
-    }
-    let b = e + 1;
-    let d = text_field::piece_end(line, b, b'\t');
-    bus_of(
-        text_field::number_of(&line[a..e]),
-        mark_of(&line[b..d], b'Z', b'I'),
-        one_site(line, d),
-    )
 }
 
 // The record that a line of a case text is.
+#[tactic(auto, unfolding(crate::specs::Record::record_of))]
 pub fn record_of(line: &[u8]) -> Record
     ensures { result ≡ record_of line.now }
 {
-    let e = text_field::piece_end(line, 0, b'\t');
-    match word_of(&line[0..e]) {
-        Word::Grid => grid_of(one_number(line, e)),
-        Word::Bus => bus_fields(line, e),
-        Word::Line => line_fields(line, e),
-        Word::Pmu => pmu_of(one_number(line, e)),
-        Word::End => no_fields(line, e),
-        Word::Other => Record::Wrong,
-    }
+    let end = piece_end(line, 0, b'\t');
+    by_word(word_of(&line[..end]), line, end).unwrap_or(Record::Wrong)
 }

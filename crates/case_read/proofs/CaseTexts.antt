@@ -1,4 +1,5 @@
 -- Reading a case text gives the refusal of the first check that fails, and a case where all pass.
+use Rattle.std.specs.Prelude.{Result, Ok, Err}
 use mathlib.Core.Path.{◌≡◌, refl, sym}
 use mathlib.Core.Bool.{Bool, true, false, cond, true≢false}
 use mathlib.Core.List.{List, [], ◌∷◌}
@@ -13,21 +14,22 @@ use Rattle.refusals.specs.Refusals.{Check, check_that}
 use Rattle.refusals.proofs.Orders.{itself}
 use Rattle.case_judge.specs.Judging.{in_place, in_range, in_order, next_or_last, judged}
 use Rattle.grid.specs.Limits.{most_bytes}
-use Rattle.case_read.specs.Reading.{Reader, start, next_reader, case_so_far, got, refused, case_ended, record_said, read_lines, read_text}
+use Rattle.case_read.specs.Reading.{start, next_reader, case_so_far, case_ended, record_said, read_lines, read_text}
+use Rattle.case_read.specs.declared.Reader.{Reader}
 use Rattle.case_read.specs.Reading.{read_case}
-use Rattle.case_read.specs.declared.CaseRead.{CaseRead}
-use Rattle.case_judge.specs.declared.Judgement.{Judgement}
-use Rattle.case_judge.specs.declared.Judgement.TheVariants.{Form, Range, Order}
+use Rattle.case_judge.specs.declared.Standing.{Standing}
+use Rattle.case_judge.specs.declared.Fault.TheVariants.{Form, Range, Order}
+use Rattle.refusals.specs.declared.Refusal.{Refusal}
 use Rattle.refusals.proofs.Judging.{SaidBy, good, passing, failing, within_limit}
 use Rattle.case_read.specs.Checks.{NothingFollows, after_record, line_checks, lines_from, case_checks}
 
 -- a case
-abbrev pub IsCase : CaseRead → Type 0
-IsCase r = (c : Case) × (r ≡ got c)
+abbrev pub IsCase : Result Case Refusal → Type 0
+IsCase r = (c : Case) × (r ≡ Ok c)
 
 -- what is read by these checks
-abbrev pub ReadBy : List Check → CaseRead → Type 0
-ReadBy = SaidBy refused IsCase
+abbrev pub ReadBy : List Check → Result Case Refusal → Type 0
+ReadBy = SaidBy Err IsCase
 
 -- nothing follows `end`
 end_judged : (c : Case) (k : ℕ) (m : List ℕ) (ms : List (List ℕ)) → ReadBy (check_that (NothingFollows m ms) 2 k ∷ []) (case_ended c k m ms)
@@ -36,9 +38,10 @@ end_judged c k [] (m ∷ ms) = failing (NothingFollows [] (m ∷ ms)) 2 k (Wrong
 end_judged c k (b ∷ l) ms = failing (NothingFollows (b ∷ l) ms) 2 k (WrongForm k) (λ h. h) (itself (WrongForm k))
 
 -- a line: 2 before 3 before 4
-line-judged : (p r o : Bool) (v : Judgement) (k : ℕ) (on end : CaseRead) (later : List Check) → ReadBy later (record_said v k on end)
+line-judged : (p r o : Bool) (v : Standing) (k : ℕ) (on end : Result Case Refusal) (later : List Check)
+    → ReadBy later (record_said (Ok v) k on end)
     → ReadBy (check_that (p ≡ true) 2 k ∷ check_that (r ≡ true) 3 k ∷ check_that (o ≡ true) 4 k ∷ later)
-    (record_said (cond p (cond r (cond o v Order) Range) Form) k on end)
+    (record_said (cond p (cond r (cond o (Ok v) (Err Order)) (Err Range)) (Err Form)) k on end)
 line-judged false r o v k on end later h = failing (false ≡ true) 2 k (WrongForm k) (λ e. true≢false (sym e)) (itself (WrongForm k))
 line-judged true false o v k on end later h =
     passing (true ≡ true) 2 k refl (failing (false ≡ true) 3 k (OutOfRange k) (λ e. true≢false (sym e)) (itself (OutOfRange k)))
@@ -49,8 +52,8 @@ line-judged true true true v k on end later h =
     passing (true ≡ true) 2 k refl (passing (true ≡ true) 3 k refl (passing (true ≡ true) 4 k refl h))
 
 -- and then the lines after it, or after `end` nothing
-record_judged : (x : Record) (k : ℕ) (on end : CaseRead) (ons ends : List Check) → ReadBy ons on → ReadBy ends end
-    → ReadBy (after_record x ends ons) (record_said (next_or_last x) k on end)
+record_judged : (x : Record) (k : ℕ) (on end : Result Case Refusal) (ons ends : List Check) → ReadBy ons on → ReadBy ends end
+    → ReadBy (after_record x ends ons) (record_said (Ok (next_or_last x)) k on end)
 record_judged (Grid n) k on end ons ends p q = p
 record_judged (Bus b zero site) k on end ons ends p q = p
 record_judged (Line a b) k on end ons ends p q = p
@@ -74,5 +77,5 @@ lines-judged s k l (m ∷ ms) =
 pub case-judged : (text : List ℕ) → ReadBy (case_checks text) (read_case text)
 unfolding read_case read_text
 case-judged text =
-    within_limit refused IsCase most_bytes text (lines_from 1 text) (read_text 1 text)
+    within_limit Err IsCase most_bytes text (lines_from 1 text) (read_text 1 text)
     (lines-judged start 1 (split line_feed text).first (split line_feed text).rest)

@@ -7,7 +7,8 @@ use Rattle.case_line.specs.declared.Record.TheVariants.{Grid, Bus, Line, Circuit
 use Rattle.grid.specs.Limits.{most_bytes}
 use Rattle.refusals.specs.Refusals.{Check, check_that}
 use Rattle.case_judge.specs.Judging.{in_place, in_range, in_order}
-use Rattle.case_read.specs.Reading.{Reader, start, next_reader}
+use Rattle.case_read.specs.Reading.{start, next_reader}
+use Rattle.case_read.specs.declared.Reader.{Reader}
 
 -- nothing follows `end`
 abbrev pub NothingFollows : List ℕ → List (List ℕ) → Type 0

@@ -22,7 +22,7 @@ use Rattle.case_line.specs.CaseText.{has, bus_record, bus_records, members, line
 use Rattle.case_read.proofs.Lengths.{line_room, lines_length, lines_append, members_length, row_room}
 use Rattle.text_put.specs.Put.{Put}
 use Rattle.case_write.specs.Lines.{line_text}
-use Rattle.text_put.proofs.Left.{Left, left-none, left-more, left-all}
+use Rattle.text_put.proofs.Left.{Left, left-more, left-all}
 
 -- ---- a record's line
 
@@ -53,47 +53,29 @@ unfoldable pub rest : (ℕ → ℕ → List Record) → ℕ → ℕ → List ℕ
 rest recs n b = lines_text (recs b (n + 1 - b))
 
 -- before the turn of bus b: the text from b on is left, and k is no further than the buses below b can reach
-pub record Turn (recs : ℕ → ℕ → List Record) (most first count n : ℕ) (l : List ℕ) (at end : ℕ) (m : List ℕ) (k b : ℕ) : Type 0 where
-  pub low : first ≤ b
-  pub high : b ≤ end
-  pub last : end ≡ n + 1
+pub record Turn (recs : ℕ → ℕ → List Record) (most first n : ℕ) (l : List ℕ) (at : ℕ) (m : List ℕ) (k b : ℕ) : Type 0 where
   pub near : k ≤ at + most * b
-  pub left : Left l at (lines_text (recs first count)) m k (rest recs n b)
+  pub left : Left l at (rest recs n first) m k (rest recs n b)
 
-module _ {recs : ℕ → ℕ → List Record} {most first count n : ℕ} {l : List ℕ} {at : ℕ} where
-  pub turn_first : first ≤ n + 1 → n + 1 - first ≡ count → Turn recs most first count n l at (n + 1) l at first
-  unfolding rest
-  turn_first h e =
-      record {
-        low = omega arith;
-        high = h;
-        last = refl;
-        near = omega arith;
-        left = left-none
-            (ap (λ (x : ℕ). lines_text (recs first x)) e);
-      }
-
-  turn_next : {end k b q : ℕ} {m t o : List ℕ} → Turn recs most first count n l at end m k b → b < end →
+module _ {recs : ℕ → ℕ → List Record} {most first n : ℕ} {l : List ℕ} {at : ℕ} where
+  turn_next : {k b q : ℕ} {m t o : List ℕ} → Turn recs most first n l at m k b → b < n + 1 →
       lines_text (recs b (suc (n - b))) ≡ t ++ lines_text (recs (b + 1) (n - b)) → length t ≤ most → Put m k t o q
-      → Turn recs most first count n l at end o q (b + 1)
+      → Turn recs most first n l at o q (b + 1)
   unfolding rest
-  turn_next {end} {k} {b} {q} {m} {t} {o} w h e s p =
+  turn_next {k} {b} {q} {m} {t} {o} w h e s p =
       let i : n + 1 - b ≡ suc (n - b) = omega arith in
       let j : n - b ≡ n + 1 - (b + 1) = omega arith in
       record {
-        low = omega (arith, w.low);
-        high = omega arith;
-        last = w.last;
         near = omega (arith, w.near, p.next);
         left = left-more w.left (ap (λ (x : ℕ). lines_text (recs b x)) i ∙ e ∙ ap (λ (x : ℕ). t ++ lines_text (recs (b + 1) x)) j) p;
       }
 
-  pub turn_all : {end k b : ℕ} {m : List ℕ} → Turn recs most first count n l at end m k b → end ≤ b → recs b 0 ≡ []
+  pub turn_all : {k b : ℕ} {m : List ℕ} (count : ℕ) → Turn recs most first n l at m k b → n + 1 ≤ b → n + 1 - first ≡ count → recs b 0 ≡ []
       → Put l at (lines_text (recs first count)) m k
   unfolding rest lines_text
-  turn_all {end} {k} {b} w h e =
+  turn_all {k} {b} count w h f e =
       let i : n + 1 - b ≡ 0 = omega arith in
-      left-all w.left (ap (λ (x : ℕ). lines_text (recs b x)) i ∙ ap lines_text e)
+      rw (← f) (left-all w.left (ap (λ (x : ℕ). lines_text (recs b x)) i ∙ ap lines_text e))
 
 -- what a set's test says
 pub has-is : (s b : ℕ) (r : Bool) → Decides (In s b) r → r ≡ has s b
@@ -102,15 +84,15 @@ has-is s b false d = sym (ne_eqb (bit s b) 1 (refutes d refl))
 
 -- ---- one turn more: the record of a bus, its line where it is in a set, its row
 
-module _ {first count n : ℕ} {l m o : List ℕ} {at end k b q : ℕ} where
-  pub turn_bus : (z_buses sites : ℕ) → Turn (bus_records z_buses sites) line_room first count n l at end m k b → b < end →
-      Put m k (line_text (bus_record z_buses sites b)) o q → Turn (bus_records z_buses sites) line_room first count n l at end o q (b + 1)
+module _ {first n : ℕ} {l m o : List ℕ} {at k b q : ℕ} where
+  pub turn_bus : (z_buses sites : ℕ) → Turn (bus_records z_buses sites) line_room first n l at m k b → b < n + 1 →
+      Put m k (line_text (bus_record z_buses sites b)) o q → Turn (bus_records z_buses sites) line_room first n l at o q (b + 1)
   unfolding bus_records
   turn_bus z_buses sites w h p = turn_next w h (lines_cons _ _) (line_length _) p
 
-  pub turn_member : (f : ℕ → Record) (s : ℕ) {t : Bool} → Turn (members f s) line_room first count n l at end m k b → b < end
+  pub turn_member : (f : ℕ → Record) (s : ℕ) {t : Bool} → Turn (members f s) line_room first n l at m k b → b < n + 1
       → Decides (In s b) t
-      → Put m k (cond t (line_text (f b)) []) o q → Turn (members f s) line_room first count n l at end o q (b + 1)
+      → Put m k (cond t (line_text (f b)) []) o q → Turn (members f s) line_room first n l at o q (b + 1)
   unfolding members
   turn_member f s {t} w h d p = turn_next w h (rw (← has-is s b t d) (taken t _)) (lined_length t (f b)) p
     where
@@ -118,9 +100,9 @@ module _ {first count n : ℕ} {l m o : List ℕ} {at end k b q : ℕ} where
       taken true rs = lines_cons _ _
       taken false rs = refl
 
-  pub turn_row : (nbr : ℕ → ℕ) (counts : ℕ → ℕ → ℕ) → Turn (line_records nbr counts) row_room first count n l at end m k b → b < end
+  pub turn_row : (nbr : ℕ → ℕ) (counts : ℕ → ℕ → ℕ) → Turn (line_records nbr counts) row_room first n l at m k b → b < n + 1
       → n ≤ most_buses → Put m k (lines_text (members (line_from counts b) (nbr b) (b + 1) (n - b))) o q
-      → Turn (line_records nbr counts) row_room first count n l at end o q (b + 1)
+      → Turn (line_records nbr counts) row_room first n l at o q (b + 1)
   unfolding line_records
   turn_row nbr counts w h c p =
       let f = line_from counts b in

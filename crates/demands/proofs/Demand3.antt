@@ -1,4 +1,6 @@
 -- Demand 3, over weaving's promise.
+use Rattle.refusals.specs.declared.Refusal.{Refusal}
+use Rattle.std.specs.Prelude.{Result, Ok, Err}
 use mathlib.Core.Path.{◌≡◌, refl, sym, ap, ◌∙◌, subst, subst⁻¹}
 use mathlib.Core.List.{List, [], ◌∷◌, ◌++◌}
 use Prim.Native.Nat.{ℕ, suc, ◌≤◌}
@@ -11,7 +13,7 @@ use Rattle.rules.specs.Steps.{Names, reached, Accepted}
 use Rattle.basics.specs.Lists.{Each}
 use Rattle.rules.specs.Weaving.{WeavableFrom, woven}
 use Rattle.rules.proofs.Lists.{accepted-names}
-use Rattle.rules.proofs.Shuffles.{Woven, shuffle_each, weaving_shuffles}
+use Rattle.rules.proofs.Shuffles.{Woven as Weaving, shuffle_each, weaving_shuffles}
 use Rattle.grid.specs.declared.Case.{Case}
 use Rattle.grid.specs.Cases.{grid_of}
 use Rattle.refusals.specs.Refusals.{Check, check_that, Passed}
@@ -20,7 +22,6 @@ use Rattle.list_follow.specs.Following.{checks_from}
 use Rattle.list_follow.specs.Replies.{weave_checks, WeaveReply}
 use Rattle.list_follow.specs.declared.Task.TheVariants.{Weave}
 use Rattle.list_follow.specs.declared.Wove.{Wove}
-use Rattle.list_follow.specs.declared.Wove.TheVariants as wove
 use Rattle.demands.specs.Demand3.{Received, Weaves, Demand3}
 
 weavable-checks : (c : Case) (k s : ℕ) (xs : List Step) (rest : List Check) → Each (Names c.n) xs → WeavableFrom (grid_of c) s xs
@@ -33,12 +34,12 @@ each-names : (c : Case) → Proper (grid_of c) → (desks : List (List Step)) �
 each-names c v [] a = tt
 each-names c v (xs ∷ desks) a = (accepted-names v empty xs a.0, each-names c v desks a.1)
 
-weaves : (c : Case) (desks : List (List Step)) (received before after : List Step) (r : Wove) → Received c desks received before
-    → WeaveReply c received before after r → Weaves c desks received before after r
-weaves c desks received before after (wove.Refused q) i p =
+weaves : (c : Case) (desks : List (List Step)) (received before after : List Step) (r : Result Wove Refusal)
+    → Received c desks received before → WeaveReply c received before after r → Weaves c desks received before after r
+weaves c desks received before after (Err q) i p =
     absurd (failed_or_passed (weave_checks c received (length before)) q p.0 (i.valid, (i.few, steps)))
   where
-    w : Woven (grid_of c) desks received
+    w : Weaving (grid_of c) desks received
     w = weaving_shuffles (grid_of c) desks received i.alone i.shuffled
 
     last : List Check
@@ -49,9 +50,9 @@ weaves c desks received before after (wove.Refused q) i p =
 
     steps : Passed (checks_from Weave c 1 empty received ++ last)
     steps = weavable-checks c 1 empty received last names w.weavable (i.room, tt)
-weaves c desks received before after (wove.Written count s) i p = record {
-  count = count;
-  set = s;
+weaves c desks received before after (Ok r) i p = record {
+  count = r.count;
+  set = r.set;
   answers = refl;
   records = p.3;
   accepted = w.accepted;
@@ -63,10 +64,10 @@ weaves c desks received before after (wove.Written count s) i p = record {
   least = λ f. subst⁻¹ (ObservedSet (grid_of c)) same (w.least f);
 }
   where
-    w : Woven (grid_of c) desks received
+    w : Weaving (grid_of c) desks received
     w = weaving_shuffles (grid_of c) desks received i.alone i.shuffled
 
-    same : set_of s ≡ reached (woven received)
+    same : set_of r.set ≡ reached (woven received)
     same = p.2
 
 pub demand_3 : Demand3

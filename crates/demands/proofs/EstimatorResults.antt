@@ -1,4 +1,5 @@
 -- No result of a C function is 5, or 12 at place 0: by the table that check would be the first that fails, and it passes.
+use Rattle.std.specs.Prelude.{Result, Ok, Err, IsOkAnd}
 use mathlib.Core.Path.{◌≡◌, refl, ◌∙◌, subst, subst⁻¹}
 use mathlib.Core.List.{List, [], ◌∷◌, ◌++◌}
 use mathlib.Core.Logic.{◌⊎◌, inl, inr}
@@ -9,26 +10,25 @@ use lib.ListN.{length, drop}
 use Rattle.grid.specs.declared.Case.{Case}
 use Rattle.grid.specs.Limits.{most_steps}
 use Rattle.grid.specs.Cases.{Valid}
+use Rattle.refusals.specs.declared.Refusal.{Refusal}
 use Rattle.refusals.specs.Refusals.{Check, check_that, Passed}
 use Rattle.refusals.specs.Calls.{Call}
 use Rattle.refusals.proofs.Orders.{failed_or_passed}
-use Rattle.case_read.specs.Reading.{refused, read_case}
-use Rattle.case_read.specs.declared.CaseRead.{CaseRead}
+use Rattle.case_read.specs.Reading.{read_case}
 use Rattle.case_inverse.proofs.Inverse.{read-valid}
 use Rattle.step_text.specs.Steps.{steps_of, read_steps}
-use Rattle.step_text.specs.declared.StepsRead.TheVariants.{Refused}
 use Rattle.step_text.proofs.Found.{steps-count, steps-found}
 use Rattle.list_follow.specs.Replies.{replay_checks}
 use Rattle.observe_calls.specs.Replies.{observed_checks}
 use Rattle.place_calls.specs.Replies.{verdict_checks, fewest_checks}
-use Rattle.estimator.specs.Answers.{estimator_checks, wz_observed_call, wz_unconfirmed_call, wz_fewest_call, wz_replay_call}
+use Rattle.estimator.specs.Answers.{checks_of, estimator_checks, wz_observed_call, wz_unconfirmed_call, wz_fewest_call, wz_replay_call}
 use Rattle.estimator_reply.specs.Results.{room_for_set}
 use Rattle.case_read.specs.Checks.{case_checks}
 use Rattle.step_text.specs.Checks.{step_text_checks}
 use Rattle.step_replay.specs.Replying.{with_fifty, text_replay_checks}
-use Rattle.refusals.proofs.Judging.{SaidBy, good, bad}
-use Rattle.case_read.proofs.CaseTexts.{IsCase, case-judged}
-use Rattle.step_text.proofs.StepTexts.{IsCount, steps-judged}
+use Rattle.refusals.proofs.Judging.{good, bad}
+use Rattle.case_read.proofs.CaseTexts.{ReadBy, case-judged}
+use Rattle.step_text.proofs.StepTexts.{StepsBy, steps-judged}
 use Rattle.demands.specs.Order.{turn, Precedes, FirstFails}
 use Rattle.demands.specs.ByTable.{AllByTable}
 use Rattle.demands.specs.Document01.{NoFiveOrTwelve}
@@ -74,17 +74,17 @@ never_after {k = k} (inr e) p =
 
 -- ---- a text that passes
 
-case-valid : (text : List ℕ) → Passed (case_checks text) → Valid (read_case text).case
+case-valid : (text : List ℕ) → Passed (case_checks text) → IsOkAnd (read_case text) Valid
 case-valid text p = go (case-judged text)
   where
-    go : SaidBy refused IsCase (case_checks text) (read_case text) → Valid (read_case text).case
-    go (good h (c, e)) = subst⁻¹ (λ (x : CaseRead). Valid x.case) e (read-valid text c e).valid
+    go : ReadBy (case_checks text) (read_case text) → IsOkAnd (read_case text) Valid
+    go (good h (c, e)) = subst⁻¹ (λ (r : Result Case Refusal). IsOkAnd r Valid) e (read-valid text c e).valid
     go (bad q f e) = absurd (failed_or_passed (case_checks text) q f p)
 
 steps-within : (text : List ℕ) → Passed (step_text_checks text) → length (steps_of text) ≤ most_steps
 steps-within text p = go (steps-judged text)
   where
-    go : SaidBy Refused IsCount (step_text_checks text) (read_steps text) → length (steps_of text) ≤ most_steps
+    go : StepsBy (step_text_checks text) (read_steps text) → length (steps_of text) ≤ most_steps
     go (good h (n, e)) = omega (arith, steps-count text n e, (steps-found text n e).few)
     go (bad q f e) = absurd (failed_or_passed (step_text_checks text) q f p)
 
@@ -100,14 +100,18 @@ OwnNever checks = (c : Case) (lent : List ℕ) (n k : ℕ) → Valid c → Never
 
 never_given : (text : List ℕ) (checks : Case → List Check) → OwnNever checks → (lent : List ℕ) (n k : ℕ) → Never n k
     → FirstFails (estimator_checks text checks lent) n k → ⊥
-never_given text checks own lent n k h f = go (first_in (case_checks text) after n k f)
+never_given text checks own lent n k h f = go (first_in (case_checks text) (after (read_case text)) n k f)
   where
-    after : List Check
-    after = checks (read_case text).case ++ room_for_set lent
+    after : Result Case Refusal → List Check
+    after r = checks_of r checks ++ room_for_set lent
 
-    go : FirstFails (case_checks text) n k ⊎ (Passed (case_checks text) × FirstFails after n k) → ⊥
+    of-case : (r : Result Case Refusal) → IsOkAnd r Valid → FirstFails (after r) n k → ⊥
+    of-case (Ok c) v g = own c lent n k v h g
+    of-case (Err q) v g = v
+
+    go : FirstFails (case_checks text) n k ⊎ (Passed (case_checks text) × FirstFails (after (read_case text)) n k) → ⊥
     go (inl g) = omega (arith, first-turn 1 (case_checks text) n k (case-turn text) g, never_turn h)
-    go (inr g) = own (read_case text).case lent n k (case-valid text g.0) h g.1
+    go (inr g) = of-case (read_case text) (case-valid text g.0) g.1
 
 -- by the table, it is given only where its check is the first that fails
 no-five_or_twelve : (call : Call) → AllByTable call

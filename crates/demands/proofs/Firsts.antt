@@ -1,5 +1,6 @@
 -- The first check that fails: it is one, it is the refusal that a promise names, and a reply that follows it is by the table.
-use mathlib.Core.Path.{◌≡◌, sym, ◌∙◌, subst}
+use Rattle.std.specs.Prelude.{Result, Ok, Err}
+use mathlib.Core.Path.{◌≡◌, refl, sym, ◌∙◌, subst}
 use mathlib.Core.List.{List, [], ◌∷◌, ◌++◌}
 use mathlib.Core.Logic.{◌⊎◌, inl, inr}
 use Prim.Native.Nat.{ℕ}
@@ -61,28 +62,27 @@ met checks Refused order kept (inr (n, p, f, h, one)) = record {
 
 -- ---- a call whose reply is an answer or a refusal
 
--- a refusal's promise is that the first check that fails gives it, and that what is lent stays; any other reply's, that all pass
-pub reply-meets : {R M : Type 0} {before after : M} (P : R → Type 0) (checks : List Check) (refused : Refusal → R) → InTableOrder checks
-    → ((q : Refusal) → P (refused q) → Failed checks q × (after ≡ before))
-    → ((r : R) → P r → Passed checks ⊎ ((q : Refusal) × (r ≡ refused q)))
-    → (r : R) → P r → ByTable checks (Refuses refused r) before after
-reply-meets {before = before} {after = after} P checks refused order fails cases r h =
-    met checks (Refuses refused r) order (λ n p k. (first n p k).1) (go (cases r h))
+-- a refusal's promise is that the first check that fails gives it, and that what is lent stays; an answer's, that all pass
+pub reply-meets : {A M : Type 0} {before after : M} (P : Result A Refusal → Type 0) (checks : List Check) → InTableOrder checks
+    → ((q : Refusal) → P (Err q) → Failed checks q × (after ≡ before)) → ((x : A) → P (Ok x) → Passed checks)
+    → (r : Result A Refusal) → P r → ByTable checks (Refuses Err r) before after
+reply-meets {A = A} {before = before} {after = after} P checks order fails passes r h =
+    met checks (Refuses Err r) order (λ n p k. (first r h n p k).1) (ends r h)
   where
-    first : (n p : ℕ) → Refuses refused r n p → FirstFails checks n p × (after ≡ before)
-    first n p (q, e, i) =
+    first : (r : Result A Refusal) → P r → (n p : ℕ) → Refuses Err r n p → FirstFails checks n p × (after ≡ before)
+    first r h n p (q, e, i) =
         let f = fails q (subst P e h) in (
           subst (λ (y : ℕ). FirstFails checks n y) i.placed
               (subst (λ (x : ℕ). FirstFails checks x (place_of q)) i.numbered (failed-first checks q f.0)),
           f.1,
         )
 
-    go : Passed checks ⊎ ((q : Refusal) × (r ≡ refused q)) → Ends checks (Refuses refused r)
-    go (inl a) = inl (a, λ n p k. first_or_passed checks n p (first n p k).0 a)
-    go (inr (q, e)) =
-        let k : Refuses refused r (number_of q) (place_of q) = (q, e, itself q) in
-        let f = (first (number_of q) (place_of q) k).0 in
-        inr (number_of q, place_of q, f, k, λ m o j. first-unique checks (number_of q) (place_of q) m o f (first m o j).0)
+    ends : (r : Result A Refusal) → P r → Ends checks (Refuses Err r)
+    ends (Ok x) h = let a = passes x h in inl (a, λ n p k. first_or_passed checks n p (first (Ok x) h n p k).0 a)
+    ends (Err q) h =
+        let k : Refuses {R = Result A Refusal} Err (Err q) (number_of q) (place_of q) = (q, refl, itself q) in
+        let f = (first (Err q) h (number_of q) (place_of q) k).0 in
+        inr (number_of q, place_of q, f, k, λ m o j. first-unique checks (number_of q) (place_of q) m o f (first (Err q) h m o j).0)
 
 -- ---- one list of checks after another
 

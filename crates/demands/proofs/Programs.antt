@@ -1,4 +1,6 @@
 -- What each program prints: the contract is the claim itself, and no text that is asked for is longer than the bytes lent.
+use Rattle.refusals.specs.declared.Refusal.{Refusal}
+use Rattle.std.specs.Prelude.{Result, Ok, Err}
 use mathlib.Core.Path.{refl}
 use mathlib.Core.List.{List}
 use Prim.Native.Nat.{ℕ, ◌≤◌}
@@ -7,8 +9,6 @@ use lib.ListN.{length}
 use Rattle.report_plan.specs.Plan.{plan_room}
 use Rattle.report_day.specs.Day.{day_room}
 use Rattle.report_rounds.specs.Rounds.{rounds_room}
-use Rattle.refusals.specs.declared.Written.{Written}
-use Rattle.refusals.specs.declared.Written.TheVariants.{Bytes, Refused}
 use Rattle.report_lines.specs.Printing.{PrintedReply}
 use Rattle.report_day.proofs.Days.{day-fits}
 use Rattle.report_plan.proofs.Lengths.{plan_fits}
@@ -19,10 +19,10 @@ use Rattle.report_rounds.proofs.program_report.Met as met-rounds
 use Rattle.demands.specs.Programs.{Prints, Programs}
 
 -- where every text that P asks for has at most `most` bytes, and no fewer are lent
-has_room_lem : (P : List ℕ → Type 0) (most : ℕ) → ((t : List ℕ) → P t → length t ≤ most) → (lent left : List ℕ) (r : Written)
+has_room_lem : (P : List ℕ → Type 0) (most : ℕ) → ((t : List ℕ) → P t → length t ≤ most) → (lent left : List ℕ) (r : Result ℕ Refusal)
     → most ≤ length lent → PrintedReply P lent left r → Prints r
-has_room_lem P most fits lent left (Bytes k) l p = (k, refl)
-has_room_lem P most fits lent left (Refused q) l p = absurd (omega (arith, p.more, fits p.text p.asked, l))
+has_room_lem P most fits lent left (Ok k) l p = (k, refl)
+has_room_lem P most fits lent left (Err q) l p = absurd (omega (arith, p.more, fits p.text p.asked, l))
 
 pub programs : {M : Type 1} → Programs M
 programs = record {

@@ -1,4 +1,6 @@
 -- Request 2, over the promises of the two engines: their answers are of one grid, whose rounds end at its observed set.
+use Rattle.refusals.specs.declared.Refusal.{Refusal}
+use Rattle.std.specs.Prelude.{Result, Ok, Err}
 use mathlib.Core.Path.{◌≡◌, refl, ap, ◌∙◌}
 use mathlib.Core.List.{List, [], ◌∷◌}
 use Prim.Native.Nat.{ℕ, ◌+◌, ◌*◌, ◌≤◌}
@@ -16,11 +18,9 @@ use Rattle.rules.proofs.Rounds.{round-size, rounds-add, rounds-least, rounds-few
 use Rattle.grid.specs.declared.Case.{Case}
 use Rattle.grid.specs.Cases.{grid_of, Valid}
 use Rattle.refusals.proofs.Orders.{failed_or_passed}
-use Rattle.observe_calls.specs.declared.Observed.TheVariants as observed
 use Rattle.observe_calls.specs.Replies.{ObservedReply}
-use Rattle.round_calls.specs.declared.RoundsAnswer.{RoundsAnswer}
-use Rattle.round_calls.specs.declared.RoundsAnswer.TheVariants.{Listed, Refused}
 use Rattle.round_calls.specs.Replies.{round_numbers, rounds_checks, RoundsFit, RoundsReply}
+use Rattle.round_calls.specs.declared.Listed.{Listed}
 use Rattle.demands.specs.Request2.{BothEngines, Request2}
 
 -- a number for each round, and one for each bus that the rounds add
@@ -46,19 +46,19 @@ numbers_fit c room v l rounds p =
       size-empty,
     )
 
-answers : (c : Case) (entry exit : List ℕ) (r : RoundsAnswer) → Valid c → 2 * c.n ≤ length entry → RoundsReply c entry exit r
-    → (numbers : ℕ) × (count : ℕ) × (r ≡ Listed numbers count)
-answers c entry exit (Listed k m) v l p = (k, m, refl)
-answers c entry exit (Refused q) v l p = absurd (failed_or_passed (rounds_checks c entry) q p.0 (v, (numbers_fit c entry v l, tt)))
+answers : (c : Case) (entry exit : List ℕ) (r : Result Listed Refusal) → Valid c → 2 * c.n ≤ length entry → RoundsReply c entry exit r
+    → (l : Listed) × (r ≡ Ok l)
+answers c entry exit (Ok m) v l p = (m, refl)
+answers c entry exit (Err q) v l p = absurd (failed_or_passed (rounds_checks c entry) q p.0 (v, (numbers_fit c entry v l, tt)))
 
-engines : (c : Case) (set : SetWord) (entry exit : List ℕ) (numbers count : ℕ) → ObservedReply c (observed.Set set)
-    → RoundsReply c entry exit (Listed numbers count) → BothEngines c set exit numbers count
-engines c set entry exit k m p q = record {
+engines : (c : Case) (set : SetWord) (entry exit : List ℕ) (l : Listed) → ObservedReply c (Ok set)
+    → RoundsReply c entry exit (Ok l) → BothEngines c set exit l
+engines c set entry exit l p q = record {
   rounds = rounds;
   are = q.1.are;
   written =
       ap (λ (i : ℕ). take i exit) q.1.long ∙ ap (take (length (round_numbers rounds))) q.1.written
-      ∙ take-append_seam (round_numbers rounds) (drop k entry);
+      ∙ take-append_seam (round_numbers rounds) (drop l.numbers entry);
   many = q.1.many;
   add = rounds-add (grid_of c) empty rounds q.1.are;
   last = least-unique (grid_of c) (after_rounds empty rounds) (set_of set) (rounds-least (grid_of c) rounds q.1.are) p.1;

@@ -6,20 +6,17 @@ use lib.ListN.{length, drop}
 use Rattle.busset.specs.Sets.{empty}
 use Rattle.rules.proofs.Rounds.{rounds-unique}
 use Rattle.grid.specs.Cases.{grid_of}
-use Rattle.refusals.proofs.Orders.{failed-unique, failed_or_passed}
-use Rattle.round_calls.specs.declared.RoundsAnswer.TheVariants.{Listed, Refused}
-use Rattle.round_calls.specs.Replies.{round_numbers, rounds_checks, observed_rounds_call}
+use Rattle.round_calls.specs.Replies.{round_numbers, rounds_checks, RoundsReply, observed_rounds_call}
 use Rattle.demands.specs.Determined.{OneReply}
+use Rattle.demands.proofs.Uniqueness.{one-reply}
 
 pub observed-rounds : OneReply observed_rounds_call
-observed-rounds c entry (Listed j m) (Listed k n) left right p q =
+observed-rounds c entry =
+    one-reply (λ exit r. RoundsReply c entry exit r) (rounds_checks c entry) entry (λ r exit p. p) (λ l exit p. p.0)
+    (λ l m left right p q.
     let same = rounds-unique (grid_of c) empty p.1.rounds q.1.rounds p.1.are q.1.are in
-    let numbers : j ≡ k = p.1.long ∙ ap (λ (rs : List (List ℕ)). length (round_numbers rs)) same ∙ sym q.1.long in
-    let count : m ≡ n = p.1.many ∙ ap length same ∙ sym q.1.many in (
-      ap₂ Listed numbers count,
+    let numbers : l.numbers ≡ m.numbers = p.1.long ∙ ap (λ (rs : List (List ℕ)). length (round_numbers rs)) same ∙ sym q.1.long in
+    let count : l.rounds ≡ m.rounds = p.1.many ∙ ap length same ∙ sym q.1.many in (
+      λ i. record { numbers = numbers i; rounds = count i },
       p.1.written ∙ ap₂ (λ (rs : List (List ℕ)) (i : ℕ). round_numbers rs ++ drop i entry) same numbers ∙ sym q.1.written,
-    )
-observed-rounds c entry (Listed j m) (Refused r) left right p q = absurd (failed_or_passed (rounds_checks c entry) r q.0 p.0)
-observed-rounds c entry (Refused r) (Listed k n) left right p q = absurd (failed_or_passed (rounds_checks c entry) r p.0 q.0)
-observed-rounds c entry (Refused r) (Refused k) left right p q =
-    (ap Refused (failed-unique (rounds_checks c entry) r k p.0 q.0), p.1 ∙ sym q.1)
+    ))

@@ -1,4 +1,5 @@
 -- The checks of texts are in document 01's order.
+use Rattle.std.specs.Prelude.{IsSome}
 use mathlib.Core.Path.{◌≡◌, refl, sym, ◌∙◌}
 use mathlib.Core.Bool.{true}
 use mathlib.Core.List.{List, [], ◌∷◌}
@@ -17,14 +18,15 @@ use Rattle.step_line.specs.declared.StepLine.{StepLine}
 use Rattle.step_line.specs.declared.StepLine.TheVariants as line
 use Rattle.case_judge.specs.Judging.{in_order}
 use Rattle.grid.specs.Limits.{most_bytes, most_step_bytes}
-use Rattle.case_read.specs.Reading.{Reader, start, next_reader}
+use Rattle.case_read.specs.Reading.{start, next_reader}
+use Rattle.case_read.specs.declared.Reader.{Reader}
 use Rattle.demands.specs.Order.{turn_of12, turn, Precedes, InTableOrder}
 use Rattle.demands.proofs.Turns.{in_table, Ahead, ahead_most, ahead_first, TurnsBy, ComesAfter, later-follows}
 use Rattle.case_read.specs.Checks.{NothingFollows, after_record, line_checks, case_checks}
 use Rattle.step_text.specs.Checks.{HasTurn, after_step, step_line_checks, step_text_checks}
 use Rattle.step_replay.specs.Replying.{with_fifty}
 use Rattle.plan_input.specs.Asking.{budget_of}
-use Rattle.demands.specs.Printed.{IsNumber, plan_line_checks, input_checks}
+use Rattle.demands.specs.Printed.{plan_line_checks, input_checks}
 
 -- ---- the lines of a case text
 
@@ -84,7 +86,7 @@ input_ordered input = go (split line_feed input).first (split line_feed input).r
   where
     go : (l : List ℕ) (ms : List (List ℕ)) → InTableOrder (check_that (length input ≤ most_bytes) 1 0 ∷ plan_line_checks l ms)
     go l [] = (refl, inl (lit< tt), refl)
-    go l (m ∷ ms) = (refl, inl (lit< tt), lines_ordered start 2 m ms (check_that (IsNumber (budget_of l)) 2 1) (inr (refl, lit< tt)))
+    go l (m ∷ ms) = (refl, inl (lit< tt), lines_ordered start 2 m ms (check_that (IsSome (budget_of l)) 2 1) (inr (refl, lit< tt)))
 
 pub input-turn : (input : List ℕ) → TurnsBy line_turn (input_checks input)
 input-turn input = go (split line_feed input).first (split line_feed input).rest

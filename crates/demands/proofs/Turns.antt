@@ -1,11 +1,12 @@
 -- One list of checks after another in document 01's order; the checks of a list of steps are in it.
+use Rattle.std.proofs.lemmas.Bool.{eqb-true}
 use mathlib.Core.Path.{◌≡◌, refl, sym, ◌∙◌, subst, subst⁻¹}
 use mathlib.Core.Bool.{Bool, true, false, cond, ◌||◌}
 use mathlib.Core.List.{List, [], ◌∷◌, ◌++◌, append-nil}
 use mathlib.Core.Logic.{◌⊎◌, inl, inr}
 use Prim.Native.Nat.{ℕ, suc, ◌≤◌, ◌<◌}
 use native.Mathlib.Omega.{arith}
-use lib.Dec.{T, lit<, lit≤, eqb, eqb→eq}
+use lib.Dec.{lit<, lit≤, eqb}
 use lib.ListN.{length}
 use Rattle.step.specs.declared.Step.{Step}
 use Rattle.busset.specs.Sets.{Out, empty, add}
@@ -37,7 +38,7 @@ pub in_table : (q : Check) → turn q ≤ 9 → InTable q
 in_table q = go (eqb q.number 12) refl
   where
     go : (b : Bool) → eqb q.number 12 ≡ b → cond b (turn_of12 q.place) (group_of order q.number) ≤ 9 → InTable q
-    go true e h = subst⁻¹ (λ (n : ℕ). is_in order n ≡ true) (eqb→eq q.number 12 (subst⁻¹ T e tt)) refl
+    go true e h = subst⁻¹ (λ (n : ℕ). is_in order n ≡ true) (eqb-true q.number 12 e) refl
     go false e h = group_in order q.number (omega (arith, h))
 
 -- ---- one after another

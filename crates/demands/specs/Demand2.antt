@@ -1,7 +1,7 @@
 -- Demand 2: For a valid case the observed set is the least one closed under the two published rules, and a list of steps is accepted
 -- exactly when each step is allowed where it stands. The fewest-unit answer is the first smallest placement that covers; for a valid case,
 -- a budget of at most 8 is refused as too small exactly when none within it does. Case texts read and written are inverse.
-use Rattle.std.specs.Prelude.{◌≡◌, Bool, List, ℕ, ◌≤◌, length, take}
+use Rattle.std.specs.Prelude.{◌≡◌, List, ℕ, ◌≤◌, length, take, Result, Ok, Err}
 use Rattle.busset.specs.Sets.{size, set_of}
 use Rattle.busset.specs.Held.{SetWord}
 use Rattle.step.specs.declared.Step.{Step}
@@ -17,45 +17,38 @@ use Rattle.refusals.specs.Refusals.{Is}
 use Rattle.refusals.specs.Calls.{Refuses}
 use Rattle.list_follow.specs.Replies.{ReplayReply}
 use Rattle.list_follow.specs.declared.Replayed.{Replayed}
-use Rattle.list_follow.specs.declared.Replayed.TheVariants as replayed
-use Rattle.case_read.specs.Reading.{got}
-use Rattle.refusals.specs.declared.Written.TheVariants as written
-use Rattle.observe_calls.specs.declared.Observed.{Observed}
-use Rattle.observe_calls.specs.declared.Observed.TheVariants as observed
-use Rattle.place_calls.specs.declared.Fewest.{Fewest}
-use Rattle.place_calls.specs.declared.Fewest.TheVariants as fewest
 use Rattle.observe_calls.specs.Replies.{ObservedReply}
 use Rattle.place_calls.specs.Replies.{FewestReply}
 use Rattle.text_calls.specs.Replies.{CaseReadReply, CaseWrittenReply}
 
 -- replay's reply accepts the list exactly when each step is allowed where it stands
-pub record AcceptedExactly (g : Grid) (xs : List Step) (reply : Replayed) : Type 0 where
-  pub taken : (set : SetWord) (finished : Bool) → reply ≡ replayed.Reached set finished → Accepted g xs
-  pub reaches : Accepted g xs → (set : SetWord) × (finished : Bool) × (reply ≡ replayed.Reached set finished)
+pub record AcceptedExactly (g : Grid) (xs : List Step) (reply : Result Replayed Refusal) : Type 0 where
+  pub taken : (r : Replayed) → reply ≡ Ok r → Accepted g xs
+  pub reaches : Accepted g xs → (r : Replayed) × (reply ≡ Ok r)
 
 -- the reply is refusal 11, and no other, exactly when no placement within the budget covers
-pub record TooSmallExactly (g : Grid) (budget : ℕ) (reply : Fewest) : Type 0 where
-  pub due : (placing.SomeAddition g budget → ⊥) → Refuses fewest.Refused reply 11 0
-  pub given : (q : Refusal) → reply ≡ fewest.Refused q → Is 11 0 q × (placing.SomeAddition g budget → ⊥)
+pub record TooSmallExactly (g : Grid) (budget : ℕ) (reply : Result SetWord Refusal) : Type 0 where
+  pub due : (placing.SomeAddition g budget → ⊥) → Refuses Err reply 11 0
+  pub given : (q : Refusal) → reply ≡ Err q → Is 11 0 q × (placing.SomeAddition g budget → ⊥)
 
 pub record Demand2 : Type 0 where
   -- for a valid case the observed set is the least one closed under the two published rules
-  pub observed : (c : Case) (r : Observed) → Valid c → ObservedReply c r
-      → (set : SetWord) × (r ≡ observed.Set set) × ObservedSet (grid_of c) (set_of set)
+  pub observed : (c : Case) (r : Result SetWord Refusal) → Valid c → ObservedReply c r
+      → (set : SetWord) × (r ≡ Ok set) × ObservedSet (grid_of c) (set_of set)
   -- and a list of steps is accepted exactly when each step is allowed where it stands
-  pub accepted : (c : Case) (xs : List Step) (r : Replayed) → Valid c → ReplayReply c xs r → AcceptedExactly (grid_of c) xs r
+  pub accepted : (c : Case) (xs : List Step) (r : Result Replayed Refusal) → Valid c → ReplayReply c xs r → AcceptedExactly (grid_of c) xs r
   -- a finished list has as many steps as the observed set has buses
   pub finished_length : (g : Grid) (xs : List Step) (set : ℕ) → Accepted g xs → Finished g (reached xs) → ObservedSet g set
       → length xs ≡ size set
   -- the fewest-unit answer is the first smallest placement that covers
-  pub fewest : (c : Case) (budget : ℕ) (sites : SetWord) → FewestReply c budget (fewest.Sites sites)
+  pub fewest : (c : Case) (budget : ℕ) (sites : SetWord) → FewestReply c budget (Ok sites)
       → placing.FewestSites (grid_of c) budget (set_of sites)
   -- for a valid case, a budget of at most 8 is refused as too small exactly when none within it does
-  pub too_small : (c : Case) (budget : ℕ) (r : Fewest) → Valid c → budget ≤ most_budget c.n → FewestReply c budget r
+  pub too_small : (c : Case) (budget : ℕ) (r : Result SetWord Refusal) → Valid c → budget ≤ most_budget c.n → FewestReply c budget r
       → TooSmallExactly (grid_of c) budget r
   -- case texts read and written are inverse: what is written is read back
-  pub read_back : (c : Case) (lent left : List ℕ) (count : ℕ) → Sized c → CaseWrittenReply c lent (written.Bytes count) left
-      → CaseReadReply (take count left) (got c)
+  pub read_back : (c : Case) (lent left : List ℕ) (count : ℕ) → Sized c → CaseWrittenReply c lent (Ok count) left
+      → CaseReadReply (take count left) (Ok c)
   -- and what is read is written back
-  pub written_back : (c : Case) (text lent left : List ℕ) (count : ℕ) → CaseReadReply text (got c)
-      → CaseWrittenReply c lent (written.Bytes count) left → take count left ≡ text
+  pub written_back : (c : Case) (text lent left : List ℕ) (count : ℕ) → CaseReadReply text (Ok c)
+      → CaseWrittenReply c lent (Ok count) left → take count left ≡ text

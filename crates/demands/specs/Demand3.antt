@@ -2,7 +2,8 @@
 -- desk's order, at most 1,024 steps in all, with room for the result. Weaving, which passes over buses already observed, never refuses,
 -- writes a list that is itself accepted, and ends with exactly the buses at least one desk observed. If any desk had finished, that is
 -- demand 2's set, reached with one step per observed bus.
-use Rattle.std.specs.Prelude.{◌≡◌, List, ℕ, ◌≤◌, length}
+use Rattle.refusals.specs.declared.Refusal.{Refusal}
+use Rattle.std.specs.Prelude.{◌≡◌, List, ℕ, ◌≤◌, length, Result, Ok}
 use Rattle.busset.specs.Sets.{In, size, set_of}
 use Rattle.busset.specs.Held.{SetWord}
 use Rattle.step.specs.Records.{written_into}
@@ -16,7 +17,6 @@ use Rattle.grid.specs.Limits.{most_steps}
 use Rattle.grid.specs.Cases.{grid_of, Valid}
 use Rattle.list_follow.specs.Replies.{WeaveReply}
 use Rattle.list_follow.specs.declared.Wove.{Wove}
-use Rattle.list_follow.specs.declared.Wove.TheVariants as wove
 
 -- what weaving receives, into records that hold `before`
 pub record Received (c : Case) (desks : List (List Step)) (received before : List Step) : Type 0 where
@@ -30,11 +30,11 @@ pub record Received (c : Case) (desks : List (List Step)) (received before : Lis
   pub room : length (woven received) ≤ length before
 
 -- what weaving answers, and the records that it leaves
-pub record Weaves (c : Case) (desks : List (List Step)) (received before after : List Step) (r : Wove) : Type 0 where
+pub record Weaves (c : Case) (desks : List (List Step)) (received before after : List Step) (r : Result Wove Refusal) : Type 0 where
   -- it never refuses
   pub count : ℕ
   pub set : SetWord
-  pub answers : r ≡ wove.Written count set
+  pub answers : r ≡ Ok (record { count = count; set = set })
   -- it writes a list that is itself accepted, and leaves the rest of the records
   pub records : after ≡ written_into (woven received) before
   pub accepted : Accepted (grid_of c) (woven received)
@@ -50,5 +50,5 @@ pub record Weaves (c : Case) (desks : List (List Step)) (received before after :
   pub least : Some (λ xs. Finished (grid_of c) (reached xs)) desks → ObservedSet (grid_of c) (set_of set)
 
 pub record Demand3 : Type 0 where
-  pub weaves : (c : Case) (desks : List (List Step)) (received before after : List Step) (r : Wove)
+  pub weaves : (c : Case) (desks : List (List Step)) (received before after : List Step) (r : Result Wove Refusal)
       → Received c desks received before → WeaveReply c received before after r → Weaves c desks received before after r

@@ -1,5 +1,5 @@
 -- What document 01 says besides the demands, of the replies that the promises allow.
-use Rattle.std.specs.Prelude.{◌≡◌, List, ℕ, ◌-◌, ◌≤◌, ℤ, pos, length}
+use Rattle.std.specs.Prelude.{◌≡◌, List, ℕ, ◌-◌, ◌≤◌, ℤ, pos, length, Ok}
 use Rattle.basics.specs.Lists.{Each}
 use Rattle.busset.specs.Sets.{In, empty}
 use Rattle.busset.specs.Held.{SetWord}
@@ -10,11 +10,8 @@ use Rattle.rules.specs.Figures.{Runs}
 use Rattle.grid.specs.declared.Case.{Case}
 use Rattle.grid.specs.Limits.{most_buses, most_steps, most_bytes}
 use Rattle.grid.specs.Cases.{grid_of, Sized, Valid}
-use Rattle.case_read.specs.Reading.{got}
 use Rattle.case_line.specs.CaseText.{case_text}
 use Rattle.step_text.specs.Steps.{steps_of}
-use Rattle.step_text.specs.declared.StepsRead.TheVariants.{Steps}
-use Rattle.observe_calls.specs.declared.Figured.TheVariants as figured
 use Rattle.observe_calls.specs.Replies.{stated, FigureReply}
 use Rattle.text_calls.specs.Replies.{CaseReadReply, StepsCheckedReply}
 use Rattle.refusals.specs.Calls.{Call}
@@ -40,23 +37,23 @@ pub record Document01 : Type 0 where
   -- with no units the observed set is empty
   pub least-empty : (g : Grid) → g.units ≡ empty → ObservedSet g empty
   -- the firing figure runs from -62 to 1
-  pub figure_range : (c : Case) (s : SetWord) (i j : ℕ) (z : ℤ) → FigureReply c s i j (figured.Figure z) → Runs (most_buses - 2) z
+  pub figure_range : (c : Case) (s : SetWord) (i j : ℕ) (z : ℤ) → FigureReply c s i j (Ok z) → Runs (most_buses - 2) z
   -- it is 1 exactly when i and all its other neighbours are observed
-  pub figure_usable : (c : Case) (s : SetWord) (i j : ℕ) (z : ℤ) → FigureReply c s i j (figured.Figure z)
+  pub figure_usable : (c : Case) (s : SetWord) (i j : ℕ) (z : ℤ) → FigureReply c s i j (Ok z)
       → OneExactly (grid_of c) (stated c s) i j z
   -- two different texts never give the same case
-  pub one-text : (x y : List ℕ) (c : Case) → CaseReadReply x (got c) → CaseReadReply y (got c) → x ≡ y
+  pub one-text : (x y : List ℕ) (c : Case) → CaseReadReply x (Ok c) → CaseReadReply y (Ok c) → x ≡ y
   -- a case that is read is valid: 5 does not refuse it
-  pub read-valid : (text : List ℕ) (c : Case) → CaseReadReply text (got c) → Valid c
+  pub read-valid : (text : List ℕ) (c : Case) → CaseReadReply text (Ok c) → Valid c
   -- the text of a valid case is within the byte limit
   pub text-within : (c : Case) → Valid c → length (case_text c) ≤ most_bytes
   -- it is read as that case
-  pub written_then_read : (c : Case) → Sized c → Valid c → CaseReadReply (case_text c) (got c)
+  pub written_then_read : (c : Case) → Sized c → Valid c → CaseReadReply (case_text c) (Ok c)
   -- a text that is read as a case is the text of that case
-  pub read_then_written : (text : List ℕ) (c : Case) → CaseReadReply text (got c) → text ≡ case_text c
+  pub read_then_written : (text : List ℕ) (c : Case) → CaseReadReply text (Ok c) → text ≡ case_text c
   -- a step text that is found good has as many steps as is answered, at most 1,024, each with numbers 1 to 64
-  pub steps_counted : (text : List ℕ) (count : ℕ) → StepsCheckedReply text (Steps count) → length (steps_of text) ≡ count
-  pub steps_few : (text : List ℕ) (count : ℕ) → StepsCheckedReply text (Steps count) → count ≤ most_steps
-  pub steps_named : (text : List ℕ) (count : ℕ) → StepsCheckedReply text (Steps count) → Each (Names most_buses) (steps_of text)
+  pub steps_counted : (text : List ℕ) (count : ℕ) → StepsCheckedReply text (Ok count) → length (steps_of text) ≡ count
+  pub steps_few : (text : List ℕ) (count : ℕ) → StepsCheckedReply text (Ok count) → count ≤ most_steps
+  pub steps_named : (text : List ℕ) (count : ℕ) → StepsCheckedReply text (Ok count) → Each (Names most_buses) (steps_of text)
   -- no result of the state estimator's calls is 5, or 12 at place 0
   pub estimator : Each NoFiveOrTwelve estimator_calls

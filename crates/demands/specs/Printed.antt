@@ -1,8 +1,6 @@
 -- What the programs print, by document 01's table, and what the planning program's input is checked for.
-use Rattle.std.specs.Prelude.{List, [], ◌∷◌, ◌⊎◌, ℕ, ◌≤◌, length}
+use Rattle.std.specs.Prelude.{List, [], ◌∷◌, ◌⊎◌, ℕ, ◌≤◌, length, IsSome, Result, Ok, Err}
 use Rattle.text_field.specs.Split.{split, line_feed}
-use Rattle.text_field.specs.declared.Numeral.{Numeral}
-use Rattle.text_field.specs.declared.Numeral.TheVariants as numeral
 use Rattle.rules.specs.Placing.{FewestSites}
 use Rattle.grid.specs.declared.Case.{Case}
 use Rattle.grid.specs.Limits.{most_bytes}
@@ -13,7 +11,8 @@ use Rattle.case_read.specs.Reading.{start}
 use Rattle.case_read.specs.Checks.{line_checks}
 use Rattle.report_lines.specs.Printing.{IsRefusedText}
 use Rattle.plan_input.specs.Asking.{budget_of}
-use Rattle.report_plan.specs.Plan.{IsPlanText}
+use Rattle.plan_input.specs.declared.Asked.{Asked}
+use Rattle.report_plan.specs.Plan.{plan_checks, IsPlanText}
 use Rattle.demands.specs.Order.{InTableOrder}
 
 -- ---- what is printed
@@ -31,17 +30,17 @@ FewestPrinted c budget t = (sites : ℕ) × FewestSites (grid_of c) budget sites
 
 -- ---- the planning program's input
 
--- a budget
-abbrev pub IsNumber : Numeral → Type 0
-IsNumber (numeral.Is budget) = Unit {0}
-IsNumber numeral.Wrong = ⊥
-
--- the plan line, or 2 at line 1, and then the case text's lines, which count from 2
+-- the plan line, which says a budget, or 2 at line 1, and then the case text's lines, which count from 2
 abbrev pub plan_line_checks : List ℕ → List (List ℕ) → List Check
 plan_line_checks l [] = check_that ⊥ 2 1 ∷ []
-plan_line_checks l (m ∷ ms) = check_that (IsNumber (budget_of l)) 2 1 ∷ line_checks start 2 m ms
+plan_line_checks l (m ∷ ms) = check_that (IsSome (budget_of l)) 2 1 ∷ line_checks start 2 m ms
 
 -- 1 for the whole input, then the first bad line
 abbrev pub input_checks : List ℕ → List Check
 input_checks input = check_that (length input ≤ most_bytes) 1 0 ∷ plan_line_checks (split line_feed input).first
     (split line_feed input).rest
+
+-- then what is checked of the case and the budget; where the input is refused, none is asked
+abbrev pub asked_checks : Result Asked Refusal → List Check
+asked_checks (Ok a) = plan_checks a.case a.budget
+asked_checks (Err q) = []

@@ -1,9 +1,8 @@
 -- What each program prints: on every input its own report, which its bytes always have room for.
-use Rattle.std.specs.Prelude.{◌≡◌, List, ℕ, length}
+use Rattle.refusals.specs.declared.Refusal.{Refusal}
+use Rattle.std.specs.Prelude.{◌≡◌, List, ℕ, length, Result, Ok}
 use contract.Lifetimes.{Lfts}
 use Rattle.std.specs.Borrow.{Bor, MutBor}
-use Rattle.refusals.specs.declared.Written.{Written}
-use Rattle.refusals.specs.declared.Written.TheVariants.{Bytes}
 use Rattle.report_lines.specs.Printing.{Printed}
 use Rattle.report_day.specs.Day.{DayPrinted, day_room, day_report_call}
 use Rattle.report_plan.specs.Plan.{PlanPrinted, plan_room, plan_report_call}
@@ -16,8 +15,8 @@ use Rattle.report_rounds.proofs.program_report.Statement as rounds
 use Rattle.report_rounds.proofs.program_report.Reads as rounds-contract
 
 -- a reply that prints, and does not refuse
-abbrev pub Prints : Written → Type 0
-Prints r = (k : ℕ) × (r ≡ Bytes k)
+abbrev pub Prints : Result ℕ Refusal → Type 0
+Prints r = (k : ℕ) × (r ≡ Ok k)
 
 pub record Programs (M : Type 1) : Type 2 where
   -- the program's own code returns on every input, and meets its contract
@@ -36,7 +35,9 @@ pub record Programs (M : Type 1) : Type 2 where
       × ((k : ℕ) (left : MutBor (List ℕ)) → rounds-contract.Learnt κs (text, (out, tt)) k (text, (left, tt))
       → Printed (RoundsPrinted text.now) out.now left.now k)
   -- in so many bytes the report is never refused with 6
-  pub day-room : (text lent left : List ℕ) (r : Written) → length lent ≡ day_room → day_report_call.promise text lent left r → Prints r
-  pub plan-room : (input lent left : List ℕ) (r : Written) → length lent ≡ plan_room → plan_report_call.promise input lent left r → Prints r
-  pub rounds-room : (text lent left : List ℕ) (r : Written) → length lent ≡ rounds_room → rounds_report_call.promise text lent left r
+  pub day-room : (text lent left : List ℕ) (r : Result ℕ Refusal) → length lent ≡ day_room → day_report_call.promise text lent left r
       → Prints r
+  pub plan-room : (input lent left : List ℕ) (r : Result ℕ Refusal) → length lent ≡ plan_room → plan_report_call.promise input lent left r
+      → Prints r
+  pub rounds-room : (text lent left : List ℕ) (r : Result ℕ Refusal) → length lent ≡ rounds_room
+      → rounds_report_call.promise text lent left r → Prints r

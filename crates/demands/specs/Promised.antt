@@ -1,7 +1,8 @@
 -- Every call's own contract is its promise: it asks nothing of a caller, and what it tells of a reply is what the promise says.
 -- `Asked` is what a contract asks of its arguments, and `Learnt` what it tells of the arguments, the reply and the arguments at the end.
 -- `Keeps` says how the call's input, and what it is lent, are found in the arguments.
-use Rattle.std.specs.Prelude.{List, ℕ}
+use Rattle.refusals.specs.declared.Refusal.{Refusal}
+use Rattle.std.specs.Prelude.{List, ℕ, Result}
 use base.Logic.{ent, emp}
 use contract.Monad.{fact}
 use contract.Lifetimes.{Lfts}
@@ -16,7 +17,6 @@ use Rattle.list_follow.specs.Replies.{replay_call, weave_call}
 use Rattle.list_follow.specs.declared.Replayed.{Replayed}
 use Rattle.list_follow.specs.declared.Wove.{Wove}
 use Rattle.place_calls.specs.Replies.{cross_validate_call, place_greedy_call, place_fewest_call}
-use Rattle.step_text.specs.declared.StepsRead.{StepsRead}
 use Rattle.text_calls.specs.Replies.{read_case_call, write_case_call, check_steps_call}
 use Rattle.step_text.specs.Taking.{read_steps_call}
 use Rattle.step_replay.specs.Replying.{replay_text_call}
@@ -71,11 +71,11 @@ pub record EveryPromise : Type 2 where
   pub replay : (w : World) (κs : Lfts 1) (c : Case) (steps : Bor (List Step)) →
       let says = replay.clauses w.𝓛 w.𝓜.mem w.𝓡.run κs (c, (steps, tt)) in
       AsksNothing w (says.requires tt)
-      × ((r : Replayed) → Tells w (says.ensures tt r (c, (steps, tt))) (replay_call.promise (c, steps.now) tt tt r))
+      × ((r : Result Replayed Refusal) → Tells w (says.ensures tt r (c, (steps, tt))) (replay_call.promise (c, steps.now) tt tt r))
   pub weave : (w : World) (κs : Lfts 2) (c : Case) (steps : Bor (List Step)) (out : MutBor (List Step)) →
       let says = weave.clauses w.𝓛 w.𝓜.mem w.𝓡.run κs (c, (steps, (out, tt))) in
       AsksNothing w (says.requires tt)
-      × ((r : Wove) (left : MutBor (List Step)) → Tells w (says.ensures tt r (c, (steps, (left, tt))))
+      × ((r : Result Wove Refusal) (left : MutBor (List Step)) → Tells w (says.ensures tt r (c, (steps, (left, tt))))
       (weave_call.promise (c, steps.now) out.now left.now r))
   -- placing units
   pub cross_validate : Keeps cross_validate_call (λ (c, _). c) (λ a. tt) (cross_validate.Asked tt) (cross_validate.Learnt tt)
@@ -91,7 +91,7 @@ pub record EveryPromise : Type 2 where
   pub read-steps : (w : World) (κs : Lfts 2) (text : Bor (List ℕ)) (out : MutBor (List Step)) →
       let says = read-steps.clauses w.𝓛 w.𝓜.mem w.𝓡.run κs (text, (out, tt)) in
       AsksNothing w (says.requires tt)
-      × ((r : StepsRead) (left : MutBor (List Step)) → Tells w (says.ensures tt r (text, (left, tt)))
+      × ((r : Result ℕ Refusal) (left : MutBor (List Step)) → Tells w (says.ensures tt r (text, (left, tt)))
       (read_steps_call.promise text.now out.now left.now r))
   pub replay-text : (κs : Lfts 1) → Keeps replay_text_call (λ (c, (text, _)). (c, text.now)) (λ a. tt)
       (replay-text.Asked κs) (replay-text.Learnt κs)

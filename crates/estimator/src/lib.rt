@@ -10,6 +10,7 @@ mod answers;
 use estimator_reply::reply;
 
 // The observed set.
+#[tactic(auto, using(crate::proofs::Bounds::observed_placed))]
 pub fn wz_observed(text: &[u8], set: &mut [u8]) -> u32
     ensures { Answered (OfText text.now ObservedFor) set.old set.new result }
 {
@@ -17,6 +18,7 @@ pub fn wz_observed(text: &[u8], set: &mut [u8]) -> u32
 }
 
 // The units that no other unit confirms.
+#[tactic(auto, using(crate::proofs::Bounds::unconfirmed_placed))]
 pub fn wz_unconfirmed(text: &[u8], set: &mut [u8]) -> u32
     ensures { Answered (OfText text.now UnconfirmedFor) set.old set.new result }
 {
@@ -24,6 +26,7 @@ pub fn wz_unconfirmed(text: &[u8], set: &mut [u8]) -> u32
 }
 
 // The sites of the fewest new units within the budget.
+#[tactic(auto, using(crate::proofs::Bounds::fewest_placed))]
 pub fn wz_fewest(text: &[u8], budget: usize, set: &mut [u8]) -> u32
     ensures { Answered (OfText text.now (FewestFor budget)) set.old set.new result }
 {
@@ -31,6 +34,7 @@ pub fn wz_fewest(text: &[u8], budget: usize, set: &mut [u8]) -> u32
 }
 
 // The set that the step text reaches.
+#[tactic(auto, using(crate::proofs::Bounds::replay_placed))]
 pub fn wz_replay(text: &[u8], steps: &[u8], set: &mut [u8]) -> u32
     ensures { Answered (OfText text.now (ReplayFor steps.now))
         set.old set.new result }

@@ -4,26 +4,18 @@
 ghost use Rattle.std.specs.Prelude.{◌≡◌, ◌++◌, ◌≤◌, length, drop};
 ghost use Rattle.busset.specs.Bytes.{set_bytes, set_length};
 ghost use Rattle.refusals.specs.Refusals.{place_of};
-ghost use Rattle.estimator_reply.specs.Results.{farthest, PlaceInRange, code_of, result_of, set_in, Replied};
+ghost use Rattle.estimator_reply.specs.Results.{farthest, PlaceInRange, code_of, result_of, Replied};
 
 use busset::{BusSet, SET_BYTES};
-use refusals::Refusal;
-
-// A set, a refusal, or a refusal in reading the step text.
-#[derive(Clone, Copy)]
-pub enum Answer {
-    Set(BusSet),
-    Refused(Refusal),
-    Unread(Refusal),
-}
+use refusals::{Refusal, ReplayError};
 
 // 100 times the place plus the refusal number.
 fn code(q: Refusal) -> u32
     requires { place_of q ≤ farthest }
     ensures { result ≡ code_of q }
 {
-    let place = refusals::place(q) as u32;
-    let number = refusals::number(q);
+    let place = q.place() as u32;
+    let number = q.number();
     100 * place + number
 }
 
@@ -33,45 +25,31 @@ fn fill(s: BusSet, set: &mut [u8])
     ensures { set.new ≡ set_bytes s ++ drop set_length set.old }
 {
     for i in 0..SET_BYTES {
-        set[i] = busset::byte_of(s, i);
-    }
-}
-
-// The set that an answer has: none where it is a refusal.
-fn set_of(answer: Answer) -> BusSet
-    ensures { result ≡ set_in answer }
-{
-    match answer {
-        Answer::Set(s) => s,
-        Answer::Refused(_) => 0,
-        Answer::Unread(_) => 0,
+        set[i] = s.byte_of(i);
     }
 }
 
 // The number of an answer where so many bytes are lent.
-fn result(answer: Answer, room: usize) -> u32
-    requires { PlaceInRange answer }
-    ensures { result ≡ result_of answer room }
+fn result(answer: &Result<BusSet, ReplayError>, room: usize) -> u32
+    requires { PlaceInRange answer.now }
+    ensures { result ≡ result_of answer.now room }
 {
-    match answer {
-        Answer::Set(_) => {
-            if room < SET_BYTES {
-                return code(Refusal::NoRoom);
-            }
-            0
-        }
-        Answer::Refused(q) => code(q),
-        Answer::Unread(q) => code(q) + 50,
+    match *answer {
+        Ok(_) if room < SET_BYTES => code(Refusal::NoRoom),
+        Ok(_) => 0,
+        Err(ReplayError::List(q)) => code(q),
+        Err(ReplayError::Text(q)) => code(q) + 50,
     }
 }
 
-pub fn reply(answer: Answer, set: &mut [u8]) -> u32
+// The number of an answer, for so many bytes lent. Only if it is 0 are they filled.
+pub fn reply(answer: Result<BusSet, ReplayError>, set: &mut [u8]) -> u32
     requires { PlaceInRange answer }
     ensures { Replied answer set.old set.new result }
 {
-    let r = result(answer, set.len());
+    let r = result(&answer, set.len());
     if r == 0 {
-        fill(set_of(answer), set);
+        fill(answer.unwrap_or_default(), set);
     }
     r
 }

@@ -19,12 +19,6 @@ use Rattle.grid.proofs.Counting.{mirrored-alike, alike-mirrored}
 
 -- ---- one line
 
-pub line_test : {n : ℕ} {nbr : ℕ → ℕ} {a b m : ℕ} {r : Bool} → Bus n a → Bus n b → (a ≡ b → ⊥) → m ≡ nbr b → Decides (In m a) r
-    → Decides (Line n nbr a b) r
-line_test {n} {nbr} {a} {b} {m} from to differ e d =
-    decides-by (λ h. record { from = from; to = to; differ = differ; back = subst (λ (s : ℕ). In s a) e h })
-    (λ l. subst⁻¹ (λ (s : ℕ). In s a) e l.back) d
-
 -- ---- over the buses of a set: what is not left any more has been found to be P
 
 pub record Checked (P : ℕ → Type 0) (s left : ℕ) : Type 0 where

@@ -88,9 +88,3 @@ pub no-rows_length : length no_rows ≡ rows_length
 no-rows_length = length-replicate rows_length empty_word
 
 -- ---- a digit: whether b is in a set
-
-pub digit_in : (b : ℕ) {s t : ℕ} → s ≡ t → In s b → 1 ≡ bit t b
-digit_in b e h = sym h ∙ ap (λ (x : ℕ). bit x b) e
-
-pub digit-out : (b : ℕ) {s t : ℕ} → s ≡ t → (In s b → ⊥) → 0 ≡ bit t b
-digit-out b {s} e n = sym (out_of s b n) ∙ ap (λ (x : ℕ). bit x b) e

@@ -7,7 +7,7 @@ ghost use Rattle.busset.specs.Held.{word_of};
 ghost use Rattle.basics.specs.Deciding.{Decides};
 ghost use Rattle.busset.specs.Sets.{Bus, width, bit, set_of, add, less};
 ghost use Rattle.rules.specs.Placing.{Full};
-ghost use Rattle.grid.specs.Rows.{bus_sets, set_at, neighbours, circuits as circuitsOf};
+ghost use Rattle.grid.specs.Rows.{bus_sets, set_at, neighbours, circuits as circuits_of};
 ghost use Rattle.grid.specs.Rows.{with_set, with_row, with_bit, is_odd, with_circuits, with_end, with_line, no_rows};
 ghost use Rattle.grid.specs.Cases.{line_added};
 ghost use Rattle.grid.specs.Near.{WithNeighbours};
@@ -38,19 +38,11 @@ pub struct Case {
 }
 
 // Set i of bus b.
-pub fn set_at(nbr: &Rows, b: usize, i: usize) -> BusSet
+fn set_at(nbr: &Rows, b: usize, i: usize) -> BusSet
     requires { Bus width b × (i < bus_sets) }
     ensures { set_of result ≡ set_at nbr.now b i }
 {
     nbr[BUS_SETS * (b - 1) + i]
-}
-
-// The neighbours of bus b.
-pub fn row(nbr: &Rows, b: usize) -> BusSet
-    requires { Bus width b }
-    ensures { set_of result ≡ neighbours nbr.now b }
-{
-    set_at(nbr, b, 0)
 }
 
 // Whether b is in set i of bus a, as a digit.
@@ -58,19 +50,7 @@ fn digit(nbr: &Rows, a: usize, i: usize, b: usize) -> usize
     requires { Bus width a × (i < bus_sets) × Bus width b }
     ensures { result ≡ bit (set_at nbr.now a i) b }
 {
-    if busset::has(set_at(nbr, a, i), b) {
-        return 1;
-    }
-    0
-}
-
-// The circuits from a to b, as a counts them: 0 to 15.
-pub fn circuits(nbr: &Rows, a: usize, b: usize) -> usize
-    requires { Bus width a × Bus width b }
-    ensures { result ≡ circuitsOf nbr.now a b }
-{
-    let high = digit(nbr, a, 3, b) + 2 * digit(nbr, a, 4, b);
-    digit(nbr, a, 1, b) + 2 * (digit(nbr, a, 2, b) + 2 * high)
+    if set_at(nbr, a, i).has(b) { 1 } else { 0 }
 }
 
 // Puts set i of bus b.
@@ -95,9 +75,9 @@ fn with_if(t: bool, s: BusSet, b: usize) -> BusSet
     ensures { result ≡ word_of (cond t (add (set_of s) b) (less (set_of s) b)) }
 {
     if t {
-        return busset::with(s, b);
+        return s.with(b);
     }
-    busset::without(s, b)
+    s.without(b)
 }
 
 // Puts b into set i of bus a if t, and takes it out otherwise.
@@ -144,42 +124,57 @@ pub fn add_line(rows: &mut Rows, a: usize, b: usize, k: usize)
     add_end(rows, b, a, k);
 }
 
-// The case with a line of k circuits, at most 15, between a and b.
-pub fn with_line(case: Case, a: usize, b: usize, k: usize) -> Case
-    requires { Bus width a × Bus width b }
-    ensures { result ≡ line_added case a b k }
-{
-    let mut c = case;
-    add_line(&mut c.nbr, a, b, k);
-    c
-}
-
 // No line.
 pub fn no_rows() -> Rows
     ensures { result ≡ no_rows }
 {
-    let none = busset::none();
-    [none; ROWS_LENGTH]
+    [BusSet::none(); ROWS_LENGTH]
 }
 
-// These buses and their neighbours.
-pub fn with_neighbours(nbr: &Rows, buses: BusSet) -> BusSet
-    ensures { WithNeighbours (neighbours nbr.now) (set_of buses) (set_of result) }
-{
-    let mut near = busset::none();
-    let mut left = buses;
-    while !busset::is_none(left) {
-        let b = busset::lowest(left);
-        near = busset::union(near, row(nbr, b));
-        left = busset::without(left, b);
+impl Case {
+    // The neighbours of bus b.
+    pub fn neighbours(&self, b: usize) -> BusSet
+        requires { Bus width b }
+        ensures { set_of result ≡ neighbours self.now.nbr b }
+    {
+        set_at(&self.nbr, b, 0)
     }
-    busset::union(buses, near)
-}
 
-// Whether s has all n buses.
-pub fn is_full(n: usize, s: BusSet) -> bool
-    requires { n ≤ width }
-    ensures { Decides (Full n (set_of s)) result }
-{
-    busset::is_subset(busset::all(n), s)
+    // The circuits from a to b, as a counts them: 0 to 15.
+    pub fn circuits(&self, a: usize, b: usize) -> usize
+        requires { Bus width a × Bus width b }
+        ensures { result ≡ circuits_of self.now.nbr a b }
+    {
+        let high = digit(&self.nbr, a, 3, b) + 2 * digit(&self.nbr, a, 4, b);
+        digit(&self.nbr, a, 1, b) + 2 * (digit(&self.nbr, a, 2, b) + 2 * high)
+    }
+
+    // The case with a line of k circuits, at most 15, between a and b.
+    pub fn with_line(self, a: usize, b: usize, k: usize) -> Case
+        requires { Bus width a × Bus width b }
+        ensures { result ≡ line_added self a b k }
+    {
+        let mut c = self;
+        add_line(&mut c.nbr, a, b, k);
+        c
+    }
+
+    // These buses and their neighbours.
+    pub fn with_neighbours(&self, buses: BusSet) -> BusSet
+        ensures { WithNeighbours (neighbours self.now.nbr) (set_of buses) (set_of result) }
+    {
+        let mut near = BusSet::none();
+        for b in buses {
+            near = near.union(self.neighbours(b));
+        }
+        buses.union(near)
+    }
+
+    // Whether s has all n buses.
+    pub fn is_full(&self, s: BusSet) -> bool
+        requires { self.now.n ≤ width }
+        ensures { Decides (Full self.now.n (set_of s)) result }
+    {
+        BusSet::all(self.n).is_subset(s)
+    }
 }

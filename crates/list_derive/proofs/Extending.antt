@@ -10,56 +10,38 @@ use Rattle.busset.proofs.Digits.{bit-zero}
 use Rattle.busset.proofs.Members.{with-add, add-of}
 use Rattle.busset.proofs.Sizes.{size-add, size-empty, size-most}
 use Rattle.step.specs.declared.Step.{Step}
-use Rattle.rules.specs.Grids.{Grid, Proper}
+use Rattle.rules.specs.Grids.{Grid}
 use Rattle.rules.specs.Steps.{Finished}
 use Rattle.rules.specs.Derivation.{NextIs, DerivedFrom, finished, next, Derivation}
-use Rattle.rules.proofs.Reasons.{allowed-bus}
-use Rattle.list_value.specs.Lists.{list_of, pushed}
-use Rattle.list_derive.specs.Deriving.{Derives}
-use Rattle.list_value.specs.declared.StepList.{StepList}
-use Rattle.list_value.proofs.Listing.{pushed-list}
 
--- the list so far reaches s, and whatever derives the rest from there derives the whole
-pub record Extends (g : Grid) (s : ℕ) (l : StepList) : Type 0 where
-  pub sofar : List Step
-  pub is : l ≡ list_of sofar
-  pub count : length sofar ≡ size s
+-- the list xs so far reaches s, and whatever derives the rest from there derives the whole
+pub record Extends (g : Grid) (s : ℕ) (xs : List Step) : Type 0 where
+  pub count : length xs ≡ size s
   pub within : Within g.n s
-  pub whole : (ys : List Step) → DerivedFrom g s ys → Derivation g (sofar ++ ys)
+  pub whole : (ys : List Step) → DerivedFrom g s ys → Derivation g (xs ++ ys)
 
-pub extends-none : (g : Grid) {s : ℕ} {l : StepList} → s ≡ empty → l ≡ list_of [] → Extends g s l
-extends-none g {s} {l} e q = record {
-  sofar = [];
-  is = q;
+pub extends-none : (g : Grid) {s : ℕ} {xs : List Step} → s ≡ empty → xs ≡ [] → Extends g s xs
+extends-none g {s} {xs} e q = subst⁻¹ (Extends g s) q (record {
   count = sym (ap size e ∙ size-empty);
   within = λ b h. absurd (omega (arith, ap (λ (x : ℕ). bit x b) e, bit-zero b));
   whole = λ ys d. subst (λ (x : ℕ). DerivedFrom g x ys) e d;
-}
+})
 
 -- as many steps as buses, which are those of the grid
-pub extends-few : {g : Grid} {s : ℕ} {l : StepList} {x : Step} → Proper g → g.n ≤ most_buses → NextIs g s x → Extends g s l
-    → size s < most_buses
-extends-few {g} {s} {l} {x} v most n e =
-    omega (arith, size-add s x.bus n.allowed.new, size-most g.n (add s x.bus) (grown v n e))
-  where
-    grown : Proper g → NextIs g s x → Extends g s l → Within g.n (add s x.bus)
-    grown v n e = add-of {P = Bus g.n} s x.bus (allowed-bus v n.allowed) e.within
+pub extends-few : {g : Grid} {s : ℕ} {xs : List Step} {x : Step} → Bus g.n x.bus → g.n ≤ most_buses → NextIs g s x → Extends g s xs
+    → length xs < most_buses
+extends-few {g} {s} {xs} {x} bus most n e =
+    omega (arith, e.count, size-add s x.bus n.allowed.new, size-most g.n (add s x.bus) (add-of {P = Bus g.n} s x.bus bus e.within))
 
-pub extends-more : {g : Grid} {s : ℕ} {l : StepList} {x : Step} {m : StepList} {t : ℕ} → Proper g → g.n ≤ most_buses → NextIs g s x
-    → Extends g s l → m ≡ pushed l x → With s x.bus t → Extends g t m
-extends-more {g} {s} {l} {x} {m} {t} v most n e p w = record {
-  sofar = e.sofar ++ (x ∷ []);
-  is = pushed-list e.sofar x e.is (omega (arith, e.count, extends-few v most n e)) p;
-  count = length-append e.sofar (x ∷ []) ∙ omega (arith, e.count, size-add s x.bus n.allowed.new, ap size (with-add w));
-  within = subst⁻¹ (Within g.n) (with-add w) (add-of {P = Bus g.n} s x.bus (allowed-bus v n.allowed) e.within);
-  whole = λ ys d.
-      subst⁻¹ (Derivation g) (append_assoc e.sofar (x ∷ []) ys)
-      (e.whole (x ∷ ys) (next n (subst (λ (z : ℕ). DerivedFrom g z ys) (with-add w) d)));
-}
+pub extends-more : {g : Grid} {s : ℕ} {xs : List Step} {x : Step} {ys : List Step} {t : ℕ} → Bus g.n x.bus → NextIs g s x
+    → Extends g s xs → ys ≡ xs ++ (x ∷ []) → With s x.bus t → Extends g t ys
+extends-more {g} {s} {xs} {x} {ys} {t} bus n e p w = subst⁻¹ (Extends g t) p (record {
+  count = length-append xs (x ∷ []) ∙ omega (arith, e.count, size-add s x.bus n.allowed.new, ap size (with-add w));
+  within = subst⁻¹ (Within g.n) (with-add w) (add-of {P = Bus g.n} s x.bus bus e.within);
+  whole = λ zs d.
+      subst⁻¹ (Derivation g) (append_assoc xs (x ∷ []) zs)
+      (e.whole (x ∷ zs) (next n (subst (λ (z : ℕ). DerivedFrom g z zs) (with-add w) d)));
+})
 
-pub extends-all : {g : Grid} {s : ℕ} {l : StepList} → Extends g s l → Finished g s → Derives g l
-extends-all {g} e f = record {
-  steps = e.sofar;
-  derived = subst (Derivation g) (append-nil e.sofar) (e.whole [] (finished f));
-  is = e.is;
-}
+pub extends-all : {g : Grid} {s : ℕ} {xs : List Step} → Extends g s xs → Finished g s → Derivation g xs
+extends-all {g} {s} {xs} e f = subst (Derivation g) (append-nil xs) (e.whole [] (finished f))

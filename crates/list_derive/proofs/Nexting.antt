@@ -1,5 +1,6 @@
 -- The search for the next step: what the buses and reasons passed say, and which reason is taken first.
 -- No law here names a reason: each is about one that has a turn alone (`Alone`), or about those of a turn that name a bus (`Naming`).
+use Rattle.std.specs.Prelude.{Option, Some, None}
 use mathlib.Core.Path.{◌≡◌, sym, ◌∙◌, subst, subst⁻¹}
 use mathlib.Core.Logic.{inl, inr, ⊎_elim}
 use Prim.Native.Nat.{ℕ, suc, ◌+◌, ◌≤◌, ◌<◌}
@@ -9,8 +10,6 @@ use Rattle.busset.specs.Sets.{Bus}
 use Rattle.basics.proofs.Tests.{same_or, below_or}
 use Rattle.basics.proofs.Lacking.{Lacks}
 use Rattle.step.specs.declared.Reason.{Reason}
-use Rattle.step.specs.declared.NamedBus.{NamedBus}
-use Rattle.step.specs.declared.NamedBus.TheVariants.{Nothing, Bus as BusNamed}
 use Rattle.step.specs.declared.Step.{Step}
 use Rattle.step.specs.Reasons.{named_by, letters, turn_of}
 use Rattle.step.proofs.Reasons.{turn-most, Alone, Naming}
@@ -81,9 +80,9 @@ first_by r p own q h =
     ⊎_elim (λ (e : turn_of q ≡ turn_of r). inr (sym e, own q e h)) (λ (ne : turn_of q ≡ turn_of r → ⊥). inl (omega (arith, p.low q h)))
     (same_or (turn_of q) (turn_of r))
 
-names_same : (x : NamedBus) → NamesAtMost x x
-names_same Nothing = tt
-names_same (BusNamed p) = omega arith
+names_same : (x : Option ℕ) → NamesAtMost x x
+names_same None = tt
+names_same (Some p) = omega arith
 
 pub first_alone : {g : Grid} {s b : ℕ} {r : Reason} → Alone r → FailsBefore g s b (turn_of r) → (q : Reason) → Holds g s b q
     → TakenFirst r q

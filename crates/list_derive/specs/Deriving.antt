@@ -1,13 +1,8 @@
 -- The derivation as a list by value.
-use Rattle.std.specs.Prelude.{◌≡◌, List}
-use Rattle.step.specs.declared.Step.{Step}
 use Rattle.rules.specs.Grids.{Grid}
 use Rattle.rules.specs.Derivation.{Derivation}
-use Rattle.list_value.specs.Lists.{list_of}
-use Rattle.list_value.specs.declared.StepList.{StepList}
+use Rattle.list_value.specs.Lists.{StepList, listed_steps}
 
 -- r is the derivation of the grid
-pub record Derives (g : Grid) (r : StepList) : Type 0 where
-  pub steps : List Step
-  pub derived : Derivation g steps
-  pub is : r ≡ list_of steps
+abbrev pub Derives : Grid → StepList → Type 0
+Derives g r = Derivation g (listed_steps r)

@@ -1,16 +1,15 @@
 -- How a list that was followed ends: whether it is finished, and that replay and weaving answer what they promise.
+use Rattle.std.specs.Prelude.{Result, Ok, Err}
 use mathlib.Core.Path.{◌≡◌, refl, sym, ap, ◌∙◌, subst, subst⁻¹}
 use mathlib.Core.List.{List, [], ◌∷◌}
 use mathlib.Core.Logic.{inl}
 use mathlib.Core.Bool.{Bool, true, false, cond}
-use Prim.Native.Nat.{ℕ, ◌≤◌, ◌<◌}
+use Prim.Native.Nat.{ℕ, ◌≤◌}
 use native.Mathlib.Omega.{arith}
 use lib.Dec.{leb}
 use lib.ListN.{length}
-use lib.Seq.{take_all}
-use borrow.Author.Tests.{le-leb, lt-leb}
 use Rattle.basics.specs.Deciding.{Decides}
-use Rattle.busset.specs.Sets.{Sub, Counted, width, size, empty, set_of}
+use Rattle.busset.specs.Sets.{Sub, size, empty, set_of}
 use Rattle.basics.proofs.Tests.{decides-le, decides-by, decides-no, refutes}
 use Rattle.busset.proofs.Holding.{word_own}
 use Rattle.busset.proofs.Members.{sub_of, sub_antisym}
@@ -25,19 +24,15 @@ use Rattle.grid.specs.declared.Case.{Case}
 use Rattle.grid.specs.Cases.{grid_of}
 use Rattle.refusals.specs.declared.Refusal.{Refusal}
 use Rattle.refusals.specs.declared.Refusal.TheVariants.{NoRoom}
-use Rattle.refusals.specs.Refusals.{Check, check_that, Passed}
+use Rattle.refusals.specs.Refusals.{Check, check_that, Passed, CheckedBy}
 use Rattle.refusals.proofs.Orders.{itself, passed_then, failed_sooner, failed-later}
 use Rattle.grid.specs.Near.{WithNeighbours}
 use Rattle.observe.specs.Passes.{Swept}
-use Rattle.list_follow.specs.Following.{list_checks, StandingBy, Carries, StandsAfter}
-use Rattle.list_follow.specs.Replies.{replay_checks, WeaveReply, AnswersReplay, wove_at, count_written, CanPut, put_woven}
+use Rattle.list_follow.specs.Following.{list_checks, Carries, StandsAfter}
+use Rattle.list_follow.specs.Replies.{replay_checks, WeaveReply, AnswersReplay, wove_at, CanPut}
 use Rattle.list_follow.specs.declared.Task.TheVariants.{Weave}
-use Rattle.list_follow.specs.declared.Standing.{Standing}
-use Rattle.list_follow.specs.declared.Standing.TheVariants.{Good, Bad}
 use Rattle.list_follow.specs.declared.Following.{Following}
-use Rattle.list_follow.specs.declared.Replayed.TheVariants as replayed
 use Rattle.list_follow.specs.declared.Wove.{Wove}
-use Rattle.list_follow.specs.declared.Wove.TheVariants as wove
 use Rattle.list_follow.proofs.Joining.{each-bus, woven-reaches, woven-size}
 
 -- ---- finished is closed: it has what O1 gives, and a sweep of O2 changes nothing
@@ -62,31 +57,13 @@ finished_test {g} {s} {o} {r} st sub sw d =
 
 -- ---- replay
 
-pub ended-good : {c : Case} {st : Following} {f : Bool} → st.standing ≡ Good → Decides (Finished (grid_of c) (set_of st.set)) f
-    → AnswersReplay c st (replayed.Reached st.set f)
+pub ended-good : {c : Case} {st : Following} {f : Bool} → st.standing ≡ Ok tt → Decides (Finished (grid_of c) (set_of st.set)) f
+    → AnswersReplay c st (Ok (record { set = st.set; finished = f }))
 ended-good {c} {st} {f} e d xs s =
     let set = (s.carries e).set in
-    (subst (StandingBy (replay_checks c xs)) e s.standing, set, subst (λ (t : ℕ). Decides (Finished (grid_of c) t) f) set d, word_own _)
-
-pub ended-bad : {c : Case} {st : Following} {q : Refusal} → st.standing ≡ Bad q → AnswersReplay c st (replayed.Refused q)
-ended-bad {c} e xs s = subst (StandingBy (replay_checks c xs)) e s.standing
+    (subst (CheckedBy (replay_checks c xs)) e s.standing, set, subst (λ (t : ℕ). Decides (Finished (grid_of c) t) f) set d, word_own _)
 
 -- ---- weaving
-
-pub settled-fits : (st : Following) {room n : ℕ} → Counted width (set_of st.set) n → st.standing ≡ Good → n ≤ room
-    → wove.Written n st.set ≡ wove_at st room st.standing
-settled-fits st {room} {n} counted e l =
-    ap (λ (b : Bool). cond b (wove.Written n st.set) (wove.Refused NoRoom)) (sym (le-leb n room l))
-    ∙ ap (λ (k : ℕ). cond (leb k room) (wove.Written k st.set) (wove.Refused NoRoom)) counted.is ∙ ap (wove_at st room) (sym e)
-
-pub settled-full : (st : Following) {room n : ℕ} → Counted width (set_of st.set) n → st.standing ≡ Good → room < n
-    → wove.Refused NoRoom ≡ wove_at st room st.standing
-settled-full st {room} {n} counted e l =
-    ap (λ (b : Bool). cond b (wove.Written n st.set) (wove.Refused NoRoom)) (sym (lt-leb n room l))
-    ∙ ap (λ (k : ℕ). cond (leb k room) (wove.Written k st.set) (wove.Refused NoRoom)) counted.is ∙ ap (wove_at st room) (sym e)
-
-pub settled-bad : (st : Following) (room : ℕ) {q : Refusal} → st.standing ≡ Bad q → wove.Refused q ≡ wove_at st room st.standing
-settled-bad st room e = ap (wove_at st room) (sym e)
 
 module _ (c : Case) (st : Following) (xs before : List Step) where
   abbrev checks : List Check
@@ -103,49 +80,51 @@ module _ (c : Case) (st : Following) (xs before : List Step) where
   counts : Carries xs st → count ≡ length (woven xs)
   counts h = ap size h.set ∙ sym (woven-size xs)
 
-  -- as many steps as r says can be put, and where they are put, r is right
-  abbrev Right : Wove → Type 0
-  Right r = CanPut (count_written r) xs before
-      × ((after : List Step) → after ≡ put_woven (count_written r) xs before → WeaveReply c xs before after r)
+  -- what is answered, where it is w: its steps can be put, and where they are put, it is right
+  abbrev RightOf : Wove → Type 0
+  RightOf w = CanPut xs before
+      × ((after : List Step) → after ≡ written_into (woven xs) before → WeaveReply c xs before after (Ok w))
 
-  none : CanPut 0 xs before
-  none = record { buses = λ l. absurd (omega arith); some = omega arith; room = omega arith }
+  -- r is right; a refusal is where no record is written
+  abbrev Right : Result Wove Refusal → Type 0
+  Right (Ok w) = RightOf w
+  Right (Err q) = WeaveReply c xs before before (Err q)
 
-  fits : Passed checks → Carries xs st → count ≤ length before → Right (wove.Written count st.set)
+  fits : Passed checks → Carries xs st → count ≤ length before → RightOf (record { count = count; set = st.set })
   fits ok h l = (
-    record {
-      buses = λ p. each-bus Weave c 1 empty xs ok.0.buses.most ok.1.1;
-      some = omega (arith, counts h);
-      room = l;
-    },
+    record { buses = each-bus Weave c 1 empty xs ok.0.buses.most ok.1.1; room = omega (arith, l, counts h) },
     λ after put. (
       passed_then checks room ok (omega (arith, l, counts h), tt),
       counts h,
       h.set ∙ sym (woven-reaches xs),
-      put ∙ ap (λ (ys : List Step). written_into ys before) (take_all count (woven xs) (omega (arith, counts h))),
+      put,
       word_own _,
     ),
   )
 
-  full : Passed checks → Carries xs st → (count ≤ length before → ⊥) → Right (wove.Refused NoRoom)
-  full ok h f =
-      (none, λ after put. (failed-later checks room NoRoom ok (inl (λ l. f (omega (arith, counts h, l)), itself NoRoom)), put))
+  full : Passed checks → Carries xs st → (count ≤ length before → ⊥) → Right (Err NoRoom)
+  full ok h f = (failed-later checks room NoRoom ok (inl (λ l. f (omega (arith, counts h, l)), itself NoRoom)), refl)
 
-  right : (w : Standing) → StandingBy checks w → (w ≡ Good → Carries xs st) → Right (wove_at st (length before) w)
-  right Good ok h = go (leb count (length before)) (decides-le count (length before))
+  right : (w : Result (Unit {0}) Refusal) → CheckedBy checks w → (w ≡ Ok tt → Carries xs st) → Right (wove_at st (length before) w)
+  right (Ok u) ok h = go (leb count (length before)) (decides-le count (length before))
     where
-      go : (b : Bool) → Decides (count ≤ length before) b → Right (cond b (wove.Written count st.set) (wove.Refused NoRoom))
+      go : (b : Bool) → Decides (count ≤ length before) b
+          → Right (cond b (Ok (record { count = count; set = st.set })) (Err NoRoom))
       go true d = fits ok (h refl) (d.yes refl)
       go false d = full ok (h refl) (refutes d refl)
-  right (Bad q) f h = (none, λ after put. (failed_sooner checks room q f, put))
+  right (Err q) f h = (failed_sooner checks room q f, refl)
 
-  settles : {r : Wove} → StandsAfter c Weave (length xs) xs st → r ≡ wove_at st (length before) st.standing → Right r
+  settles : {r : Result Wove Refusal} → StandsAfter c Weave (length xs) xs st → r ≡ wove_at st (length before) st.standing → Right r
   settles s e = subst⁻¹ Right e (right st.standing s.standing s.carries)
 
-  pub can_put : {r : Wove} → StandsAfter c Weave (length xs) xs st → r ≡ wove_at st (length before) st.standing
-      → CanPut (count_written r) xs before
+  pub can_put : {w : Wove} → StandsAfter c Weave (length xs) xs st → Ok w ≡ wove_at st (length before) st.standing → CanPut xs before
   can_put s e = (settles s e).0
 
-  pub weave_law : {r : Wove} (after : List Step) → StandsAfter c Weave (length xs) xs st → r ≡ wove_at st (length before) st.standing
-      → after ≡ put_woven (count_written r) xs before → WeaveReply c xs before after r
+  pub weave_law : {w : Wove} (after : List Step) → StandsAfter c Weave (length xs) xs st
+      → Ok w ≡ wove_at st (length before) st.standing → after ≡ written_into (woven xs) before
+      → WeaveReply c xs before after (Ok w)
   weave_law after s e = (settles s e).1 after
+
+  pub weave_refused : {q : Refusal} → StandsAfter c Weave (length xs) xs st → Err q ≡ wove_at st (length before) st.standing
+      → WeaveReply c xs before before (Err q)
+  weave_refused s e = settles s e

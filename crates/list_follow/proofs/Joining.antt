@@ -1,4 +1,6 @@
 -- One list of steps after another: their checks, the set that they reach and what weaving writes of them.
+use Rattle.refusals.specs.declared.Refusal.{Refusal}
+use Rattle.std.specs.Prelude.{Result, Ok, Err}
 use mathlib.Core.Path.{◌≡◌, refl, sym, ap, ◌∙◌}
 use mathlib.Core.List.{List, [], ◌∷◌, ◌++◌, append_assoc}
 use Prim.Native.Nat.{ℕ, zero, suc, ◌+◌, ◌≤◌}
@@ -13,19 +15,17 @@ use Rattle.rules.specs.Steps.{Names, reached_from, reached}
 use Rattle.rules.specs.Weaving.{unless_seen, woven_from, woven}
 use Rattle.rules.proofs.Reasons.{names_more}
 use Rattle.grid.specs.declared.Case.{Case}
-use Rattle.refusals.specs.Refusals.{Check, Passed}
+use Rattle.refusals.specs.Refusals.{Check, Passed, CheckedBy}
 use Rattle.refusals.proofs.Orders.{passed_then, failed-later}
-use Rattle.list_follow.specs.Following.{checks_at, checks_from, begin_checks, list_checks, StandingBy}
+use Rattle.list_follow.specs.Following.{checks_at, checks_from, begin_checks, list_checks}
 use Rattle.list_follow.specs.declared.Task.{Task}
 use Rattle.list_follow.specs.declared.Task.TheVariants.{Replay, Weave}
-use Rattle.list_follow.specs.declared.Standing.{Standing}
-use Rattle.list_follow.specs.declared.Standing.TheVariants.{Good, Bad}
 
 -- ---- the checks
 
-pub standing_then : (ps qs : List Check) (w : Standing) → Passed ps → StandingBy qs w → StandingBy (ps ++ qs) w
-standing_then ps qs Good p h = passed_then ps qs p h
-standing_then ps qs (Bad q) p h = failed-later ps qs q p h
+pub standing_then : (ps qs : List Check) (w : Result (Unit {0}) Refusal) → Passed ps → CheckedBy qs w → CheckedBy (ps ++ qs) w
+standing_then ps qs (Ok tt) p h = passed_then ps qs p h
+standing_then ps qs (Err q) p h = failed-later ps qs q p h
 
 checks_append : (task : Task) (c : Case) (k s : ℕ) (xs ys : List Step)
     → checks_from task c k s (xs ++ ys) ≡ checks_from task c k s xs ++ checks_from task c (k + length xs) (reached_from s xs) ys

@@ -1,5 +1,5 @@
 -- Following a list: what is checked of it, and where it is after each of its steps.
-use Rattle.std.specs.Prelude.{◌≡◌, List, [], ◌∷◌, ◌++◌, cond, ℕ, suc, ◌≤◌, eqb, length}
+use Rattle.std.specs.Prelude.{◌≡◌, List, [], ◌∷◌, ◌++◌, ℕ, suc, ◌≤◌, length, Result, Ok, Err}
 use Rattle.busset.specs.Sets.{Out, empty, add, set_of}
 use Rattle.step.specs.declared.Step.{Step}
 use Rattle.rules.specs.Steps.{Holds, Names, reached}
@@ -7,12 +7,11 @@ use Rattle.grid.specs.declared.Case.{Case}
 use Rattle.grid.specs.Limits.{most_steps}
 use Rattle.grid.specs.Cases.{grid_of, Valid}
 use Rattle.refusals.specs.declared.Refusal.{Refusal}
-use Rattle.refusals.specs.Refusals.{number_of, Check, check_that, Passed, Failed}
+use Rattle.refusals.specs.declared.Refusal.TheVariants.{AlreadyObserved}
+use Rattle.refusals.specs.Refusals.{Check, check_that, CheckedBy}
 use Rattle.observe.specs.Testing.{step_checks_at}
 use Rattle.list_follow.specs.declared.Task.{Task}
 use Rattle.list_follow.specs.declared.Task.TheVariants.{Replay, Weave}
-use Rattle.list_follow.specs.declared.Standing.{Standing}
-use Rattle.list_follow.specs.declared.Standing.TheVariants.{Good, Bad}
 use Rattle.list_follow.specs.declared.Following.{Following}
 
 -- ---- what is checked
@@ -37,11 +36,6 @@ list_checks task c count xs = begin_checks c count ++ checks_from task c 1 empty
 
 -- ---- where a list is
 
--- good if every check passes; else bad, with the refusal of the first that fails
-abbrev pub StandingBy : List Check → Standing → Type 0
-StandingBy qs Good = Passed qs
-StandingBy qs (Bad q) = Failed qs q
-
 -- what st carries of the steps xs, if none was bad: the set that they reach and their number
 pub record Carries (xs : List Step) (st : Following) : Type 0 where
   pub set : set_of st.set ≡ reached xs
@@ -50,8 +44,8 @@ pub record Carries (xs : List Step) (st : Following) : Type 0 where
 -- st is where a list of `count` steps is after its steps xs
 pub record StandsAfter (c : Case) (task : Task) (count : ℕ) (xs : List Step) (st : Following) : Type 0 where
   pub is_task : st.task ≡ task
-  pub standing : StandingBy (list_checks task c count xs) st.standing
-  pub carries : st.standing ≡ Good → Carries xs st
+  pub standing : CheckedBy (list_checks task c count xs) st.standing
+  pub carries : st.standing ≡ Ok tt → Carries xs st
 
 -- the steps xs lead from st to r: if st is after the steps ys of a list, r is after xs too
 pub record Follows (c : Case) (st : Following) (xs : List Step) (r : Following) : Type 0 where
@@ -59,6 +53,6 @@ pub record Follows (c : Case) (st : Following) (xs : List Step) (r : Following) 
       → StandsAfter c task count (ys ++ xs) r
 
 -- where a step that the test refuses leaves a list: weaving passes over an observed bus
-abbrev pub after_refusal : Task → Refusal → Standing
-after_refusal Replay q = Bad q
-after_refusal Weave q = cond (eqb (number_of q) 8) Good (Bad q)
+abbrev pub after_refusal : Task → Refusal → Result (Unit {0}) Refusal
+after_refusal Weave (AlreadyObserved k) = Ok tt
+after_refusal task q = Err q

@@ -1,20 +1,19 @@
 // Following a desk's list step by step: where it begins, where it is after each step, and how it ends.
 #![tactic(auto)]
 
-ghost use Rattle.std.specs.Prelude.{◌≡◌, [], ◌∷◌, ℕ, suc, ◌<◌, length};
-ghost use Rattle.grid.specs.Limits.{most_steps};
-ghost use Rattle.grid.specs.Rows.{rows_length};
+ghost use Rattle.std.specs.Prelude.{◌≡◌, [], ◌∷◌};
 ghost use Rattle.basics.specs.Deciding.{Decides};
 ghost use Rattle.busset.specs.Sets.{set_of};
+ghost use Rattle.refusals.specs.Refusals.{CheckedBy};
 ghost use Rattle.rules.specs.Steps.{Finished};
-ghost use Rattle.grid.specs.Cases.{grid_with, case_of};
-ghost use Rattle.list_follow.specs.Following.{begin_checks, StandingBy, StandsAfter, Follows, after_refusal};
-ghost use Rattle.list_follow.specs.Replies.{AnswersReplay, wove_at, count_written};
+ghost use Rattle.grid.specs.Cases.{grid_of, Sized};
+ghost use Rattle.list_follow.specs.Following.{begin_checks, StandsAfter, Follows, after_refusal};
+ghost use Rattle.list_follow.specs.Replies.{AnswersReplay, wove_at};
 
 use busset::BusSet;
-use grid::Rows;
+use grid::Case;
 use grid::limits::{MOST_BUSES, MOST_STEPS};
-use observe::test::{Tested, tested_at};
+use observe::test::tested_at;
 use refusals::Refusal;
 use step::Step;
 
@@ -25,177 +24,118 @@ pub enum Task {
     Weave,
 }
 
-// Whether no step was bad, or why the first bad one is refused.
-#[derive(Clone, Copy)]
-pub enum Standing {
-    Good,
-    Bad(Refusal),
-}
-
-// The set reached, how many steps were read, and whether one of them was bad.
+// The set reached, how many steps were read, and whether no step was bad, or why the first bad one is refused.
 #[derive(Clone, Copy)]
 pub struct Following {
     pub task: Task,
     pub set: BusSet,
     pub read: usize,
-    pub standing: Standing,
+    pub standing: Result<(), Refusal>,
 }
 
 // What replay answers: the set reached and whether the list is finished.
 #[derive(Clone, Copy)]
-pub enum Replayed {
-    Reached(BusSet, bool),
-    Refused(Refusal),
+pub struct Replayed {
+    pub set: BusSet,
+    pub finished: bool,
 }
 
 // What weaving answers: the count written and the set reached.
 #[derive(Clone, Copy)]
-pub enum Wove {
-    Written(usize, BusSet),
-    Refused(Refusal),
+pub struct Wove {
+    pub count: usize,
+    pub set: BusSet,
 }
 
 // The standing of a list of `count` steps before its first.
-fn opening(
-    n: usize,
-    nbr: &Rows,
-    zero: BusSet,
-    site: BusSet,
-    units: BusSet,
-    count: usize,
-) -> Standing
-    requires { length nbr.now ≡ rows_length }
-    ensures { StandingBy (begin_checks (case_of n nbr.now zero site units) count) result }
+fn opening(case: &Case, count: usize) -> Result<(), Refusal>
+    requires { Sized case.now }
+    ensures { CheckedBy (begin_checks case.now count) result }
 {
-    if !grid::validity::is_valid(n, nbr, zero, site, units) {
-        return Standing::Bad(Refusal::InvalidCase);
-    }
+    case.check()?;
     if MOST_STEPS < count {
-        return Standing::Bad(Refusal::TooManySteps(0));
+        return Err(Refusal::TooManySteps(0));
     }
-    Standing::Good
+    Ok(())
 }
 
 // A list of `count` steps, begun.
-pub fn begin(
-    n: usize,
-    nbr: &Rows,
-    zero: BusSet,
-    site: BusSet,
-    units: BusSet,
-    task: Task,
-    count: usize,
-) -> Following
-    requires { length nbr.now ≡ rows_length }
-    ensures { StandsAfter (case_of n nbr.now zero site units) task count [] result }
+pub fn begin(case: &Case, task: Task, count: usize) -> Following
+    requires { Sized case.now }
+    ensures { StandsAfter case.now task count [] result }
 {
-    let standing = opening(n, nbr, zero, site, units, count);
     Following {
         task,
-        set: busset::none(),
+        set: BusSet::none(),
         read: 0,
-        standing,
+        standing: opening(case, count),
     }
 }
 
-// The number of the step after those read.
-fn next_number(read: usize) -> usize
-    ensures { read < most_steps → result ≡ suc read }
-{
-    if read < MOST_STEPS {
-        return read + 1;
-    }
-    read
-}
-
-// The standing after a step that the test refuses with q: weaving passes over an observed bus, which is 8.
-fn after_refusal(task: Task, q: Refusal) -> Standing
+// The standing after a step that the test refuses with q: weaving passes over an observed bus.
+fn after_refusal(task: Task, q: Refusal) -> Result<(), Refusal>
     ensures { result ≡ after_refusal task q }
 {
-    if refusals::number(q) != 8 {
-        return Standing::Bad(q);
-    }
-    match task {
-        Task::Replay => Standing::Bad(q),
-        Task::Weave => Standing::Good,
+    match (task, q) {
+        (Task::Weave, Refusal::AlreadyObserved(_)) => Ok(()),
+        _ => Err(q),
     }
 }
 
 // The list after one step more, by the single-step test. The first bad step stays.
-pub fn apply(n: usize, nbr: &Rows, zero: BusSet, units: BusSet, st: Following, x: Step) -> Following
-    ensures { (sites : ℕ) → Follows (case_of n nbr.now zero sites units) st (x ∷ []) result }
+pub fn apply(case: &Case, st: Following, x: Step) -> Following
+    ensures { Follows case.now st (x ∷ []) result }
 {
-    let task = st.task;
-    let standing = st.standing;
-    let Standing::Good = standing else {
+    let Ok(()) = st.standing else {
         return st;
     };
-    if MOST_BUSES < n {
+    if MOST_BUSES < case.n {
         return st;
     }
-    let k = next_number(st.read);
-    match tested_at(n, nbr, zero, units, st.set, x, k) {
-        Tested::Allowed => Following {
-            task,
-            set: busset::with(st.set, x.bus),
-            read: k,
-            standing: Standing::Good,
+    let read = st.read.saturating_add(1);
+    match tested_at(case, st.set, x, read) {
+        Ok(()) => Following {
+            set: st.set.with(x.bus),
+            read,
+            ..st
         },
-        Tested::Refused(q) => Following {
-            task,
-            set: st.set,
-            read: k,
-            standing: after_refusal(task, q),
+        Err(q) => Following {
+            read,
+            standing: after_refusal(st.task, q),
+            ..st
         },
     }
 }
 
-// Whether no step is allowed where s is observed, whatever n and the sites are.
-pub fn is_finished(nbr: &Rows, zero: BusSet, units: BusSet, s: BusSet) -> bool
-    ensures { (n sites : ℕ) →
-        Decides (Finished (grid_with n nbr.now zero sites units) (set_of s)) result }
+// Whether no step is allowed where s is observed.
+pub fn is_finished(case: &Case, s: BusSet) -> bool
+    ensures { Decides (Finished (grid_of case.now) (set_of s)) result }
 {
-    if !busset::is_subset(grid::with_neighbours(nbr, units), s) {
+    if !case.with_neighbours(case.units).is_subset(s) {
         return false;
     }
-    busset::same(observe::set::sweep(nbr, zero, s), s)
+    observe::set::sweep(case, s) == s
 }
 
 // Replay's answer for the list that ends so.
-pub fn ended(nbr: &Rows, zero: BusSet, units: BusSet, st: Following) -> Replayed
-    ensures { (n sites : ℕ) → AnswersReplay (case_of n nbr.now zero sites units) st result }
+pub fn ended(case: &Case, st: Following) -> Result<Replayed, Refusal>
+    ensures { AnswersReplay case.now st result }
 {
-    let standing = st.standing;
-    match standing {
-        Standing::Good => Replayed::Reached(st.set, is_finished(nbr, zero, units, st.set)),
-        Standing::Bad(refusal) => Replayed::Refused(refusal),
-    }
+    st.standing?;
+    Ok(Replayed {
+        set: st.set,
+        finished: is_finished(case, st.set),
+    })
 }
 
 // Weaving's answer, where there is room for `room` records: it writes one step for each bus reached.
-pub fn settled(st: Following, room: usize) -> Wove
+pub fn settled(st: Following, room: usize) -> Result<Wove, Refusal>
     ensures { result ≡ wove_at st room st.standing }
 {
-    let standing = st.standing;
-    let n = busset::count(st.set);
-    match standing {
-        Standing::Good => {
-            if n <= room {
-                Wove::Written(n, st.set)
-            } else {
-                Wove::Refused(Refusal::NoRoom)
-            }
-        }
-        Standing::Bad(refusal) => Wove::Refused(refusal),
+    st.standing?;
+    let count = st.set.count();
+    if room < count {
+        return Err(Refusal::NoRoom);
     }
-}
-
-// How many records are written.
-pub fn count_of(w: Wove) -> usize
-    ensures { result ≡ count_written w }
-{
-    match w {
-        Wove::Written(count, _) => count,
-        Wove::Refused(_) => 0,
-    }
+    Ok(Wove { count, set: st.set })
 }

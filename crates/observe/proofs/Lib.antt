@@ -1,5 +1,4 @@
 pub mod Counting
 pub mod Firing
 pub mod Passing
-pub mod Holding
 pub mod Signed

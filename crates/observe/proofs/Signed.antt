@@ -1,40 +1,16 @@
 -- A signed sum of small numbers fits, and is what the integers say. `mag z` is n for n and for -(n + 1).
-use mathlib.Core.Path.{◌≡◌, sym, ap, ◌∙◌, subst}
-use mathlib.Core.Bool.{Bool, true, false, cond}
-use Prim.Native.Nat.{ℕ, zero, suc, ◌+◌, ◌-◌, ◌≤◌, ◌<◌, ◌^◌}
+use mathlib.Core.Path.{◌≡◌, sym, ap, ◌∙◌}
+use Prim.Native.Nat.{ℕ, suc, ◌+◌, ◌≤◌, ◌<◌, ◌^◌}
 use native.Mathlib.Omega.{arith}
-use lib.Dec.{ltb}
-use lib.IntN.{ℤ, pos, negsuc, neg_ℤ, sub_ℕ, ◌+ℤ◌, ◌-ℤ◌, +ℤ_assoc, pos-+ℤ-pos}
-use lib.Signed.{mag}
+use lib.IntN.{ℤ, pos, ◌+ℤ◌, ◌-ℤ◌, +ℤ_assoc, pos-+ℤ-pos}
 use mir.Syntax.{w32}
-use mir.Val.{SFits, to_z, of_z}
+use mir.Val.{to_z}
 use mir.Facts.{to_z-of_z}
 use Rattle.busset.specs.Sets.{bit, meet, less, size, Both, Without, width}
 use Rattle.busset.proofs.Members.{both_meet, without-less}
 use Rattle.rules.specs.Figures.{figure}
 
 -- ---- how large a sum is, from its parts
-
-by_sign : (a b : ℕ) (t : Bool) → mag (cond t (negsuc (b - suc a)) (pos (a - b))) ≤ a + b
-by_sign a b true = omega arith
-by_sign a b false = omega arith
-
-mag_subℕ : (a b : ℕ) → mag (sub_ℕ a b) ≤ a + b
-mag_subℕ a b = by_sign a b (ltb a b)
-
-mag_add : (z w : ℤ) → mag (z +ℤ w) ≤ mag z + mag w + 1
-mag_add (pos a) (pos b) = omega arith
-mag_add (pos a) (negsuc b) = omega (arith, mag_subℕ a (suc b))
-mag_add (negsuc a) (pos b) = omega (arith, mag_subℕ b (suc a))
-mag_add (negsuc a) (negsuc b) = omega arith
-
-mag_neg : (z : ℤ) → mag (neg_ℤ z) ≤ mag z + 1
-mag_neg (pos zero) = omega arith
-mag_neg (pos (suc n)) = omega arith
-mag_neg (negsuc n) = omega arith
-
-mag_sub : (z w : ℤ) → mag (z -ℤ w) ≤ mag z + mag w + 2
-mag_sub z w = omega (arith, mag_add z (neg_ℤ w), mag_neg w)
 
 -- ---- the sum, as the machine makes it
 
@@ -45,21 +21,6 @@ to_pos n h = to_z-of_z {w = w32} {z = pos n} (record { sfits = h })
 module _ (degree observed : ℕ) (hd : degree ≤ width) (ho : observed ≤ suc width) where
   degree_is : to_z w32 degree ≡ pos degree
   degree_is = to_pos degree (omega arith)
-
-  pub less_fits : SFits w32 (pos 1 -ℤ to_z w32 degree)
-  less_fits = subst (λ (z : ℤ). SFits w32 (pos 1 -ℤ z)) (sym degree_is) (record { sfits = omega (arith, mag_sub (pos 1) (pos degree)) })
-
-  sum_is : to_z w32 (of_z w32 (pos 1 -ℤ to_z w32 degree)) +ℤ to_z w32 observed ≡ pos 1 -ℤ pos degree +ℤ pos observed
-  sum_is = λ i. (to_z-of_z less_fits ∙ ap (λ (z : ℤ). pos 1 -ℤ z) degree_is) i +ℤ to_pos observed (omega arith) i
-
-  pub sum_fits : SFits w32 (to_z w32 (of_z w32 (pos 1 -ℤ to_z w32 degree)) +ℤ to_z w32 observed)
-  sum_fits =
-      subst (SFits w32) (sym sum_is)
-      (record { sfits = omega (arith, mag_sub (pos 1) (pos degree), mag_add (pos 1 -ℤ pos degree) (pos observed)) })
-
-  pub sum_result : to_z w32 (of_z w32 (to_z w32 (of_z w32 (pos 1 -ℤ to_z w32 degree)) +ℤ to_z w32 observed)) ≡ pos 1 -ℤ pos degree +ℤ pos
-      observed
-  sum_result = to_z-of_z sum_fits ∙ sum_is
 
 -- ---- the figure
 

@@ -4,16 +4,9 @@ use Rattle.busset.specs.Sets.{Out}
 use Rattle.step.specs.declared.Step.{Step}
 use Rattle.rules.specs.Grids.{Grid}
 use Rattle.rules.specs.Steps.{Holds, Names}
-use Rattle.refusals.specs.Refusals.{Check, check_that, Passed, Failed}
-use Rattle.observe.specs.declared.test.Tested.{Tested}
-use Rattle.observe.specs.declared.test.Tested.TheVariants.{Allowed, Refused}
+use Rattle.refusals.specs.Refusals.{Check, check_that}
 
 -- of step k, where s is observed: it names buses 1 to n, or 7; its bus is not yet observed, or 8; its reason holds, or 9
 abbrev pub step_checks_at : Grid → ℕ → ℕ → Step → List Check
 step_checks_at g k s x =
     check_that (Names g.n x) 7 k ∷ check_that (Out s x.bus) 8 k ∷ check_that (Holds g s x.bus x.reason) 9 k ∷ []
-
--- allowed if every check passes; else refused for the first that fails
-abbrev pub TestedBy : List Check → Tested → Type 0
-TestedBy qs Allowed = Passed qs
-TestedBy qs (Refused r) = Failed qs r

@@ -5,14 +5,14 @@ ghost use Rattle.rules.specs.Figures.{figure};
 ghost use Rattle.grid.specs.Rows.{neighbours};
 
 use busset::BusSet;
-use grid::Rows;
+use grid::Case;
 
 // 1 if bus i is in s, else 0.
 pub fn seen(s: BusSet, i: usize) -> usize
     requires { Bus width i }
     ensures { result ≡ bit (set_of s) i }
 {
-    if busset::has(s, i) { 1 } else { 0 }
+    if s.has(i) { 1 } else { 0 }
 }
 
 // 1, less the degree, plus what is observed.
@@ -24,12 +24,12 @@ pub fn signed_sum(degree: usize, observed: usize) -> i32
 }
 
 // The firing figure of bus i towards j where s is observed.
-pub fn figure_of(nbr: &Rows, s: BusSet, i: usize, j: usize) -> i32
+pub fn figure_of(case: &Case, s: BusSet, i: usize, j: usize) -> i32
     requires { Bus width i × Bus width j }
-    ensures { result ≡ figure (neighbours nbr.now) (set_of s) i j }
+    ensures { result ≡ figure (neighbours case.now.nbr) (set_of s) i j }
 {
-    let m = grid::row(nbr, i);
-    let degree = busset::count(m);
-    let others = busset::count(busset::without(busset::both(m, s), j));
+    let m = case.neighbours(i);
+    let degree = m.count();
+    let others = m.both(s).without(j).count();
     signed_sum(degree, seen(s, i) + others)
 }

@@ -1,5 +1,5 @@
 // The observed set: what the units give by O1, spread by O2.
-ghost use Rattle.std.specs.Prelude.{◌≡◌, ℕ};
+ghost use Rattle.std.specs.Prelude.{◌≡◌};
 ghost use Rattle.busset.specs.Sets.{lack, size, set_of};
 ghost use Rattle.rules.specs.Observation.{ObservedSet};
 ghost use Rattle.grid.specs.Rows.{neighbours};
@@ -7,17 +7,14 @@ ghost use Rattle.grid.specs.Cases.{grid_with};
 ghost use Rattle.observe.specs.Passes.{Fires, Swept, Spread};
 
 use busset::BusSet;
-use grid::Rows;
+use grid::Case;
 
-// The buses m that are not in s, gathered and counted one after another.
+// The buses m that are not in s, counted one after another.
 pub fn count_unknown(m: BusSet, s: BusSet) -> usize
     ensures { result ≡ size (lack (set_of m) (set_of s)) }
 {
-    let mut left = busset::minus(m, s);
     let mut unknown: usize = 0;
-    while !busset::is_none(left) {
-        let b = busset::lowest(left);
-        left = busset::without(left, b);
+    for _b in m.minus(s) {
         unknown += 1;
     }
     unknown
@@ -28,43 +25,40 @@ pub fn fire(m: BusSet, s: BusSet) -> BusSet
     ensures { Fires (set_of m) (set_of s) (set_of result) }
 {
     if count_unknown(m, s) == 1 {
-        busset::union(s, m)
+        s.union(m)
     } else {
         s
     }
 }
 
 // Each Z bus of s fires, where it can.
-pub fn sweep(nbr: &Rows, zero: BusSet, s: BusSet) -> BusSet
-    ensures { Swept (neighbours nbr.now) (set_of zero) (set_of s) (set_of result) }
+pub fn sweep(case: &Case, s: BusSet) -> BusSet
+    ensures { Swept (neighbours case.now.nbr) (set_of case.now.zero) (set_of s) (set_of result) }
 {
     let mut r = s;
-    let mut left = busset::both(zero, s);
-    while !busset::is_none(left) {
-        let w = busset::lowest(left);
-        r = fire(grid::row(nbr, w), r);
-        left = busset::without(left, w);
+    for w in case.zero.both(s) {
+        r = fire(case.neighbours(w), r);
     }
     r
 }
 
 // The smallest set that holds s and satisfies O2: sweeps, until one changes nothing.
-pub fn spread(nbr: &Rows, zero: BusSet, s: BusSet) -> BusSet
-    ensures { Spread (neighbours nbr.now) (set_of zero) (set_of s) (set_of result) }
+pub fn spread(case: &Case, s: BusSet) -> BusSet
+    ensures { Spread (neighbours case.now.nbr) (set_of case.now.zero) (set_of s) (set_of result) }
 {
     let mut t = s;
     loop {
-        let r = sweep(nbr, zero, t);
-        if busset::same(r, t) {
+        let r = sweep(case, t);
+        if r == t {
             return t;
         }
         t = r;
     }
 }
 
-// The observed set, whatever n and the sites are: no rule reads them.
-pub fn observed(nbr: &Rows, zero: BusSet, units: BusSet) -> BusSet
-    ensures { (n sites : ℕ) → ObservedSet (grid_with n nbr.now zero sites units) (set_of result) }
+// What units on the grid of the case observe: its own, or others.
+pub fn observed(case: &Case, units: BusSet) -> BusSet
+    ensures { ObservedSet (grid_with case.now.n case.now.nbr case.now.zero case.now.site units) (set_of result) }
 {
-    spread(nbr, zero, grid::with_neighbours(nbr, units))
+    spread(case, case.with_neighbours(units))
 }

@@ -3,71 +3,40 @@
 
 ghost use Rattle.observe_calls.specs.Replies.{ObservedReply, FigureReply, StepReply};
 
-use busset::BusSet;
+use busset::{BusSet, is_bus};
 use grid::Case;
-use observe::test::{Tested, tested_at};
 use refusals::Refusal;
 use step::Step;
 
-#[derive(Clone, Copy)]
-pub enum Observed {
-    Set(BusSet),
-    Refused(Refusal),
-}
-
-#[derive(Clone, Copy)]
-pub enum Figured {
-    Figure(i32),
-    Refused(Refusal),
-}
-
 // The observed set of the case.
-pub fn observed_set(case: Case) -> Observed
+pub fn observed_set(case: Case) -> Result<BusSet, Refusal>
     ensures { ObservedReply case result }
 {
-    if !grid::validity::is_valid(case.n, &case.nbr, case.zero, case.site, case.units) {
-        return Observed::Refused(Refusal::InvalidCase);
-    }
-    let nbr = case.nbr;
-    Observed::Set(observe::set::observed(&nbr, case.zero, case.units))
+    case.check()?;
+    Ok(observe::set::observed(&case, case.units))
 }
 
 // The firing figure of bus i towards its neighbour j, where the buses of s are observed.
-pub fn firing_figure(case: Case, s: BusSet, i: usize, j: usize) -> Figured
+pub fn firing_figure(case: Case, s: BusSet, i: usize, j: usize) -> Result<i32, Refusal>
     ensures { FigureReply case s i j result }
 {
-    let n = case.n;
-    if !grid::validity::is_valid(case.n, &case.nbr, case.zero, case.site, case.units) {
-        return Figured::Refused(Refusal::InvalidCase);
+    case.check()?;
+    if !is_bus(case.n, i) {
+        return Err(Refusal::NoSuchBus(0));
     }
-    if !busset::is_bus(n, i) {
-        return Figured::Refused(Refusal::NoSuchBus(0));
+    if !is_bus(case.n, j) {
+        return Err(Refusal::NoSuchBus(0));
     }
-    if !busset::is_bus(n, j) {
-        return Figured::Refused(Refusal::NoSuchBus(0));
+    if !case.neighbours(i).has(j) {
+        return Err(Refusal::NotJoined);
     }
-    let nbr = case.nbr;
-    if !busset::has(grid::row(&nbr, i), j) {
-        return Figured::Refused(Refusal::NotJoined);
-    }
-    Figured::Figure(observe::figure::figure_of(&nbr, busset::up_to(s, n), i, j))
+    Ok(observe::figure::figure_of(&case, s.up_to(case.n), i, j))
 }
 
 // Whether the step is allowed where the buses of s are observed: it is step 1, and buses above n are ignored.
-pub fn test_step(case: Case, s: BusSet, x: Step) -> Tested
+pub fn test_step(case: Case, s: BusSet, x: Step) -> Result<(), Refusal>
     ensures { StepReply case s x result }
 {
-    let n = case.n;
-    if !grid::validity::is_valid(case.n, &case.nbr, case.zero, case.site, case.units) {
-        return Tested::Refused(Refusal::InvalidCase);
-    }
-    tested_at(
-        n,
-        &case.nbr,
-        case.zero,
-        case.units,
-        busset::up_to(s, n),
-        x,
-        1,
-    )
+    case.check()?;
+    observe::test::tested_at(&case, s.up_to(case.n), x, 1)
 }

@@ -2,8 +2,7 @@
 use mathlib.Core.Logic.{⊎_elim}
 use Prim.Native.Nat.{ℕ}
 use native.Mathlib.Omega.{arith}
-use native.Mathlib.Nat.{le_refl}
-use Rattle.busset.specs.Sets.{Bus, bit, In, Out, Sub, Within, All, Union, Minus, Both}
+use Rattle.busset.specs.Sets.{Bus, In, Out, Sub, Within, All, Union, Minus, Both}
 use Rattle.busset.proofs.Members.{in_or, sub_of, add_sub}
 use Rattle.rules.specs.Grids.{Grid}
 use Rattle.rules.specs.Observation.{Closed}
@@ -17,18 +16,12 @@ use Rattle.place_bound.specs.Shrinking.{Shrunk, Outside, Beside}
 
 -- ---- trial units
 
-pub shrunk-same : (n : ℕ) (nbr : ℕ → ℕ) (zeros c : ℕ) → Shrunk n nbr zeros c c
-shrunk-same n nbr zeros c = record { grows = λ b. le_refl (bit c b); fired = λ f. f; misses = λ l. l }
-
 pub shrunk-more : {n : ℕ} {nbr : ℕ → ℕ} {zeros c r d : ℕ} → Shrunk n nbr zeros c r → Shrunk n nbr zeros r d → Shrunk n nbr zeros c d
 shrunk-more p q = record {
   grows = λ b. omega (arith, p.grows b, q.grows b);
   fired = λ f. q.fired (p.fired f);
   misses = λ l. q.misses (p.misses l);
 }
-
-pub shrunk-spread : {n : ℕ} {nbr : ℕ → ℕ} {zeros c h t d : ℕ} → Union c h t → Spread nbr zeros t d → (Full n d → ⊥) → Shrunk n nbr zeros c d
-shrunk-spread u sp misses = record { grows = λ b. omega (arith, u.at b, sp.grows b); fired = λ f. sp.fired; misses = λ l. misses }
 
 shrunk-closed : {g : Grid} {c r : ℕ} → Closed g c → Shrunk g.n g.neighbours g.zeros c r → Closed g r
 shrunk-closed {r = r} cl sh = closed-larger r cl sh.grows (sh.fired cl.zeros)

@@ -6,11 +6,12 @@ use Prim.Native.Nat.{ℕ, ◌-◌, ◌≤◌, ◌<◌, max}
 use native.Mathlib.Omega.{arith}
 use native.Mathlib.Nat.{le_refl}
 use lib.Bits.{bit_or}
+use lib.ListN.{get_or}
 use Rattle.basics.proofs.Tests.{same_or}
 use Rattle.busset.specs.Sets.{bit, In, Out, Sub, empty, add, less, meet, lack, size, set_of, Both, With, Without}
 use Rattle.busset.specs.Held.{SetWord}
 use Rattle.busset.proofs.Digits.{bit-or, bit-zero}
-use Rattle.busset.proofs.Members.{in_or, meet-at, lack-at, with-add}
+use Rattle.busset.proofs.Members.{in_or, meet-at, lack-at, without_sub, with-add}
 use Rattle.busset.proofs.Sizes.{size-le, size-some}
 use Rattle.rules.specs.Grids.{Grid, with_sites_and_units}
 use Rattle.rules.specs.Observation.{Closed, ObservedSet}
@@ -18,12 +19,11 @@ use Rattle.rules.specs.Placing.{with_units, Full}
 use Rattle.rules.proofs.Covering.{closed-fewer}
 use Rattle.place_light.specs.Ways.{Group, direct, Cover, Uncoverable}
 use Rattle.place_light.proofs.Covers.{closed-more, meets-to, meets-none, meets-few, without-less, without_out, cover_less}
-use Rattle.place_pool.specs.Pool.{kept_at, KeptGroups}
+use Rattle.place_pool.specs.Pool.{KeptGroups}
 use Rattle.place_pool.specs.Asking.{MeetsKept, Says}
 use Rattle.place_bound.specs.Shrinking.{Beside}
 use Rattle.place_bound.specs.Branches.{ChosenUnits, ToTry, Open}
 use Rattle.place_pool.specs.declared.Hints.{Hints}
-use Rattle.place_bound.specs.declared.hopeless.Branch.{Branch}
 use Rattle.place_bound.proofs.Grouping.{beside-group}
 use Rattle.place_pool.proofs.Saying.{meets-left}
 
@@ -69,19 +69,19 @@ pub kept_cover : (g : Grid) {free units sites k v : ℕ} {pool : List SetWord} �
     → Sub sites free → Cover (with_units g units) sites k v
     → MeetsKept pool units v
 kept_cover g {free} {units} {sites} {k} {v} {pool} c kept sub w = record {
-  met = λ i some none. meets-to (kept_at pool i) v
+  met = λ i d l none. meets-to (set_of (get_or pool i d)) v
       (λ b p q. (
         p,
         omega (
           arith,
           bit-or v (lack units g.units) b,
           lack-at units g.units b,
-          meet-at (kept_at pool i) units b,
+          meet-at (set_of (get_or pool i d)) units b,
           ap (λ (s : ℕ). bit s b) none,
           bit-zero b,
         ),
       ))
-      ((kept.group i some).met _ _ (chosen_cover g c sub w));
+      ((kept.groups i d l).met _ _ (chosen_cover g c sub w));
 }
 
 -- no rule reads the sites
@@ -129,10 +129,16 @@ group-none {k = k} group e v w = omega (arith, meets-few (group.met k v w), w.fe
 
 -- ---- which sites these are
 
-pub open_none : {sites k : ℕ} (t : Branch) → set_of t.tries ≡ empty → Open sites k t
-open_none t e = record {
-  tries = λ b. omega (arith, ap (λ (s : ℕ). bit s b) e, bit-zero b);
+pub open_none : {sites k tries : ℕ} → tries ≡ empty → Open sites k tries
+open_none e = record {
+  of = λ b. omega (arith, ap (λ (s : ℕ). bit s b) e, bit-zero b);
   some = λ x h. absurd (omega (arith, ap (λ (s : ℕ). bit s x) e, bit-zero x));
+}
+
+pub open_fewer : {sites k tries x rest : ℕ} → Open sites k tries → Without tries x rest → Open sites k rest
+open_fewer o w = record {
+  of = λ b. omega (arith, o.of b, without_sub w b);
+  some = λ x h. o.some x (omega (arith, without_sub w x));
 }
 
 -- ---- one after another

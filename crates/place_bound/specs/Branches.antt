@@ -1,13 +1,12 @@
 -- Which sites are tried: what one call of the cut does before it calls itself.
 use Rattle.std.specs.Prelude.{List, ℕ, ◌≤◌, ◌<◌}
-use Rattle.busset.specs.Sets.{In, Out, Sub, Within, width, set_of}
+use Rattle.busset.specs.Sets.{In, Out, Sub, Within, width}
 use Rattle.busset.specs.Held.{SetWord}
 use Rattle.rules.specs.Grids.{Grid}
 use Rattle.rules.specs.Placing.{with_units}
 use Rattle.grid.specs.Cases.{Lines}
 use Rattle.place_light.specs.Ways.{Whatever, Meets, direct, Cover}
 use Rattle.place_pool.specs.Pool.{KeptGroups}
-use Rattle.place_bound.specs.declared.hopeless.Branch.{Branch}
 
 -- what a call of the search or of its cut asks for: a grid's lines, free sites at its buses, some of them still open, and few units
 pub record Asks (n : ℕ) (nbr : ℕ → ℕ) (free sites k : ℕ) : Type 0 where
@@ -34,6 +33,6 @@ pub record ToTry (g : Grid) (sites k left tries : ℕ) : Type 0 where
   pub meets : (v : ℕ) → Cover g sites k v → Meets tries v
 
 -- those to try are some of the sites, and there is a unit to place where one is to try
-pub record Open (sites k : ℕ) (t : Branch) : Type 0 where
-  pub tries : Sub (set_of t.tries) sites
-  pub some : (x : ℕ) → In (set_of t.tries) x → 0 < k
+pub record Open (sites k tries : ℕ) : Type 0 where
+  pub of : Sub tries sites
+  pub some : (x : ℕ) → In tries x → 0 < k

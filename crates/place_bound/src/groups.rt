@@ -6,19 +6,19 @@ ghost use Rattle.grid.specs.Cases.{Lines};
 ghost use Rattle.place_bound.specs.Shrinking.{Shrunk, Outside, Beside};
 
 use busset::BusSet;
-use grid::Rows;
+use grid::Case;
 
 // c with a trial unit at x, unless c then has all buses.
-pub fn tried(n: usize, nbr: &Rows, zero: BusSet, c: BusSet, x: usize) -> BusSet
-    requires { (n ≤ width) × Bus width x }
-    ensures { Shrunk n (neighbours nbr.now) (set_of zero) (set_of c) (set_of result) }
+pub fn tried(case: &Case, c: BusSet, x: usize) -> BusSet
+    requires { (case.now.n ≤ width) × Bus width x }
+    ensures { Shrunk case.now.n (neighbours case.now.nbr) (set_of case.now.zero) (set_of c) (set_of result) }
 {
-    let here = busset::with(grid::row(nbr, x), x);
-    if busset::is_subset(here, c) {
+    let here = case.neighbours(x).with(x);
+    if here.is_subset(c) {
         return c;
     }
-    let d = observe::set::spread(nbr, zero, busset::union(c, here));
-    if grid::is_full(n, d) {
+    let d = place_light::lit(case, c, x);
+    if case.is_full(d) {
         return c;
     }
     d
@@ -26,36 +26,34 @@ pub fn tried(n: usize, nbr: &Rows, zero: BusSet, c: BusSet, x: usize) -> BusSet
 
 // c with trial units at the sites, the highest first, as many as leave a bus missing: what it misses becomes small.
 // The search tries the lowest first, and finds fewer groups if these have low sites.
-pub fn shrunk(n: usize, nbr: &Rows, zero: BusSet, c: BusSet, sites: BusSet) -> BusSet
-    requires { n ≤ width }
-    ensures { Shrunk n (neighbours nbr.now) (set_of zero) (set_of c) (set_of result) }
+pub fn shrunk(case: &Case, c: BusSet, sites: BusSet) -> BusSet
+    requires { case.now.n ≤ width }
+    ensures { Shrunk case.now.n (neighbours case.now.nbr) (set_of case.now.zero) (set_of c) (set_of result) }
 {
     let mut r = c;
-    let mut left = sites;
-    while !busset::is_none(left) {
-        let x = busset::highest(left);
-        r = tried(n, nbr, zero, r, x);
-        left = busset::without(left, x);
+    for x in sites.into_iter().rev() {
+        r = tried(case, r, x);
     }
     r
 }
 
 // The sites on or next to a bus that c misses.
-pub fn group(n: usize, nbr: &Rows, sites: BusSet, c: BusSet) -> BusSet
-    requires { (n ≤ width) × Lines n (neighbours nbr.now) × Within n (set_of sites) }
-    ensures { Outside (neighbours nbr.now) (set_of sites) (set_of c) (set_of result) }
+pub fn group(case: &Case, sites: BusSet, c: BusSet) -> BusSet
+    requires { (case.now.n ≤ width) × Lines case.now.n (neighbours case.now.nbr) × Within case.now.n (set_of sites) }
+    ensures { Outside (neighbours case.now.nbr) (set_of sites) (set_of c) (set_of result) }
 {
-    let dark = busset::minus(busset::all(n), c);
-    busset::both(sites, grid::with_neighbours(nbr, dark))
+    let dark = BusSet::all(case.n).minus(c);
+    sites.both(case.with_neighbours(dark))
 }
 
 // A group of the free sites that units which observe s do not meet. Trial units go on the open sites last, so that few
 // of these are in it.
-pub fn beside(n: usize, nbr: &Rows, zero: BusSet, free: BusSet, s: BusSet, sites: BusSet) -> BusSet
-    requires { (n ≤ width) × Lines n (neighbours nbr.now) × Within n (set_of free) }
-    ensures { Beside n (neighbours nbr.now) (set_of zero) (set_of free) (set_of s) (set_of result) }
+pub fn beside(case: &Case, free: BusSet, s: BusSet, sites: BusSet) -> BusSet
+    requires { (case.now.n ≤ width) × Lines case.now.n (neighbours case.now.nbr) × Within case.now.n (set_of free) }
+    ensures { Beside case.now.n (neighbours case.now.nbr) (set_of case.now.zero) (set_of free) (set_of s)
+        (set_of result) }
 {
-    let c = shrunk(n, nbr, zero, s, busset::minus(free, sites));
-    let d = shrunk(n, nbr, zero, c, sites);
-    group(n, nbr, free, d)
+    let c = shrunk(case, s, free.minus(sites));
+    let d = shrunk(case, c, sites);
+    group(case, free, d)
 }

@@ -1,139 +1,95 @@
 // The cut of the search for the fewest: where no more of the sites can help.
-ghost use Rattle.std.specs.Prelude.{◌≡◌, false};
+ghost use Rattle.std.specs.Prelude.{IfSome};
 ghost use Rattle.busset.specs.Sets.{set_of};
 ghost use Rattle.grid.specs.Rows.{neighbours};
 ghost use Rattle.grid.specs.Cases.{bare_grid};
 ghost use Rattle.place_light.specs.Ways.{Cut};
 ghost use Rattle.place_bound.specs.Branches.{Asks, Keeping, ToTry, Open};
 
+use crate::groups::beside;
 use busset::BusSet;
-use grid::Rows;
-use place_pool::Pool;
-
-// What a call tries: a cover by further sites has one of these. Or the units cover.
-#[derive(Clone, Copy)]
-pub struct Branch {
-    pub covered: bool,
-    pub tries: BusSet,
-}
+use grid::Case;
+use observe::set::{observed, spread};
+use place_pool::{Pool, ask_kept, has_enough, keep};
 
 // Keeps groups of the free sites that the units do not meet. None has a site of another. More than `budget` are enough.
-pub fn seed(
-    n: usize,
-    nbr: &Rows,
-    zero: BusSet,
-    free: BusSet,
-    units: BusSet,
-    budget: usize,
-    pool: &mut Pool,
-)
-    requires { Asks n (neighbours nbr.now) (set_of free) (set_of free) budget }
-    ensures { Keeping (bare_grid n nbr.now zero) (set_of free) (set_of units) pool.old
-        pool.new (λ g. Unit {0}) }
+pub fn seed(case: &Case, free: BusSet, units: BusSet, budget: usize, pool: &mut Pool)
+    requires { Asks case.now.n (neighbours case.now.nbr) (set_of free) (set_of free) budget }
+    ensures { Keeping (bare_grid case.now.n case.now.nbr case.now.zero) (set_of free) (set_of units)
+        pool.old.items pool.new.items (λ g. Unit {0}) }
 {
-    let mut s = observe::set::observed(nbr, zero, units);
-    let mut m: usize = 0;
-    while m <= budget {
-        if grid::is_full(n, s) {
+    let mut s = observed(case, units);
+    for _ in 0..=budget {
+        if case.is_full(s) {
             return;
         }
-        let group = crate::groups::beside(n, nbr, zero, free, s, free);
-        place_pool::keep(&mut *pool, group);
-        s = observe::set::spread(
-            nbr,
-            zero,
-            busset::union(s, grid::with_neighbours(nbr, group)),
-        );
-        m += 1;
+        let group = beside(case, free, s, free);
+        keep(pool, group);
+        s = spread(case, s.union(case.with_neighbours(group)));
     }
 }
 
 // A group that the units do not meet, to try its sites: the smallest that is kept, or a new one, which is then kept.
+// A cover by further sites has one of these. None, if the units cover.
 pub fn next_branch(
-    n: usize,
-    nbr: &Rows,
-    zero: BusSet,
+    case: &Case,
     free: BusSet,
     units: BusSet,
     sites: BusSet,
     k: usize,
     pool: &mut Pool,
-) -> Branch
-    requires { Asks n (neighbours nbr.now) (set_of free) (set_of sites) k }
-    ensures { Open (set_of sites) k result
-        × Keeping (bare_grid n nbr.now zero) (set_of free) (set_of units) pool.old pool.new
-        (λ g. result.covered ≡ false → ToTry g (set_of sites) k (set_of sites) (set_of result.tries)) }
+) -> Option<BusSet>
+    requires { Asks case.now.n (neighbours case.now.nbr) (set_of free) (set_of sites) k }
+    ensures { IfSome result (λ t. Open (set_of sites) k (set_of t))
+        × Keeping (bare_grid case.now.n case.now.nbr case.now.zero) (set_of free) (set_of units)
+        pool.old.items pool.new.items
+        (λ g. IfSome result (λ t. ToTry g (set_of sites) k (set_of sites) (set_of t))) }
 {
-    let a = place_pool::ask_kept(&*pool, units, sites, k);
+    let a = ask_kept(pool, units, sites, k);
     if a.apart > k {
-        return Branch {
-            covered: false,
-            tries: busset::none(),
-        };
+        return Some(BusSet::none());
     }
     if a.apart > 0 {
-        return Branch {
-            covered: false,
-            tries: busset::both(a.tries, sites),
-        };
+        return Some(a.tries.both(sites));
     }
-    let s = observe::set::observed(nbr, zero, units);
-    if grid::is_full(n, s) {
-        return Branch {
-            covered: true,
-            tries: busset::none(),
-        };
+    let s = observed(case, units);
+    if case.is_full(s) {
+        return None;
     }
-    if place_pool::has_enough(&*pool, k) {
-        return Branch {
-            covered: false,
-            tries: busset::none(),
-        };
+    if has_enough(pool, k) {
+        return Some(BusSet::none());
     }
-    let group = crate::groups::beside(n, nbr, zero, free, s, sites);
-    place_pool::keep(&mut *pool, group);
+    let group = beside(case, free, s, sites);
+    keep(pool, group);
     if k == 0 {
-        return Branch {
-            covered: false,
-            tries: busset::none(),
-        };
+        return Some(BusSet::none());
     }
-    Branch {
-        covered: false,
-        tries: busset::both(group, sites),
-    }
+    Some(group.both(sites))
 }
 
 // Says yes only where no k of the sites, added to the units, make all buses observed.
 // Such a cover has a site of the group, and each of these, tried in turn, leaves no cover of k - 1.
 pub fn is_hopeless(
-    n: usize,
-    nbr: &Rows,
-    zero: BusSet,
+    case: &Case,
     free: BusSet,
     units: BusSet,
     sites: BusSet,
     k: usize,
     pool: &mut Pool,
 ) -> bool
-    requires { Asks n (neighbours nbr.now) (set_of free) (set_of sites) k }
-    ensures { Keeping (bare_grid n nbr.now zero) (set_of free) (set_of units) pool.old
-        pool.new (λ g. Cut g (set_of sites) k result) }
+    requires { Asks case.now.n (neighbours case.now.nbr) (set_of free) (set_of sites) k }
+    ensures { Keeping (bare_grid case.now.n case.now.nbr case.now.zero) (set_of free) (set_of units)
+        pool.old.items pool.new.items (λ g. Cut g (set_of sites) k result) }
 {
-    let t = next_branch(n, nbr, zero, free, units, sites, k, &mut *pool);
-    if t.covered {
+    let Some(tries) = next_branch(case, free, units, sites, k, pool) else {
         return false;
-    }
+    };
     let mut left = sites;
-    let mut tries = t.tries;
-    while !busset::is_none(tries) {
-        let x = busset::lowest(tries);
-        left = busset::without(left, x);
-        let more = busset::with(units, x);
-        if !is_hopeless(n, nbr, zero, free, more, left, k - 1, &mut *pool) {
+    for x in tries {
+        left = left.without(x);
+        if !is_hopeless(case, free, units.with(x), left, k - 1, pool) {
             return false;
         }
-        tries = busset::without(tries, x);
     }
     true
 }

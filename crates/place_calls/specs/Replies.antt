@@ -1,5 +1,6 @@
 -- What the siting group's calls promise: what each checks, in order, and what it answers where every check passes.
-use Rattle.std.specs.Prelude.{◌≡◌, List, [], ◌∷◌, ◌++◌, ℕ, ◌≤◌, length, drop}
+use Rattle.refusals.specs.declared.Refusal.{Refusal}
+use Rattle.std.specs.Prelude.{◌≡◌, List, [], ◌∷◌, ◌++◌, ℕ, ◌≤◌, length, drop, Result, Ok, Err}
 use Rattle.busset.specs.Sets.{set_of}
 use Rattle.busset.specs.Held.{IsWord}
 use Rattle.rules.specs.Confirming.{UnconfirmedSet}
@@ -10,12 +11,6 @@ use Rattle.grid.specs.Limits.{most_budget, most_greedy_budget}
 use Rattle.grid.specs.Cases.{grid_of, Valid}
 use Rattle.refusals.specs.Refusals.{Check, check_that, Passed, Failed}
 use Rattle.refusals.specs.Calls.{Call, Refuses}
-use Rattle.place_calls.specs.declared.Verdict.{Verdict}
-use Rattle.place_calls.specs.declared.Verdict.TheVariants as verdict
-use Rattle.place_calls.specs.declared.Greedy.{Greedy}
-use Rattle.place_calls.specs.declared.Greedy.TheVariants as greedy
-use Rattle.place_calls.specs.declared.Fewest.{Fewest}
-use Rattle.place_calls.specs.declared.Fewest.TheVariants as fewest
 
 -- ---- cross-validation
 
@@ -24,20 +19,20 @@ abbrev pub verdict_checks : Case → List Check
 verdict_checks c = check_that (Valid c) 5 0 ∷ []
 
 -- the word of the set of units that no other unit confirms
-abbrev pub VerdictReply : Case → Verdict → Type 0
-VerdictReply c (verdict.Unconfirmed s) =
+abbrev pub VerdictReply : Case → Result ℕ Refusal → Type 0
+VerdictReply c (Ok s) =
     Passed (verdict_checks c) × UnconfirmedSet (grid_of c).neighbours (grid_of c).units (set_of s) × IsWord s
-VerdictReply c (verdict.Refused r) = Failed (verdict_checks c) r
+VerdictReply c (Err r) = Failed (verdict_checks c) r
 
 -- `cross_validate`
 abbrev pub cross_validate_call : Call
 cross_validate_call = record {
   Input = Case;
   Lent = Unit {0};
-  Reply = Verdict;
+  Reply = Result ℕ Refusal;
   promise = λ c before after r. VerdictReply c r;
   checks = λ c lent. verdict_checks c;
-  refuses = Refuses verdict.Refused;
+  refuses = Refuses Err;
 }
 
 -- ---- greedy, into the room lent
@@ -59,19 +54,19 @@ pub record GreedyWritten (c : Case) (budget : ℕ) (entry exit : List ℕ) (k : 
   pub written : exit ≡ list ++ drop k entry
 
 -- the sites added; a refusal leaves all of the room as it was
-abbrev pub GreedyReply : Case → ℕ → List ℕ → List ℕ → Greedy → Type 0
-GreedyReply c budget entry exit (greedy.Added k) = Passed (greedy_checks c budget entry) × GreedyWritten c budget entry exit k
-GreedyReply c budget entry exit (greedy.Refused r) = Failed (greedy_checks c budget entry) r × (exit ≡ entry)
+abbrev pub GreedyReply : Case → ℕ → List ℕ → List ℕ → Result ℕ Refusal → Type 0
+GreedyReply c budget entry exit (Ok k) = Passed (greedy_checks c budget entry) × GreedyWritten c budget entry exit k
+GreedyReply c budget entry exit (Err r) = Failed (greedy_checks c budget entry) r × (exit ≡ entry)
 
 -- `place_greedy`
 abbrev pub place_greedy_call : Call
 place_greedy_call = record {
   Input = Case × ℕ;
   Lent = List ℕ;
-  Reply = Greedy;
+  Reply = Result ℕ Refusal;
   promise = λ (c, budget) entry exit r. GreedyReply c budget entry exit r;
   checks = λ (c, budget) room. greedy_checks c budget room;
-  refuses = Refuses greedy.Refused;
+  refuses = Refuses Err;
 }
 
 -- ---- the fewest
@@ -82,17 +77,17 @@ fewest_checks c budget =
     check_that (Valid c) 5 0 ∷ check_that (budget ≤ most_budget c.n) 10 0 ∷ check_that (placing.SomeAddition (grid_of c) budget) 11 0 ∷ []
 
 -- the word of the set of sites of the first of the smallest additions that cover
-abbrev pub FewestReply : Case → ℕ → Fewest → Type 0
-FewestReply c budget (fewest.Sites m) = Passed (fewest_checks c budget) × placing.FewestSites (grid_of c) budget (set_of m) × IsWord m
-FewestReply c budget (fewest.Refused r) = Failed (fewest_checks c budget) r
+abbrev pub FewestReply : Case → ℕ → Result ℕ Refusal → Type 0
+FewestReply c budget (Ok m) = Passed (fewest_checks c budget) × placing.FewestSites (grid_of c) budget (set_of m) × IsWord m
+FewestReply c budget (Err r) = Failed (fewest_checks c budget) r
 
 -- `place_fewest`
 abbrev pub place_fewest_call : Call
 place_fewest_call = record {
   Input = Case × ℕ;
   Lent = Unit {0};
-  Reply = Fewest;
+  Reply = Result ℕ Refusal;
   promise = λ (c, budget) before after r. FewestReply c budget r;
   checks = λ (c, budget) lent. fewest_checks c budget;
-  refuses = Refuses fewest.Refused;
+  refuses = Refuses Err;
 }

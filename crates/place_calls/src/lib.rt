@@ -6,70 +6,43 @@ ghost use Rattle.place_calls.specs.Replies.{VerdictReply, GreedyReply, FewestRep
 use busset::BusSet;
 use grid::Case;
 use grid::limits::{MOST_GREEDY_BUDGET, most_budget};
+use place_confirm::unconfirmed;
+use place_fewest::fewest;
+use place_greedy::greedy;
 use refusals::Refusal;
 
-#[derive(Clone, Copy)]
-pub enum Verdict {
-    Unconfirmed(BusSet),
-    Refused(Refusal),
-}
-
-#[derive(Clone, Copy)]
-pub enum Greedy {
-    Added(usize),
-    Refused(Refusal),
-}
-
-#[derive(Clone, Copy)]
-pub enum Fewest {
-    Sites(BusSet),
-    Refused(Refusal),
-}
-
 // The units that no other unit confirms: the verdict is yes where there are none.
-pub fn cross_validate(case: Case) -> Verdict
+pub fn cross_validate(case: Case) -> Result<BusSet, Refusal>
     ensures { VerdictReply case result }
 {
-    if !grid::validity::is_valid(case.n, &case.nbr, case.zero, case.site, case.units) {
-        return Verdict::Refused(Refusal::InvalidCase);
-    }
-    let nbr = case.nbr;
-    Verdict::Unconfirmed(place_confirm::unconfirmed(case.n, &nbr, case.units))
+    case.check()?;
+    Ok(unconfirmed(&case))
 }
 
 // The sites that greedy adds within the budget, in the order added, into the room lent.
-pub fn place_greedy(case: Case, budget: usize, room: &mut [usize]) -> Greedy
+pub fn place_greedy(case: Case, budget: usize, room: &mut [usize]) -> Result<usize, Refusal>
     ensures { GreedyReply case budget room.old room.new result }
 {
-    if !grid::validity::is_valid(case.n, &case.nbr, case.zero, case.site, case.units) {
-        return Greedy::Refused(Refusal::InvalidCase);
-    }
+    case.check()?;
     if MOST_GREEDY_BUDGET < budget {
-        return Greedy::Refused(Refusal::OverBudget(0));
+        return Err(Refusal::OverBudget(0));
     }
-    let nbr = case.nbr;
-    let order = place_greedy::greedy(&nbr, case.zero, case.site, case.units, budget);
-    if room.len() < order.count {
-        return Greedy::Refused(Refusal::NoRoom);
+    let sites = greedy(&case, budget);
+    let count = sites.len();
+    if room.len() < count {
+        return Err(Refusal::NoRoom);
     }
-    place_greedy::write(order, room);
-    Greedy::Added(order.count)
+    room[..count].copy_from_slice(&sites);
+    Ok(count)
 }
 
 // The sites of the fewest new units within the budget that make all buses observed.
-pub fn place_fewest(case: Case, budget: usize) -> Fewest
+pub fn place_fewest(case: Case, budget: usize) -> Result<BusSet, Refusal>
     ensures { FewestReply case budget result }
 {
-    if !grid::validity::is_valid(case.n, &case.nbr, case.zero, case.site, case.units) {
-        return Fewest::Refused(Refusal::InvalidCase);
-    }
+    case.check()?;
     if most_budget(case.n) < budget {
-        return Fewest::Refused(Refusal::OverBudget(0));
+        return Err(Refusal::OverBudget(0));
     }
-    let nbr = case.nbr;
-    let found = place_fewest::fewest(case.n, &nbr, case.zero, case.site, case.units, budget);
-    match found {
-        place_fewest::Found::Sites(m) => Fewest::Sites(m),
-        place_fewest::Found::Nothing => Fewest::Refused(Refusal::NoCover),
-    }
+    fewest(&case, budget).ok_or(Refusal::NoCover)
 }

@@ -1,15 +1,14 @@
 -- Cross-validation, unit after unit: a unit that confirms the one at p stands within two lines of p.
-use mathlib.Core.Path.{◌≡◌, sym, ap, ◌∙◌, subst, subst⁻¹}
+use mathlib.Core.Path.{◌≡◌, sym, ap, ◌∙◌, subst}
 use mathlib.Core.Bool.{Bool}
 use Prim.Native.Nat.{ℕ}
 use native.Mathlib.Omega.{arith}
-use native.Mathlib.Nat.{le_refl}
 use Rattle.basics.specs.Deciding.{Decides}
-use Rattle.busset.specs.Sets.{bit, In, Out, Sub, empty, less, Both, With, Without}
+use Rattle.busset.specs.Sets.{bit, In, Out, Sub, empty, less, Both, Without}
 use Rattle.basics.proofs.Tests.{decides-by}
 use Rattle.busset.proofs.Digits.{bit-zero}
-use Rattle.busset.proofs.Members.{out_of, sub_of, empty_of, less-here, less-there, add-of, add-grows, with-add, without-of, without_sub}
-use Rattle.rules.specs.Confirming.{Confirm, joined, share, Unconfirmed, UnconfirmedSet}
+use Rattle.busset.proofs.Members.{out_of, sub_of, empty_of, less-here, less-there}
+use Rattle.rules.specs.Confirming.{Confirm, joined, share, Unconfirmed}
 use Rattle.grid.specs.Cases.{Lines}
 use Rattle.grid.specs.Near.{WithNeighbours}
 
@@ -54,42 +53,14 @@ module _ {n : ℕ} {nbr : ℕ → ℕ} {units p m near others both : ℕ}
       back lone = empty_of both (λ a. out_of both a (λ i.
           near_confirm a (lone.none a (omega (arith, h.at a, w.there a (other a i))) (other a i)) (omega (arith, h.at a))))
 
--- ---- unit after unit: alone is those that no other confirms, of the units that are not left
+-- ---- unit after unit: alone is those that no other confirms, of the units that are not still to come
 
 pub record Sifted (nbr : ℕ → ℕ) (units alone left : ℕ) : Type 0 where
-  pub of : Sub left units
   pub all : (b : ℕ) → Out left b → Unconfirmed nbr units b → In alone b
   pub only : (b : ℕ) → In alone b → Unconfirmed nbr units b
 
 pub sifted-none : (nbr : ℕ → ℕ) (units : ℕ) {alone : ℕ} → alone ≡ empty → Sifted nbr units alone units
 sifted-none nbr units {alone} e = record {
-  of = λ b. le_refl (bit units b);
   all = λ b o u. absurd (omega (arith, u.unit));
   only = λ b h. absurd (omega (arith, ap (λ (s : ℕ). bit s b) e, bit-zero b));
 }
-
-pub sifted-yes : {nbr : ℕ → ℕ} {units alone left p more rest : ℕ} → Sifted nbr units alone left → Unconfirmed nbr units p
-    → With alone p more → Without left p rest → Sifted nbr units more rest
-sifted-yes {nbr} {units} {alone} {left} {p} {more} {rest} s u w o = record {
-  of = λ b. omega (arith, without_sub o b, s.of b);
-  all = without-of {P = λ b. Unconfirmed nbr units b → In more b} o (λ v. w.here) (λ b z v. kept b (s.all b z v));
-  only =
-      subst⁻¹ (λ (x : ℕ). (b : ℕ) → In x b → Unconfirmed nbr units b) (with-add w) (add-of {P = Unconfirmed nbr units} alone p u s.only);
-}
-  where
-    kept : (b : ℕ) → In alone b → In more b
-    kept b i = omega (arith, add-grows alone p b, ap (λ (x : ℕ). bit x b) (with-add w))
-
-pub sifted-no : {nbr : ℕ → ℕ} {units alone left p rest : ℕ} → Sifted nbr units alone left → (Unconfirmed nbr units p → ⊥)
-    → Without left p rest → Sifted nbr units alone rest
-sifted-no {nbr} {units} {alone} {left} {p} {rest} s n o = record {
-  of = λ b. omega (arith, without_sub o b, s.of b);
-  all = without-of {P = λ b. Unconfirmed nbr units b → In alone b} o (λ v. absurd (n v)) s.all;
-  only = s.only;
-}
-
-pub sifted-all : {nbr : ℕ → ℕ} {units alone left : ℕ} → Sifted nbr units alone left → left ≡ empty → UnconfirmedSet nbr units alone
-sifted-all s e = record { all = λ b. s.all b (ap (λ (x : ℕ). bit x b) e ∙ bit-zero b); only = s.only }
-
-pub sifted-to : {nbr : ℕ → ℕ} {units alone more left : ℕ} → Sifted nbr units alone left → more ≡ alone → Sifted nbr units more left
-sifted-to {nbr} {units} {left = left} s e = subst⁻¹ (λ (x : ℕ). Sifted nbr units x left) e s

@@ -2,37 +2,37 @@
 #![tactic(auto)]
 
 ghost use Rattle.basics.specs.Deciding.{Decides};
-ghost use Rattle.busset.specs.Sets.{In, set_of};
+ghost use Rattle.busset.specs.Sets.{Bus, width, set_of};
 ghost use Rattle.rules.specs.Confirming.{Unconfirmed, UnconfirmedSet};
 ghost use Rattle.grid.specs.Rows.{neighbours};
 ghost use Rattle.grid.specs.Cases.{Lines};
 
 use busset::BusSet;
-use grid::Rows;
+use grid::Case;
 
-// Whether no other unit confirms the unit at p: none of them is at a neighbour of p, or at a neighbour of one.
-pub fn is_unconfirmed(n: usize, nbr: &Rows, units: BusSet, p: usize) -> bool
-    requires { Lines n (neighbours nbr.now) × In (set_of units) p }
-    ensures { Decides (Unconfirmed (neighbours nbr.now) (set_of units) p) result }
+// Whether a unit is at p that no other unit confirms: none of them is at a neighbour of p, or at a neighbour of one.
+pub fn is_unconfirmed(case: &Case, p: usize) -> bool
+    requires { Lines case.now.n (neighbours case.now.nbr) × Bus width p }
+    ensures { Decides (Unconfirmed (neighbours case.now.nbr) (set_of case.now.units) p) result }
 {
-    let near = grid::with_neighbours(nbr, grid::row(nbr, p));
-    let others = busset::without(units, p);
-    busset::is_none(busset::both(near, others))
+    if !case.units.has(p) {
+        return false;
+    }
+    let near = case.with_neighbours(case.neighbours(p));
+    let others = case.units.without(p);
+    near.both(others).is_none()
 }
 
 // The units that no other unit confirms.
-pub fn unconfirmed(n: usize, nbr: &Rows, units: BusSet) -> BusSet
-    requires { Lines n (neighbours nbr.now) }
-    ensures { UnconfirmedSet (neighbours nbr.now) (set_of units) (set_of result) }
+pub fn unconfirmed(case: &Case) -> BusSet
+    requires { Lines case.now.n (neighbours case.now.nbr) }
+    ensures { UnconfirmedSet (neighbours case.now.nbr) (set_of case.now.units) (set_of result) }
 {
-    let mut alone = busset::none();
-    let mut left = units;
-    while !busset::is_none(left) {
-        let p = busset::lowest(left);
-        if is_unconfirmed(n, nbr, units, p) {
-            alone = busset::with(alone, p);
+    let mut alone = BusSet::none();
+    for p in case.units {
+        if is_unconfirmed(case, p) {
+            alone = alone.with(p);
         }
-        left = busset::without(left, p);
     }
     alone
 }

@@ -1,77 +1,53 @@
 // Greedy placement: the best site, one after another.
 #![tactic(auto)]
 
-ghost use Rattle.std.specs.Prelude.{ℕ, ◌≤◌, ◌≡◌, ◌++◌, length, take, drop};
+ghost use Rattle.std.specs.Prelude.{◌≤◌};
 ghost use Rattle.grid.specs.Limits.{most_greedy_budget};
 ghost use Rattle.busset.specs.Sets.{set_of};
-ghost use Rattle.grid.specs.Cases.{grid_with, bare_grid};
-ghost use Rattle.place_greedy.specs.Choices.{Chooses, AddedSites};
+ghost use Rattle.rules.specs.Choosing.{GreedyList};
+ghost use Rattle.grid.specs.Cases.{grid_of, bare_grid};
+ghost use Rattle.place_greedy.specs.Choices.{Chooses};
 
+use arrayvec::ArrayVec;
 use busset::BusSet;
-use grid::Rows;
+use grid::Case;
 use grid::limits::MOST_GREEDY_BUDGET;
 
-// Sites in the order added: the first `count` of `sites`.
-#[derive(Clone, Copy)]
-pub struct SiteList {
-    pub count: usize,
-    pub sites: [usize; MOST_GREEDY_BUDGET],
-}
+// Sites in the order added.
+pub type SiteList = ArrayVec<usize, MOST_GREEDY_BUDGET>;
 
 // The free site that makes the observed set largest where s is observed, the lowest number on a tie;
-// 0 where none adds a bus.
-pub fn best(nbr: &Rows, zero: BusSet, s: BusSet, free: BusSet) -> usize
-    ensures { (n : ℕ) → Chooses (bare_grid n nbr.now zero) (set_of s) (set_of free) result }
+// none where none adds a bus.
+pub fn best(case: &Case, s: BusSet, free: BusSet) -> Option<usize>
+    ensures { Chooses (bare_grid case.now.n case.now.nbr case.now.zero) (set_of s) (set_of free) result }
 {
-    let mut site: usize = 0;
-    let mut most = busset::count(s);
-    let mut left = free;
-    while !busset::is_none(left) {
-        let x = busset::lowest(left);
-        let size = busset::count(place_light::lit(nbr, zero, s, x));
+    let mut site = None;
+    let mut most = s.count();
+    for x in free {
+        let size = place_light::lit(case, s, x).count();
         if most < size {
-            site = x;
+            site = Some(x);
             most = size;
         }
-        left = busset::without(left, x);
     }
     site
 }
 
 // The sites that greedy adds within the budget.
-pub fn greedy(nbr: &Rows, zero: BusSet, site: BusSet, units: BusSet, budget: usize) -> SiteList
+pub fn greedy(case: &Case, budget: usize) -> SiteList
     requires { budget ≤ most_greedy_budget }
-    ensures { (n : ℕ)
-        → AddedSites (grid_with n nbr.now zero site units) budget result.count result.sites }
+    ensures { GreedyList (grid_of case.now) budget result.items }
 {
-    let mut placed = units;
-    let mut s = observe::set::observed(nbr, zero, units);
-    let mut sites: [usize; MOST_GREEDY_BUDGET] = [0; MOST_GREEDY_BUDGET];
-    let mut count: usize = 0;
-    while count < budget {
-        let x = best(nbr, zero, s, busset::minus(site, placed));
-        if x == 0 {
-            return SiteList { count, sites };
-        }
-        sites[count] = x;
-        placed = busset::with(placed, x);
-        s = place_light::lit(nbr, zero, s, x);
-        count += 1;
+    let mut sites = SiteList::new();
+    let mut placed = case.units;
+    let mut s = observe::set::observed(case, placed);
+    for _ in 0..budget {
+        let Some(x) = best(case, s, case.site.minus(placed)) else {
+            return sites;
+        };
+        sites.push(x);
+        placed = placed.with(x);
+        s = place_light::lit(case, s, x);
     }
-    SiteList { count, sites }
-}
-
-// Writes the sites, in order, into the room lent; what lies past them stays.
-pub fn write(order: SiteList, out: &mut [usize])
-    requires { (length order.sites ≡ most_greedy_budget) × (order.count ≤ most_greedy_budget)
-        × (order.count ≤ length out.old) }
-    ensures { out.new ≡ take order.count order.sites ++ drop order.count out.old }
-{
-    let sites = order.sites;
-    let count = order.count;
-    let mut i: usize = 0;
-    while i < count {
-        out[i] = sites[i];
-        i += 1;
-    }
+    sites
 }

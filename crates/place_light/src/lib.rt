@@ -6,13 +6,13 @@ ghost use Rattle.grid.specs.Rows.{neighbours};
 ghost use Rattle.place_light.specs.Lights.{Lit};
 
 use busset::BusSet;
-use grid::Rows;
+use grid::Case;
 
 // What is observed if s is and a unit is at x.
-pub fn lit(nbr: &Rows, zero: BusSet, s: BusSet, x: usize) -> BusSet
+pub fn lit(case: &Case, s: BusSet, x: usize) -> BusSet
     requires { Bus width x }
-    ensures { Lit (neighbours nbr.now) (set_of zero) (set_of s) x (set_of result) }
+    ensures { Lit (neighbours case.now.nbr) (set_of case.now.zero) (set_of s) x (set_of result) }
 {
-    let here = busset::with(grid::row(nbr, x), x);
-    observe::set::spread(nbr, zero, busset::union(s, here))
+    let here = case.neighbours(x).with(x);
+    observe::set::spread(case, s.union(here))
 }

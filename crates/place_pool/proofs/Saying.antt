@@ -1,16 +1,16 @@
 -- What groups say of a set that has one of each: as many items as there are groups apart, and no others where it has no more.
-use mathlib.Core.Path.{◌≡◌, ap, subst⁻¹}
+use mathlib.Core.Path.{◌≡◌, ap, ◌∙◌, subst, subst⁻¹}
 use mathlib.Core.List.{List}
-use Prim.Native.Nat.{ℕ, ◌+◌, ◌≤◌}
+use Prim.Native.Nat.{ℕ, ◌+◌, ◌≤◌, ◌<◌}
+use lib.ListN.{length, get_or}
 use native.Mathlib.Omega.{arith}
-use Rattle.busset.specs.Sets.{bit, Sub, empty, meet, size, Union, Both}
+use Rattle.busset.specs.Sets.{bit, Sub, empty, meet, size, set_of, Union, Both}
 use Rattle.busset.specs.Held.{SetWord}
 use Rattle.busset.proofs.Digits.{bit-zero}
 use Rattle.busset.proofs.Members.{meet-at}
 use Rattle.busset.proofs.Sizes.{size-parts}
 use Rattle.place_light.specs.Ways.{Meets}
 use Rattle.place_light.proofs.Covers.{meets-to, meets-all}
-use Rattle.place_pool.specs.Pool.{kept_at}
 use Rattle.place_pool.specs.Asking.{MeetsKept}
 
 -- a group that has none of those used: one item more
@@ -31,8 +31,8 @@ pub meets-left : {w left r v : ℕ} → Both w left r → Sub v left → Meets w
 meets-left {w} {left} {r} {v} h sub = meets-to r v (λ b i j. (omega (arith, h.at b, sub b), j))
 
 -- the group that is kept at i
-pub kept-meets : {pool : List SetWord} {units v w : ℕ} (i : ℕ) → w ≡ kept_at pool i → (w ≡ empty → ⊥) → MeetsKept pool units v
-    → meet w units ≡ empty
-    → Meets w v
-kept-meets {pool} {units} {v} i e some kept =
-    subst⁻¹ (λ (x : ℕ). (x ≡ empty → ⊥) → meet x units ≡ empty → Meets x v) e (kept.met i) some
+pub kept-meets : {pool xs : List SetWord} {units v : ℕ} {w : SetWord} (i : ℕ) → xs ≡ pool → i < length xs → w ≡ get_or xs i w
+    → MeetsKept pool units v → meet (set_of w) units ≡ empty → Meets (set_of w) v
+kept-meets {pool} {xs} {units} {v} {w} i e l is kept =
+    subst⁻¹ (λ (x : SetWord). meet (set_of x) units ≡ empty → Meets (set_of x) v) (is ∙ ap (λ (ys : List SetWord). get_or ys i w) e)
+    (kept.met i w (subst (λ (ys : List SetWord). i < length ys) e l))

@@ -1,14 +1,14 @@
 -- What the kept groups say of a cover: of a set v of items, whatever an item is.
 use Rattle.std.specs.Prelude.{◌≡◌, List, ℕ, ◌+◌, ◌≤◌, ◌<◌}
+use Rattle.std.specs.List.{All}
 use Rattle.busset.specs.Sets.{Sub, empty, meet, size, set_of}
 use Rattle.busset.specs.Held.{SetWord}
 use Rattle.place_light.specs.Ways.{Meets}
-use Rattle.place_pool.specs.Pool.{kept_at}
 use Rattle.place_pool.specs.declared.Hints.{Hints}
 
 -- v has an item of each group that the units do not meet
 pub record MeetsKept (pool : List SetWord) (units v : ℕ) : Type 0 where
-  pub met : (i : ℕ) → (kept_at pool i ≡ empty → ⊥) → meet (kept_at pool i) units ≡ empty → Meets (kept_at pool i) v
+  pub met : All (λ w. meet (set_of w) units ≡ empty → Meets (set_of w) v) pool
 
 -- what the groups that were asked say of v
 pub record Says (a : Hints) (v : ℕ) : Type 0 where

@@ -2,11 +2,12 @@
 // that is found anywhere in the search serves all of it.
 #![tactic(auto)]
 
-ghost use Rattle.std.specs.Prelude.{◌≡◌, true, ℕ, ◌≤◌, ◌<◌};
+ghost use Rattle.std.specs.Prelude.{◌≡◌, true, ℕ, ◌≤◌};
 ghost use Rattle.busset.specs.Sets.{Sub, empty, meet, size, set_of, width};
-ghost use Rattle.place_pool.specs.Pool.{most_kept, kept_at, KeptWith};
+ghost use Rattle.place_pool.specs.Pool.{KeptWith};
 ghost use Rattle.place_pool.specs.Asking.{MeetsKept, Says, Smaller, SaysBeside, SaysMore, SaysUnmet};
 
+use arrayvec::ArrayVec;
 use busset::BusSet;
 
 // How many groups are kept.
@@ -15,8 +16,8 @@ pub const MOST_KEPT: usize = 1000;
 // How many are enough for a call that places no more units.
 pub const ENOUGH_KEPT: usize = 200;
 
-// The oldest first; the first empty one ends them.
-pub type Pool = [BusSet; MOST_KEPT];
+// The oldest first.
+pub type Pool = ArrayVec<BusSet, MOST_KEPT>;
 
 // What the groups that were asked say of a cover by at most k further sites.
 #[derive(Clone, Copy)]
@@ -35,67 +36,21 @@ pub struct Hints {
 
 // ---- the pool
 
-pub fn group_at(pool: &Pool, i: usize) -> BusSet
-    requires { i < most_kept }
-    ensures { set_of result ≡ kept_at pool.now i }
-{
-    pool[i]
-}
-
-pub fn put_group(pool: &mut Pool, i: usize, group: BusSet)
-    requires { i < most_kept }
-    ensures { KeptWith pool.old (set_of group) pool.new }
-{
-    pool[i] = group;
-}
-
-// The first place that is empty; MOST_KEPT if none is.
-pub fn first_empty(pool: &Pool) -> usize
-    ensures { result ≤ most_kept }
-{
-    let mut i: usize = 0;
-    while i < MOST_KEPT {
-        if busset::is_none(group_at(pool, i)) {
-            return i;
-        }
-        i += 1;
-    }
-    i
-}
-
-// Each group moves one place to the front, and the oldest goes.
-pub fn drop_oldest(pool: &mut Pool)
-    ensures { KeptWith pool.old empty pool.new }
-{
-    let mut i: usize = 1;
-    while i < MOST_KEPT {
-        let next = group_at(&*pool, i);
-        put_group(&mut *pool, i - 1, next);
-        i += 1;
-    }
-}
-
 // Keeps a group, in place of the oldest if there is no room.
 pub fn keep(pool: &mut Pool, group: BusSet)
-    ensures { KeptWith pool.old (set_of group) pool.new }
+    ensures { KeptWith pool.old.items (set_of group) pool.new.items }
 {
-    let i = first_empty(&*pool);
-    if i < MOST_KEPT {
-        put_group(&mut *pool, i, group);
-        return;
+    if pool.is_full() {
+        pool.remove(0);
     }
-    drop_oldest(&mut *pool);
-    put_group(&mut *pool, MOST_KEPT - 1, group);
+    pool.push(group);
 }
 
 // Whether a call that places k more units looks for no group: it places none, and enough are kept.
 pub fn has_enough(pool: &Pool, k: usize) -> bool
     ensures { result ≡ true → k ≡ 0 }
 {
-    if k > 0 {
-        return false;
-    }
-    !busset::is_none(group_at(pool, ENOUGH_KEPT))
+    k == 0 && pool.len() > ENOUGH_KEPT
 }
 
 // ---- what the groups say
@@ -104,18 +59,14 @@ pub fn has_enough(pool: &Pool, k: usize) -> bool
 pub fn smaller(a: Hints, choice: BusSet) -> Hints
     ensures { Smaller a (set_of choice) result }
 {
-    let size = busset::count(choice);
-    if a.apart > 0 {
-        if a.least <= size {
-            return a;
-        }
+    let size = choice.count();
+    if a.apart > 0 && a.least <= size {
+        return a;
     }
     Hints {
-        left: a.left,
         tries: choice,
         least: size,
-        used: a.used,
-        apart: a.apart,
+        ..a
     }
 }
 
@@ -125,13 +76,7 @@ pub fn shared(a: Hints, choice: BusSet, k: usize) -> Hints
     ensures { SaysBeside k a (set_of choice) result }
 {
     if k == 1 {
-        return Hints {
-            left: choice,
-            tries: a.tries,
-            least: a.least,
-            used: a.used,
-            apart: a.apart,
-        };
+        return Hints { left: choice, ..a };
     }
     a
 }
@@ -141,25 +86,18 @@ pub fn apart(a: Hints, choice: BusSet, k: usize) -> Hints
     requires { (k ≤ width) × (a.apart ≤ k) × (meet (set_of choice) (set_of a.used) ≡ empty) }
     ensures { SaysBeside k a (set_of choice) result }
 {
-    let used = busset::union(a.used, choice);
-    let count = a.apart + 1;
-    if count == k {
-        let left = busset::both(a.left, used);
+    let used = a.used.union(choice);
+    let apart = a.apart + 1;
+    if apart == k {
+        let left = a.left.both(used);
         return Hints {
-            left: left,
-            tries: a.tries,
-            least: a.least,
-            used: used,
-            apart: count,
+            left,
+            used,
+            apart,
+            ..a
         };
     }
-    Hints {
-        left: a.left,
-        tries: a.tries,
-        least: a.least,
-        used: used,
-        apart: count,
-    }
+    Hints { used, apart, ..a }
 }
 
 // A group that the units do not meet: a cover has one of its sites that are left. If none is left, it says that more
@@ -168,8 +106,8 @@ pub fn with_group(a: Hints, group: BusSet, k: usize) -> Hints
     requires { (k ≤ width) × (a.apart ≤ k) }
     ensures { SaysMore k a (set_of group) result }
 {
-    let choice = busset::both(group, a.left);
-    if busset::is_none(choice) {
+    let choice = group.both(a.left);
+    if choice.is_none() {
         return Hints {
             left: choice,
             tries: choice,
@@ -179,7 +117,7 @@ pub fn with_group(a: Hints, group: BusSet, k: usize) -> Hints
         };
     }
     let b = smaller(a, choice);
-    if busset::is_none(busset::both(choice, b.used)) {
+    if choice.both(b.used).is_none() {
         return apart(b, choice, k);
     }
     shared(b, choice, k)
@@ -190,7 +128,7 @@ pub fn ask(a: Hints, group: BusSet, units: BusSet, k: usize) -> Hints
     requires { (k ≤ width) × (a.apart ≤ k) }
     ensures { SaysUnmet k a (set_of group) (set_of units) result }
 {
-    if busset::is_none(busset::both(group, units)) {
+    if group.both(units).is_none() {
         return with_group(a, group, k);
     }
     a
@@ -199,27 +137,21 @@ pub fn ask(a: Hints, group: BusSet, units: BusSet, k: usize) -> Hints
 // What the kept groups say of a cover by the units and at most k of the sites. It stops where more than k are apart.
 pub fn ask_kept(pool: &Pool, units: BusSet, sites: BusSet, k: usize) -> Hints
     requires { k ≤ width }
-    ensures { (v : ℕ) → size v ≤ k → Sub v (set_of sites) → MeetsKept pool.now (set_of units) v
+    ensures { (v : ℕ) → size v ≤ k → Sub v (set_of sites) → MeetsKept pool.now.items (set_of units) v
         → Says result v }
 {
     let mut a = Hints {
         left: sites,
         tries: sites,
         least: 0,
-        used: busset::none(),
+        used: BusSet::none(),
         apart: 0,
     };
-    let mut i: usize = 0;
-    while i < MOST_KEPT {
-        let group = group_at(pool, i);
-        if busset::is_none(group) {
-            return a;
-        }
+    for &group in pool.iter() {
         a = ask(a, group, units, k);
         if a.apart > k {
             return a;
         }
-        i += 1;
     }
     a
 }

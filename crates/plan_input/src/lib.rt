@@ -2,70 +2,59 @@
 #![tactic(auto)]
 
 ghost use Rattle.std.specs.Prelude.{◌≡◌};
-ghost use Rattle.text_field.specs.Split.{after};
-ghost use Rattle.plan_input.specs.Asking.{plan_fields, budget_of, unasked, read_plan};
+ghost use Rattle.text_field.specs.Split.{after, tab};
+ghost use Rattle.plan_input.specs.Asking.{plan_fields, budget_of, read_plan};
 
-use case_read::CaseRead;
+use case_line::one_number;
+use case_read::read_text;
+use grid::Case;
 use grid::limits::MOST_BYTES;
 use refusals::Refusal;
-use text_field::{Numeral, piece_end};
+use text_field::{next_field, next_line, piece_end};
 
 // The budget of `plan` alone.
 pub const DEFAULT_BUDGET: usize = 3;
 
-// What an input asks: the fewest of a case within a budget, which is 0 where the input is refused.
+// What an input asks: the fewest of a case within a budget.
 #[derive(Clone, Copy)]
 pub struct Asked {
     pub budget: usize,
-    pub read: CaseRead,
-}
-
-fn not_asked(q: Refusal) -> Asked
-    ensures { result ≡ unasked q }
-{
-    Asked {
-        budget: 0,
-        read: case_read::refusal(q),
-    }
+    pub case: Case,
 }
 
 // The budget in the fields that follow the word, which ends at `at`.
-fn plan_fields(line: &[u8], at: usize) -> Numeral
-    ensures { result ≡ plan_fields (after 9 line.now at) }
+#[tactic(auto, unfolding(crate::specs::Asking::plan_fields, case_line::specs::Fields::if_one_field))]
+fn plan_fields(line: &[u8], at: usize) -> Option<usize>
+    ensures { result ≡ plan_fields (after tab line.now at) }
 {
-    if line.len() <= at {
-        return Numeral::Is(DEFAULT_BUDGET);
+    match next_field(line, at) {
+        None => Some(DEFAULT_BUDGET),
+        Some(_) => one_number(line, at),
     }
-    case_line::one_number(line, at)
 }
 
 // The budget that the first line says.
-fn budget_of(line: &[u8]) -> Numeral
+#[tactic(auto, unfolding(crate::specs::Asking::budget_of))]
+fn budget_of(line: &[u8]) -> Option<usize>
     ensures { result ≡ budget_of line.now }
 {
-    let e = piece_end(line, 0, b'\t');
-    if !text_field::is_same(&line[0..e], b"plan") {
-        return Numeral::Wrong;
+    let end = piece_end(line, 0, b'\t');
+    match &line[..end] {
+        b"plan" => plan_fields(line, end),
+        _ => None,
     }
-    plan_fields(line, e)
 }
 
 // What the input asks.
-pub fn read_plan(input: &[u8]) -> Asked
+#[tactic(auto, unfolding(crate::specs::Asking::read_plan, case_read::specs::Reading::read_text))]
+pub fn read_plan(input: &[u8]) -> Result<Asked, Refusal>
     ensures { result ≡ read_plan input.now }
 {
     if MOST_BYTES < input.len() {
-        return not_asked(Refusal::TextTooLong);
+        return Err(Refusal::TextTooLong);
     }
-    let e = piece_end(input, 0, b'\n');
-    if input.len() <= e {
-        return not_asked(Refusal::WrongForm(1));
-    }
-    match budget_of(&input[0..e]) {
-        Numeral::Is(budget) => {
-            let read = case_read::read_text(input, e + 1, 2);
-            Asked { budget, read }
-        }
-        Numeral::Wrong => not_asked(Refusal::WrongForm(1)),
-    }
+    let (line, next) = next_line(input, 0).ok_or(Refusal::WrongForm(1))?;
+    let budget = budget_of(line).ok_or(Refusal::WrongForm(1))?;
+    let case = read_text(input, next, 2)?;
+    Ok(Asked { budget, case })
 }

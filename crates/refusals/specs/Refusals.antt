@@ -1,5 +1,5 @@
 -- Refusals: the number and place of each, and the order in which a call gives them.
-use Rattle.std.specs.Prelude.{◌≡◌, List, [], ◌∷◌, ◌⊎◌, ℕ}
+use Rattle.std.specs.Prelude.{◌≡◌, List, [], ◌∷◌, ◌⊎◌, ℕ, Result, Ok, Err}
 use Rattle.refusals.specs.declared.Refusal.{Refusal}
 use Rattle.refusals.specs.declared.Refusal.TheVariants.{TextTooLong, WrongForm, OutOfRange, OutOfOrder, InvalidCase, NoRoom}
 use Rattle.refusals.specs.declared.Refusal.TheVariants.{NoSuchBus, AlreadyObserved, ReasonFails}
@@ -65,3 +65,8 @@ Passed (q ∷ qs) = q.wants × Passed qs
 abbrev pub Failed : List Check → Refusal → Type 0
 Failed [] r = ⊥
 Failed (q ∷ qs) r = ((q.wants → ⊥) × Is q.number q.place r) ⊎ (q.wants × Failed qs r)
+
+-- nothing more, if every condition holds; or the refusal of the first that fails
+abbrev pub CheckedBy : List Check → Result (Unit {0}) Refusal → Type 0
+CheckedBy qs (Ok u) = Passed qs
+CheckedBy qs (Err r) = Failed qs r

@@ -3,8 +3,9 @@
 
 ghost use Rattle.std.specs.Prelude.{◌≡◌};
 ghost use Rattle.refusals.specs.Refusals.{number_of, place_of};
+ghost use Rattle.refusals.specs.declared.ReplayError.TheVariants.{List};
 
-#[derive(Clone, Copy)]
+#[derive(Clone, Copy, PartialEq, Eq)]
 pub enum Refusal {
     TextTooLong,
     WrongForm(usize),
@@ -21,49 +22,60 @@ pub enum Refusal {
     NotJoined,
 }
 
-// What a call that writes bytes answers: how many it wrote, or a refusal.
-#[derive(Clone, Copy)]
-pub enum Written {
-    Bytes(usize),
-    Refused(Refusal),
-}
+impl Refusal {
+    pub fn number(self) -> u32
+        ensures { result ≡ number_of self }
+    {
+        match self {
+            Refusal::TextTooLong => 1,
+            Refusal::WrongForm(_) => 2,
+            Refusal::OutOfRange(_) => 3,
+            Refusal::OutOfOrder(_) => 4,
+            Refusal::InvalidCase => 5,
+            Refusal::NoRoom => 6,
+            Refusal::NoSuchBus(_) => 7,
+            Refusal::AlreadyObserved(_) => 8,
+            Refusal::ReasonFails(_) => 9,
+            Refusal::OverBudget(_) => 10,
+            Refusal::NoCover => 11,
+            Refusal::TooManySteps(_) => 12,
+            Refusal::NotJoined => 13,
+        }
+    }
 
-pub fn number(r: Refusal) -> u32
-    ensures { result ≡ number_of r }
-{
-    match r {
-        Refusal::TextTooLong => 1,
-        Refusal::WrongForm(_) => 2,
-        Refusal::OutOfRange(_) => 3,
-        Refusal::OutOfOrder(_) => 4,
-        Refusal::InvalidCase => 5,
-        Refusal::NoRoom => 6,
-        Refusal::NoSuchBus(_) => 7,
-        Refusal::AlreadyObserved(_) => 8,
-        Refusal::ReasonFails(_) => 9,
-        Refusal::OverBudget(_) => 10,
-        Refusal::NoCover => 11,
-        Refusal::TooManySteps(_) => 12,
-        Refusal::NotJoined => 13,
+    pub fn place(self) -> usize
+        ensures { result ≡ place_of self }
+    {
+        match self {
+            Refusal::TextTooLong => 0,
+            Refusal::WrongForm(line) => line,
+            Refusal::OutOfRange(line) => line,
+            Refusal::OutOfOrder(line) => line,
+            Refusal::InvalidCase => 0,
+            Refusal::NoRoom => 0,
+            Refusal::NoSuchBus(step) => step,
+            Refusal::AlreadyObserved(step) => step,
+            Refusal::ReasonFails(step) => step,
+            Refusal::OverBudget(line) => line,
+            Refusal::NoCover => 0,
+            Refusal::TooManySteps(line) => line,
+            Refusal::NotJoined => 0,
+        }
     }
 }
 
-pub fn place(r: Refusal) -> usize
-    ensures { result ≡ place_of r }
-{
-    match r {
-        Refusal::TextTooLong => 0,
-        Refusal::WrongForm(line) => line,
-        Refusal::OutOfRange(line) => line,
-        Refusal::OutOfOrder(line) => line,
-        Refusal::InvalidCase => 0,
-        Refusal::NoRoom => 0,
-        Refusal::NoSuchBus(step) => step,
-        Refusal::AlreadyObserved(step) => step,
-        Refusal::ReasonFails(step) => step,
-        Refusal::OverBudget(line) => line,
-        Refusal::NoCover => 0,
-        Refusal::TooManySteps(line) => line,
-        Refusal::NotJoined => 0,
+// Why a step text is not replayed: its list is refused, or already the text.
+#[derive(Clone, Copy, PartialEq, Eq)]
+pub enum ReplayError {
+    List(Refusal),
+    Text(Refusal),
+}
+
+// A case or a list is refused as it is; only the step text's refusals are told apart.
+impl From<Refusal> for ReplayError {
+    ghost from_gives = { λ q e. e ≡ List q };
+
+    fn from(q: Refusal) -> ReplayError {
+        ReplayError::List(q)
     }
 }

@@ -1,4 +1,5 @@
 -- What the day report asks for is one text, and how long it is at most.
+use Rattle.std.specs.Prelude.{Result, Ok, Err}
 use mathlib.Core.Path.{◌≡◌, refl, sym, ap, ◌∙◌}
 use mathlib.Core.List.{List, [], ◌∷◌, ◌++◌}
 use Prim.Native.Nat.{ℕ, ◌≤◌}
@@ -18,8 +19,7 @@ use Rattle.text_field.specs.Number.{number_text}
 use Rattle.grid.specs.Cases.{grid_of, Valid}
 use Rattle.grid.specs.declared.Case.{Case}
 use Rattle.case_read.specs.Reading.{read_case}
-use Rattle.case_read.specs.declared.ReadAnswer.{ReadAnswer}
-use Rattle.case_read.specs.declared.ReadAnswer.TheVariants.{Read, Refused}
+use Rattle.refusals.specs.declared.Refusal.{Refusal}
 use Rattle.case_inverse.proofs.Answers.{read-good}
 use Rattle.report_lines.specs.Printing.{printed_line}
 use Rattle.report_lines.proofs.Printed.{refused_length}
@@ -37,11 +37,11 @@ report-unique c s t p q =
     p.is ∙ (λ i. day_text (size (sets i)) c.n (lists i) (size (alone i))) ∙ sym q.is
 
 pub day-unique : (text s t : List ℕ) → DayPrinted text s → DayPrinted text t → s ≡ t
-day-unique text s t = go (read_case text).answer (read_case text).case
+day-unique text s t = go (read_case text)
   where
-    go : (a : ReadAnswer) (c : Case) → DayFor a c s → DayFor a c t → s ≡ t
-    go Read c p q = report-unique c s t p q
-    go (Refused r) c p q = p ∙ sym q
+    go : (a : Result Case Refusal) → DayFor a s → DayFor a t → s ≡ t
+    go (Ok c) p q = report-unique c s t p q
+    go (Err r) p q = p ∙ sym q
 
 -- ---- how long it is
 
@@ -81,8 +81,8 @@ report-fits c t v p =
     )
 
 pub day-fits : (text t : List ℕ) → DayPrinted text t → length t ≤ day_room
-day-fits text t = go (read_case text).answer refl
+day-fits text t = go (read_case text) refl
   where
-    go : (a : ReadAnswer) → (read_case text).answer ≡ a → DayFor a (read_case text).case t → length t ≤ day_room
-    go Read e p = report-fits (read_case text).case t (read-good text (read_case text) refl e) p
-    go (Refused q) e p = omega (arith, ap length p, refused_length q)
+    go : (a : Result Case Refusal) → read_case text ≡ a → DayFor a t → length t ≤ day_room
+    go (Ok c) e p = report-fits c t (read-good text refl e) p
+    go (Err q) e p = omega (arith, ap length p, refused_length q)

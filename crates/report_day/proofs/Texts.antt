@@ -1,11 +1,11 @@
 -- The texts of a day report: the steps one after another, the verdict, and how long each is.
-use mathlib.Core.Path.{◌≡◌, refl, sym, ap, ◌∙◌, subst}
+use mathlib.Core.Path.{◌≡◌, refl, sym, ap, ◌∙◌}
 use mathlib.Core.List.{List, [], ◌∷◌, ◌++◌}
 use Prim.Native.Nat.{ℕ, zero, suc, ◌+◌, ◌*◌, ◌≤◌, ◌<◌}
 use native.Mathlib.Numerals.{add-one}
 use native.Mathlib.Omega.{arith}
 use lib.ListN.{length, drop, get_or, length-append, drop_of_length-le}
-use lib.Seq.{drop-cons, get_or-take, length-take-le, append_snoc}
+use lib.Seq.{drop-cons, append_snoc}
 use Rattle.busset.specs.Sets.{width}
 use Rattle.step.specs.declared.Step.{Step}
 use Rattle.rules.specs.Steps.{Names}
@@ -14,10 +14,6 @@ use Rattle.text_field.specs.Split.{join, bytes, line_feed}
 use Rattle.text_field.specs.Number.{most_digits, number_text}
 use Rattle.text_field.proofs.Digits.{text_length, text-two}
 use Rattle.step_line.specs.StepLine.{step_text}
-use Rattle.step.specs.Records.{no_step}
-use Rattle.list_value.specs.Lists.{nth_of, listed_steps}
-use Rattle.list_value.specs.declared.StepList.{StepList}
-use Rattle.list_value.proofs.Listing.{nth_in}
 use Rattle.text_put.specs.Put.{Put}
 use Rattle.report_lines.specs.Printing.{printed_line}
 use Rattle.step_line.proofs.StepLines.{step_length}
@@ -26,10 +22,10 @@ use Rattle.report_day.specs.Listing.{Named}
 
 -- ---- the steps
 
-each_at : (P : Step → Type 0) (xs : List Step) (i : ℕ) → Each P xs → i < length xs → P (get_or xs i no_step)
-each_at P [] i e h = absurd (omega arith)
-each_at P (x ∷ xs) zero e h = e.0
-each_at P (x ∷ xs) (suc i) e h = each_at P xs i e.1 (omega arith)
+each_at : (P : Step → Type 0) (xs : List Step) (i : ℕ) (d : Step) → Each P xs → i < length xs → P (get_or xs i d)
+each_at P [] i d e h = absurd (omega arith)
+each_at P (x ∷ xs) zero d e h = e.0
+each_at P (x ∷ xs) (suc i) d e h = each_at P xs i d e.1 (omega arith)
 
 steps_cons : (x : Step) (xs : List Step) → steps_text (x ∷ xs) ≡ (step_text x ++ line_feed ∷ []) ++ steps_text xs
 unfolding steps_text
@@ -46,36 +42,26 @@ steps_length (x ∷ xs) e =
     ))
 
 -- what is left to put after i steps
-unfoldable pub rest_steps : StepList → ℕ → List ℕ
-rest_steps l i = steps_text (drop i (listed_steps l))
+unfoldable pub rest_steps : List Step → ℕ → List ℕ
+rest_steps xs i = steps_text (drop i xs)
 
-module _ (l : StepList) (h : Named l) where
-  pub listed_length : length (listed_steps l) ≡ l.n
-  listed_length = length-take-le l.n l.steps (omega (arith, h.few, h.room))
+pub rest-first : (xs : List Step) → rest_steps xs 0 ≡ steps_text xs
+rest-first xs = unfold rest_steps in refl
 
-  nth_is : (i : ℕ) → i < l.n → get_or (listed_steps l) i no_step ≡ nth_of l i
-  nth_is i k = get_or-take l.n l.steps i no_step k ∙ nth_in l i (omega (arith, h.few))
+module _ (xs : List Step) (d : Step) (i : ℕ) (k : i < length xs) where
+  pub step_named : Named xs → Names width (get_or xs i d)
+  step_named h = each_at (Names width) xs i d h.named k
 
-  pub nth_named : (i : ℕ) (x : Step) → x ≡ nth_of l i → i < l.n → Names width x
-  nth_named i x e k =
-      subst (Names width) (nth_is i k ∙ sym e) (each_at (Names width) (listed_steps l) i h.named (omega (arith, listed_length)))
-
-  pub rest-first : rest_steps l 0 ≡ steps_text (listed_steps l)
-  rest-first = unfold rest_steps in refl
-
-  pub rest-next : (i : ℕ) (x : Step) → x ≡ nth_of l i → i < l.n → rest_steps l i ≡ (step_text x ++ line_feed ∷ []) ++ rest_steps l (i + 1)
+  pub rest-next : rest_steps xs i ≡ (step_text (get_or xs i d) ++ line_feed ∷ []) ++ rest_steps xs (i + 1)
   unfolding rest_steps
-  rest-next i x e k =
-      ap steps_text (drop-cons (listed_steps l) i no_step (omega (arith, listed_length)))
-      ∙ steps_cons (get_or (listed_steps l) i no_step) (drop (suc i) (listed_steps l))
-      ∙ rw (add-one i, nth_is i k, e) refl
+  rest-next = ap steps_text (drop-cons xs i d k) ∙ steps_cons (get_or xs i d) (drop (suc i) xs) ∙ rw (add-one i) refl
 
-  pub rest_all : (i : ℕ) → l.n ≤ i → rest_steps l i ≡ []
-  unfolding rest_steps steps_text
-  rest_all i k = ap steps_text (drop_of_length-le (listed_steps l) {i = i} (omega (arith, listed_length)))
+pub rest_all : (xs : List Step) (i : ℕ) → length xs ≤ i → rest_steps xs i ≡ []
+unfolding rest_steps steps_text
+rest_all xs i k = ap steps_text (drop_of_length-le xs {i = i} k)
 
-  pub list_length : length (steps_text (listed_steps l)) ≤ 13 * width
-  list_length = omega (arith, steps_length (listed_steps l) h.named, listed_length, h.few)
+pub list_length : (xs : List Step) → Named xs → length (steps_text xs) ≤ 13 * width
+list_length xs h = omega (arith, steps_length xs h.named, h.few)
 
 -- ---- the verdict
 

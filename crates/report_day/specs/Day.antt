@@ -1,5 +1,5 @@
 -- The day report: `observed count n`, the derivation's steps, `xv yes` or `xv no` followed by the number of unconfirmed units, and `end`.
-use Rattle.std.specs.Prelude.{◌≡◌, List, [], ◌∷◌, ◌++◌, ℕ, zero, suc, ◌+◌, ◌*◌}
+use Rattle.std.specs.Prelude.{◌≡◌, List, [], ◌∷◌, ◌++◌, ℕ, zero, suc, ◌+◌, ◌*◌, Result, Ok, Err}
 use Rattle.grid.specs.Limits.{most_buses}
 use Rattle.busset.specs.Sets.{size}
 use Rattle.step.specs.declared.Step.{Step}
@@ -11,10 +11,9 @@ use Rattle.text_field.specs.Number.{number_text}
 use Rattle.step_line.specs.StepLine.{step_text}
 use Rattle.grid.specs.declared.Case.{Case}
 use Rattle.refusals.specs.Calls.{Call}
+use Rattle.refusals.specs.declared.Refusal.{Refusal}
 use Rattle.grid.specs.Cases.{grid_of}
 use Rattle.case_read.specs.Reading.{read_case}
-use Rattle.case_read.specs.declared.ReadAnswer.{ReadAnswer}
-use Rattle.case_read.specs.declared.ReadAnswer.TheVariants.{Read, Refused}
 use Rattle.report_lines.specs.Printing.{printed_line, IsRefusedText, printing_call}
 
 -- ---- its lines
@@ -37,10 +36,6 @@ day_text count n steps alone =
     ++ (printed_line (bytes "xv") (verdict_fields alone)
     ++ printed_line (bytes "end") []))
 
--- t is that report
-abbrev pub IsDayText : ℕ → ℕ → List Step → ℕ → List ℕ → Type 0
-IsDayText count n steps alone t = t ≡ day_text count n steps alone
-
 -- the most bytes of a report: 13 for each step, and 28 for the other lines
 abbrev pub day_room : ℕ
 day_room = 28 + 13 * most_buses
@@ -58,13 +53,13 @@ pub record DayReport (c : Case) (t : List ℕ) : Type 0 where
   pub is : t ≡ day_text (size observed) c.n steps (size unconfirmed)
 
 -- by what reading says: the report of the case, or the refusal
-abbrev pub DayFor : ReadAnswer → Case → List ℕ → Type 0
-DayFor Read c t = DayReport c t
-DayFor (Refused q) c t = IsRefusedText q t
+abbrev pub DayFor : Result Case Refusal → List ℕ → Type 0
+DayFor (Ok c) t = DayReport c t
+DayFor (Err q) t = IsRefusedText q t
 
 -- t is what the day report prints for the case text
 abbrev pub DayPrinted : List ℕ → List ℕ → Type 0
-DayPrinted text t = DayFor (read_case text).answer (read_case text).case t
+DayPrinted text t = DayFor (read_case text) t
 
 -- `day_report`
 abbrev pub day_report_call : Call

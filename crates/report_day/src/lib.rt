@@ -1,68 +1,38 @@
 // The day report of a case text.
 #![tactic(auto)]
 
-ghost use Rattle.std.specs.Prelude.{◌≤◌};
-ghost use Rattle.busset.specs.Sets.{width};
-ghost use Rattle.grid.specs.Cases.{case_of, Valid};
-ghost use Rattle.list_value.specs.Lists.{listed_steps};
+ghost use Rattle.grid.specs.Cases.{Valid};
 ghost use Rattle.report_lines.specs.Printing.{Printed, PrintedReply};
-ghost use Rattle.report_day.specs.Day.{IsDayText, DayReport, DayPrinted};
-ghost use Rattle.report_day.specs.Listing.{Named};
+ghost use Rattle.report_day.specs.Day.{DayReport, DayPrinted};
 
 pub mod lines;
 
-use busset::BusSet;
-use case_read::ReadAnswer;
-use grid::Rows;
+use case_read::read_case;
+use grid::Case;
 use grid::limits::MOST_BUSES;
 use lines::put_day;
-use list_value::StepList;
-use refusals::{Refusal, Written};
-
-// The report of these steps, in the bytes lent.
-fn print_day(out: &mut [u8], n: usize, list: StepList, alone: usize) -> Written
-    requires { (n ≤ width) × Named list × (alone ≤ width) }
-    ensures { PrintedReply (IsDayText list.n n (listed_steps list) alone) out.old
-        out.new result }
-{
-    let mut none: [u8; 1] = [0];
-    if out.len() < put_day(&mut none, n, list, alone) {
-        return Written::Refused(Refusal::NoRoom);
-    }
-    let k = put_day(out, n, list, alone);
-    Written::Bytes(k)
-}
+use list_derive::derive;
+use place_confirm::unconfirmed;
+use refusals::Refusal;
+use report_lines::{print, print_refused};
 
 // The report of a case, in the bytes lent.
-fn report(
-    n: usize,
-    nbr: &Rows,
-    zero: BusSet,
-    site: BusSet,
-    units: BusSet,
-    out: &mut [u8],
-) -> Written
-    requires { Valid (case_of n nbr.now zero site units) }
-    ensures { PrintedReply (DayReport (case_of n nbr.now zero site units)) out.old
-        out.new result }
+fn report(case: &Case, out: &mut [u8]) -> Result<usize, Refusal>
+    requires { Valid case.now }
+    ensures { PrintedReply (DayReport case.now) out.old out.new result }
 {
-    let list = list_derive::derive(n, nbr, zero, units);
-    let alone = place_confirm::unconfirmed(n, nbr, units);
-    print_day(out, n, list, busset::count(alone))
+    let steps = derive(case);
+    let alone = unconfirmed(case).count();
+    print(out, |out| put_day(out, case.n, &steps, alone))
 }
 
 // The report of the case that the text says, or the line of its refusal, in the bytes lent.
-pub fn day_report(text: &[u8], out: &mut [u8]) -> Written
+pub fn day_report(text: &[u8], out: &mut [u8]) -> Result<usize, Refusal>
     ensures { PrintedReply (DayPrinted text.now) out.old out.new result }
 {
-    let read = case_read::read_case(text);
-    let answer = read.answer;
-    match answer {
-        ReadAnswer::Read => {
-            let case = read.case;
-            report(case.n, &case.nbr, case.zero, case.site, case.units, out)
-        }
-        ReadAnswer::Refused(q) => report_lines::print_refused(out, q),
+    match read_case(text) {
+        Ok(case) => report(&case, out),
+        Err(q) => print_refused(out, q),
     }
 }
 
@@ -73,9 +43,5 @@ pub const DAY_ROOM: usize = 28 + 13 * MOST_BUSES;
 pub fn program_report(text: &[u8], out: &mut [u8; DAY_ROOM]) -> usize
     ensures { Printed (DayPrinted text.now) out.old out.new result }
 {
-    let r = day_report(text, out);
-    match r {
-        Written::Bytes(count) => count,
-        Written::Refused(_) => 0,
-    }
+    day_report(text, out).unwrap_or(0)
 }

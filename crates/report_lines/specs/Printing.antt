@@ -1,12 +1,10 @@
 -- What the programs print, and what a call that prints into lent bytes promises.
-use Rattle.std.specs.Prelude.{◌≡◌, List, [], ◌∷◌, ◌++◌, ℕ, ◌≤◌, ◌<◌, length, drop}
+use Rattle.std.specs.Prelude.{◌≡◌, List, [], ◌∷◌, ◌++◌, ℕ, ◌≤◌, ◌<◌, length, drop, Result, Ok, Err}
 use Rattle.text_field.specs.Split.{join, bytes, tab, line_feed}
 use Rattle.text_field.specs.Number.{number_text}
 use Rattle.refusals.specs.Refusals.{number_of, place_of, Is, Check, check_that}
 use Rattle.refusals.specs.Calls.{Call, Refuses}
 use Rattle.refusals.specs.declared.Refusal.{Refusal}
-use Rattle.refusals.specs.declared.Written.{Written}
-use Rattle.refusals.specs.declared.Written.TheVariants.{Bytes, Refused}
 
 -- ---- lines
 
@@ -41,9 +39,9 @@ pub record NotPrinted (P : List ℕ → Type 0) (lent left : List ℕ) (r : Refu
   pub kept : left ≡ lent
 
 -- the text that P asks for is printed into the bytes lent
-abbrev pub PrintedReply : (List ℕ → Type 0) → List ℕ → List ℕ → Written → Type 0
-PrintedReply P lent left (Bytes k) = Printed P lent left k
-PrintedReply P lent left (Refused r) = NotPrinted P lent left r
+abbrev pub PrintedReply : (List ℕ → Type 0) → List ℕ → List ℕ → Result ℕ Refusal → Type 0
+PrintedReply P lent left (Ok k) = Printed P lent left k
+PrintedReply P lent left (Err r) = NotPrinted P lent left r
 
 -- ---- a call that prints
 
@@ -56,8 +54,8 @@ abbrev pub printing_call : (List ℕ → List ℕ → Type 0) → Call
 printing_call P = record {
   Input = List ℕ;
   Lent = List ℕ;
-  Reply = Written;
+  Reply = Result ℕ Refusal;
   promise = λ text lent left r. PrintedReply (P text) lent left r;
   checks = λ text lent. print_checks (P text) lent;
-  refuses = Refuses Refused;
+  refuses = Refuses Err;
 }

@@ -1,4 +1,5 @@
 -- How long what the planning program prints is: `fewest` with one digit, lines `pmu` with two digits each, and `end`.
+use Rattle.std.specs.Prelude.{Result, Ok, Err}
 use mathlib.Core.Path.{◌≡◌, refl, ap}
 use mathlib.Core.Bool.{Bool, true, false, cond}
 use mathlib.Core.List.{List, ◌∷◌}
@@ -19,14 +20,14 @@ use Rattle.case_line.specs.declared.Record.TheVariants.{Pmu}
 use Rattle.grid.specs.Cases.{Valid}
 use Rattle.grid.specs.declared.Case.{Case}
 use Rattle.case_line.specs.CaseText.{has, members, lines_text}
-use Rattle.case_read.specs.declared.ReadAnswer.{ReadAnswer}
-use Rattle.case_read.specs.declared.ReadAnswer.TheVariants.{Read, Refused}
+use Rattle.refusals.specs.declared.Refusal.{Refusal}
 use Rattle.case_inverse.proofs.Counts.{members-few}
 use Rattle.report_lines.proofs.Printed.{refused_length}
 use Rattle.report_plan.specs.Plan.{plan_text, plan_room, PlanReport, PlanFor, PlanPrinted}
 use Rattle.plan_input.specs.Asking.{read_plan}
+use Rattle.plan_input.specs.declared.Asked.{Asked}
 use Rattle.report_plan.specs.Plan.PlanReport.{found, none}
-use Rattle.plan_input.proofs.Inputs.{plan_valid}
+use Rattle.plan_input.proofs.Inputs.{asked_valid}
 
 one_line : (t : Bool) (k : ℕ) (rs : List Record) → k < 100 → length (lines_text rs) ≤ 7 * length rs →
     length (lines_text (cond t (Pmu k ∷ rs) rs)) ≤ 7 * length (cond t (Pmu k ∷ rs) rs)
@@ -54,9 +55,8 @@ report-fits c budget t v (none q p i) = omega (arith, ap length i, refused_lengt
 
 -- that is room for whatever is printed
 pub plan_fits : (input t : List ℕ) → PlanPrinted input t → length t ≤ plan_room
-plan_fits input t = go (read_plan input).read.answer refl
+plan_fits input t = go (read_plan input) refl
   where
-    go : (a : ReadAnswer) → (read_plan input).read.answer ≡ a → PlanFor a (read_plan input).read.case (read_plan input).budget t
-        → length t ≤ plan_room
-    go Read e p = report-fits (read_plan input).read.case (read_plan input).budget t (plan_valid input e) p
-    go (Refused q) e p = omega (arith, ap length p, refused_length q)
+    go : (r : Result Asked Refusal) → r ≡ read_plan input → PlanFor r t → length t ≤ plan_room
+    go (Ok a) e p = report-fits a.case a.budget t (asked_valid input e) p
+    go (Err q) e p = omega (arith, ap length p, refused_length q)

@@ -1,11 +1,12 @@
 -- What is printed for a case: the lines of the fewest, and the reply by what is found.
-use mathlib.Core.Path.{◌≡◌, subst, subst⁻¹}
+use mathlib.Core.Path.{◌≡◌}
 use mathlib.Core.Logic.{inl, inr}
 use mathlib.Core.List.{List, [], ◌∷◌}
 use Prim.Native.Nat.{ℕ, ◌≤◌, ◌<◌}
 use native.Mathlib.Omega.{arith}
 use Rattle.grid.specs.Limits.{most_budget}
-use Rattle.busset.specs.Sets.{Counted, width, set_of}
+use Rattle.busset.specs.Sets.{Counted, width}
+use Rattle.rules.specs.Placing.{SomeAddition, FewestSites}
 use Rattle.rules.proofs.Ordering.{fewest-some}
 use Rattle.text_field.specs.Split.{join, bytes, tab, line_feed}
 use Rattle.text_field.specs.Number.{number_text}
@@ -14,17 +15,11 @@ use Rattle.grid.specs.Cases.{grid_of}
 use Rattle.grid.specs.declared.Case.{Case}
 use Rattle.refusals.specs.declared.Refusal.TheVariants.{OverBudget, NoCover}
 use Rattle.refusals.proofs.Orders.{itself}
-use Rattle.place_fewest.specs.Answers.{FewestIs}
-use Rattle.place_fewest.specs.declared.Found.{Found}
-use Rattle.place_fewest.specs.declared.Found.TheVariants.{Sites, Nothing}
 use Rattle.case_line.specs.CaseText.{members, lines_text}
-use Rattle.case_read.specs.declared.ReadAnswer.{ReadAnswer}
-use Rattle.plan_input.specs.Asking.{read_plan}
-use Rattle.plan_input.specs.declared.Asked.{Asked}
 use Rattle.text_put.specs.Put.{Put}
 use Rattle.report_lines.specs.Printing.{printed_line, IsRefusedText}
 use Rattle.text_put.proofs.Putting.{put_then}
-use Rattle.report_plan.specs.Plan.{plan_text, IsPlanText, PlanReport, PlanFor, PlanPrinted}
+use Rattle.report_plan.specs.Plan.{plan_text, IsPlanText, PlanReport}
 use Rattle.report_plan.specs.Plan.PlanReport.{found, none}
 
 -- the lines of the fewest, put one after another
@@ -38,18 +33,10 @@ pub over-budget : {c : Case} {budget most : ℕ} → most ≡ most_budget c.n �
     → IsRefusedText (OverBudget 1) t → PlanReport c budget t
 over-budget m h t e = none (OverBudget 1) (inl ((λ l. omega arith), itself (OverBudget 1))) e
 
--- what the search says, by its answer
-module _ (c : Case) (budget : ℕ) {most : ℕ} {r : Found} (m : most ≡ most_budget c.n) (h : budget ≤ most)
-    (is : FewestIs (grid_of c) budget r) where
-  pub no_cover : r ≡ Nothing → (t : List ℕ) → IsRefusedText NoCover t → PlanReport c budget t
-  no_cover e t i = none NoCover (inr (omega arith, inl (rw e at is, itself NoCover))) i
+-- what the search says, within the limit
+module _ (c : Case) (budget : ℕ) {most : ℕ} (m : most ≡ most_budget c.n) (h : budget ≤ most) where
+  pub no_cover : (SomeAddition (grid_of c) budget → ⊥) → (t : List ℕ) → IsRefusedText NoCover t → PlanReport c budget t
+  no_cover missing t i = none NoCover (inr (omega arith, inl (missing, itself NoCover))) i
 
-  pub fewest_found : {m : ℕ} → r ≡ Sites m → (t : List ℕ) → IsPlanText c.n (set_of m) t → PlanReport c budget t
-  fewest_found e t i = let f = rw e at is in found _ (omega arith, (fewest-some f, tt)) f i
-
--- what is printed for what was read is what the input asks for
-pub plan_by : (x : List ℕ) {a : Asked} {r : ReadAnswer} → a ≡ read_plan x → a.read.answer ≡ r → (t : List ℕ)
-    → PlanFor r a.read.case a.budget t → PlanPrinted x t
-plan_by x {a} {r} is told t p =
-    subst (λ (b : Asked). PlanFor b.read.answer b.read.case b.budget t) is
-    (subst⁻¹ (λ (q : ReadAnswer). PlanFor q a.read.case a.budget t) told p)
+  pub fewest_found : {sites : ℕ} → FewestSites (grid_of c) budget sites → (t : List ℕ) → IsPlanText c.n sites t → PlanReport c budget t
+  fewest_found f t i = found _ (omega arith, (fewest-some f, tt)) f i

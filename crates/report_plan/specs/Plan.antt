@@ -1,5 +1,5 @@
 -- What the planning program prints.
-use Rattle.std.specs.Prelude.{◌≡◌, List, [], ◌∷◌, ◌++◌, ℕ, ◌+◌, ◌*◌, ◌≤◌}
+use Rattle.std.specs.Prelude.{◌≡◌, List, [], ◌∷◌, ◌++◌, ℕ, ◌+◌, ◌*◌, ◌≤◌, Result, Ok, Err}
 use Rattle.busset.specs.Sets.{size}
 use Rattle.rules.specs.Placing.{SomeAddition, FewestSites}
 use Rattle.text_field.specs.Split.{bytes}
@@ -12,10 +12,9 @@ use Rattle.grid.specs.Cases.{grid_of}
 use Rattle.refusals.specs.Refusals.{Check, check_that, Passed, Failed}
 use Rattle.refusals.specs.Calls.{Call}
 use Rattle.case_line.specs.CaseText.{members, lines_text}
-use Rattle.case_read.specs.declared.ReadAnswer.{ReadAnswer}
-use Rattle.case_read.specs.declared.ReadAnswer.TheVariants.{Read, Refused}
 use Rattle.report_lines.specs.Printing.{printed_line, IsRefusedText, printing_call}
 use Rattle.plan_input.specs.Asking.{read_plan}
+use Rattle.plan_input.specs.declared.Asked.{Asked}
 
 -- the budget is at most the grid's limit, or 10 at line 1; some addition within it covers, or 11
 abbrev pub plan_checks : Case → ℕ → List Check
@@ -41,13 +40,13 @@ pub data PlanReport (c : Case) (budget : ℕ) (t : List ℕ) : Type 0 where
   none : (q : Refusal) → Failed (plan_checks c budget) q → IsRefusedText q t → PlanReport c budget t
 
 -- by what reading says: the report, or the refusal
-abbrev pub PlanFor : ReadAnswer → Case → ℕ → List ℕ → Type 0
-PlanFor Read c budget t = PlanReport c budget t
-PlanFor (Refused q) c budget t = IsRefusedText q t
+abbrev pub PlanFor : Result Asked Refusal → List ℕ → Type 0
+PlanFor (Ok a) t = PlanReport a.case a.budget t
+PlanFor (Err q) t = IsRefusedText q t
 
 -- t is what the planning program prints for the input
 abbrev pub PlanPrinted : List ℕ → List ℕ → Type 0
-PlanPrinted input t = PlanFor (read_plan input).read.answer (read_plan input).read.case (read_plan input).budget t
+PlanPrinted input t = PlanFor (read_plan input) t
 
 -- `plan_report`
 abbrev pub plan_report_call : Call

@@ -1,4 +1,5 @@
 -- What the rounds report asks for is one text, and how long it is at most: every round adds a bus, and no bus is added twice.
+use Rattle.std.specs.Prelude.{Result, Ok, Err}
 use mathlib.Core.Path.{◌≡◌, refl, sym, ap, ◌∙◌}
 use mathlib.Core.List.{List, [], ◌∷◌, ◌++◌}
 use Prim.Native.Nat.{ℕ, suc, ◌+◌, ◌*◌, ◌≤◌}
@@ -20,37 +21,23 @@ use Rattle.text_field.proofs.Digits.{text-two}
 use Rattle.grid.specs.Cases.{grid_of, Valid}
 use Rattle.grid.specs.declared.Case.{Case}
 use Rattle.case_read.specs.Reading.{read_case}
-use Rattle.case_read.specs.declared.CaseRead.{CaseRead}
-use Rattle.case_read.specs.declared.ReadAnswer.{ReadAnswer}
-use Rattle.case_read.specs.declared.ReadAnswer.TheVariants.{Read, Refused}
-use Rattle.case_inverse.proofs.Answers.{read-good, read-says}
-use Rattle.round_list.specs.Rounds.{each_bus, HasRounds}
-use Rattle.round_list.specs.declared.RoundSets.{RoundSets}
+use Rattle.case_inverse.proofs.Answers.{read-good}
+use Rattle.refusals.specs.declared.Refusal.{Refusal}
+use Rattle.round_list.specs.Rounds.{each_bus}
 use Rattle.report_lines.specs.Printing.{printed_line}
 use Rattle.report_lines.proofs.Printed.{refused_length}
 use Rattle.report_rounds.specs.Rounds.{round_line, round_lines, rounds_text, rounds_room, RoundsReport, RoundsFor, RoundsPrinted}
 use Rattle.report_rounds.specs.Lines.{tabbed}
 use Rattle.report_rounds.proofs.Texts.{line-parts}
 
--- ---- the text of the rounds held
-
-pub reported : {c : Case} {l : RoundSets} (h : HasRounds (grid_of c) l) → RoundsReport c (rounds_text h.rounds)
-reported h = record { rounds = h.rounds; are = h.are; is = refl }
-
--- ---- what reading says
-
-module _ (text : List ℕ) (r : CaseRead) where
-  pub rounds_by : {a : ReadAnswer} → r ≡ read_case text → r.answer ≡ a → (t : List ℕ) → RoundsFor a r.case t → RoundsPrinted text t
-  rounds_by e told t p = read-says text r (λ (a : ReadAnswer) (c : Case). RoundsFor a c t) e told p
-
 -- ---- one text
 
 pub rounds-text-unique : (text s t : List ℕ) → RoundsPrinted text s → RoundsPrinted text t → s ≡ t
-rounds-text-unique text s t = go (read_case text).answer (read_case text).case
+rounds-text-unique text s t = go (read_case text)
   where
-    go : (a : ReadAnswer) (c : Case) → RoundsFor a c s → RoundsFor a c t → s ≡ t
-    go Read c p q = p.is ∙ ap rounds_text (rounds-unique (grid_of c) empty p.rounds q.rounds p.are q.are) ∙ sym q.is
-    go (Refused r) c p q = p ∙ sym q
+    go : (a : Result Case Refusal) → RoundsFor a s → RoundsFor a t → s ≡ t
+    go (Ok c) p q = p.is ∙ ap rounds_text (rounds-unique (grid_of c) empty p.rounds q.rounds p.are q.are) ∙ sym q.is
+    go (Err r) p q = p ∙ sym q
 
 -- ---- how long it is
 
@@ -115,8 +102,8 @@ report-fits c t v p =
     )
 
 pub rounds-fits : (text t : List ℕ) → RoundsPrinted text t → length t ≤ rounds_room
-rounds-fits text t = go (read_case text).answer refl
+rounds-fits text t = go (read_case text) refl
   where
-    go : (a : ReadAnswer) → (read_case text).answer ≡ a → RoundsFor a (read_case text).case t → length t ≤ rounds_room
-    go Read e p = report-fits (read_case text).case t (read-good text (read_case text) refl e) p
-    go (Refused q) e p = omega (arith, ap length p, refused_length q)
+    go : (a : Result Case Refusal) → read_case text ≡ a → RoundsFor a t → length t ≤ rounds_room
+    go (Ok c) e p = report-fits c t (read-good text refl e) p
+    go (Err q) e p = omega (arith, ap length p, refused_length q)

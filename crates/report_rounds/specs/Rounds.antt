@@ -1,5 +1,5 @@
 -- The rounds report: for each round `round`, its number and its buses, rising; then `end`.
-use Rattle.std.specs.Prelude.{◌≡◌, List, [], ◌∷◌, ◌++◌, ℕ, suc, ◌+◌, ◌*◌}
+use Rattle.std.specs.Prelude.{◌≡◌, List, [], ◌∷◌, ◌++◌, ℕ, suc, ◌+◌, ◌*◌, Result, Ok, Err}
 use Rattle.text_field.specs.Split.{bytes}
 use Rattle.text_field.specs.Number.{number_text}
 use Rattle.rules.specs.Rounds.{RoundsOf}
@@ -7,9 +7,8 @@ use Rattle.grid.specs.declared.Case.{Case}
 use Rattle.grid.specs.Limits.{most_buses}
 use Rattle.grid.specs.Cases.{grid_of}
 use Rattle.refusals.specs.Calls.{Call}
+use Rattle.refusals.specs.declared.Refusal.{Refusal}
 use Rattle.case_read.specs.Reading.{read_case}
-use Rattle.case_read.specs.declared.ReadAnswer.{ReadAnswer}
-use Rattle.case_read.specs.declared.ReadAnswer.TheVariants.{Read, Refused}
 use Rattle.report_lines.specs.Printing.{printed_line, IsRefusedText, printing_call}
 
 -- ---- its lines
@@ -45,13 +44,13 @@ pub record RoundsReport (c : Case) (t : List ℕ) : Type 0 where
   pub is : t ≡ rounds_text rounds
 
 -- by what reading says: the report of the case, or the refusal
-abbrev pub RoundsFor : ReadAnswer → Case → List ℕ → Type 0
-RoundsFor Read c t = RoundsReport c t
-RoundsFor (Refused q) c t = IsRefusedText q t
+abbrev pub RoundsFor : Result Case Refusal → List ℕ → Type 0
+RoundsFor (Ok c) t = RoundsReport c t
+RoundsFor (Err q) t = IsRefusedText q t
 
 -- t is what the rounds report prints for the case text
 abbrev pub RoundsPrinted : List ℕ → List ℕ → Type 0
-RoundsPrinted text t = RoundsFor (read_case text).answer (read_case text).case t
+RoundsPrinted text t = RoundsFor (read_case text) t
 
 -- `rounds_report`
 abbrev pub rounds_report_call : Call

@@ -7,35 +7,29 @@ ghost use Rattle.report_rounds.specs.Rounds.{RoundsReport, RoundsPrinted};
 
 pub mod lines;
 
-use case_read::ReadAnswer;
+use case_read::read_case;
 use grid::Case;
 use grid::limits::MOST_BUSES;
 use lines::put_report;
-use refusals::{Refusal, Written};
+use refusals::Refusal;
+use report_lines::{print, print_refused};
 
 // The report of a case, in the bytes lent.
-fn report(case: Case, out: &mut [u8]) -> Written
-    requires { Valid case }
-    ensures { PrintedReply (RoundsReport case) out.old out.new result }
+fn report(case: &Case, out: &mut [u8]) -> Result<usize, Refusal>
+    requires { Valid case.now }
+    ensures { PrintedReply (RoundsReport case.now) out.old out.new result }
 {
-    let list = round_list::rounds(case);
-    let mut none: [u8; 1] = [0];
-    if out.len() < put_report(&mut none, list) {
-        return Written::Refused(Refusal::NoRoom);
-    }
-    let k = put_report(out, list);
-    Written::Bytes(k)
+    let sets = round_list::rounds(case);
+    print(out, |out| put_report(out, &sets))
 }
 
 // The report of the case that the text says, or the line of its refusal, in the bytes lent.
-pub fn rounds_report(text: &[u8], out: &mut [u8]) -> Written
+pub fn rounds_report(text: &[u8], out: &mut [u8]) -> Result<usize, Refusal>
     ensures { PrintedReply (RoundsPrinted text.now) out.old out.new result }
 {
-    let read = case_read::read_case(text);
-    let answer = read.answer;
-    match answer {
-        ReadAnswer::Read => report(read.case, out),
-        ReadAnswer::Refused(q) => report_lines::print_refused(out, q),
+    match read_case(text) {
+        Ok(case) => report(&case, out),
+        Err(q) => print_refused(out, q),
     }
 }
 
@@ -46,9 +40,5 @@ pub const ROUNDS_ROOM: usize = 4 + 12 * MOST_BUSES;
 pub fn program_report(text: &[u8], out: &mut [u8; ROUNDS_ROOM]) -> usize
     ensures { Printed (RoundsPrinted text.now) out.old out.new result }
 {
-    let r = rounds_report(text, out);
-    match r {
-        Written::Bytes(count) => count,
-        Written::Refused(_) => 0,
-    }
+    rounds_report(text, out).unwrap_or(0)
 }

@@ -8,7 +8,7 @@ ghost use Rattle.report_rounds.specs.Rounds.{round_line, round_lines, rounds_tex
 ghost use Rattle.report_rounds.specs.Lines.{tabbed, buses_reach, line_reach};
 
 use busset::BusSet;
-use round_list::RoundSets;
+use text_put::{put_all, put_byte, put_tagged};
 
 // A tab and a number for each bus, rising.
 fn put_buses(out: &mut [u8], at: usize, r: BusSet) -> usize
@@ -17,11 +17,8 @@ fn put_buses(out: &mut [u8], at: usize, r: BusSet) -> usize
         → Put out.old at (each_bus tabbed buses) out.new result) }
 {
     let mut k = at;
-    let mut left = r;
-    while !busset::is_none(left) {
-        let b = busset::lowest(left);
-        k = text_put::put_tagged(out, k, b"\t", b);
-        left = busset::without(left, b);
+    for b in r {
+        k = put_tagged(out, k, b"\t", b);
     }
     k
 }
@@ -32,31 +29,30 @@ fn put_round(out: &mut [u8], at: usize, i: usize, r: BusSet) -> usize
     ensures { (result ≤ at + line_reach) × ((buses : List ℕ) → HoldsBuses r buses
         → Put out.old at (round_line i buses) out.new result) }
 {
-    let a = text_put::put_tagged(out, at, b"round\t", i);
+    let a = put_tagged(out, at, b"round\t", i);
     let b = put_buses(out, a, r);
-    text_put::put_byte(out, b, 10)
+    put_byte(out, b, b'\n')
 }
 
 // A line for each round, from the first byte on.
-fn put_rounds(out: &mut [u8], list: RoundSets) -> usize
-    requires { (rounds : List (List ℕ)) × HeldRounds list rounds }
-    ensures { (result ≤ line_reach * most_buses) × ((rounds : List (List ℕ)) → HeldRounds list rounds
+fn put_rounds(out: &mut [u8], sets: &[BusSet]) -> usize
+    requires { (rounds : List (List ℕ)) × HeldRounds sets.now rounds }
+    ensures { (result ≤ line_reach * most_buses) × ((rounds : List (List ℕ)) → HeldRounds sets.now rounds
         → Put out.old 0 (round_lines 1 rounds) out.new result) }
 {
-    let sets = list.sets;
-    let mut k: usize = 0;
-    for i in 0..list.count {
-        k = put_round(out, k, i + 1, sets[i]);
+    let mut k = 0;
+    for (i, &r) in sets.iter().enumerate() {
+        k = put_round(out, k, i + 1, r);
     }
     k
 }
 
 // The whole report from the first byte on, and its length.
-pub fn put_report(out: &mut [u8], list: RoundSets) -> usize
-    requires { (rounds : List (List ℕ)) × HeldRounds list rounds }
-    ensures { (rounds : List (List ℕ)) → HeldRounds list rounds
+pub fn put_report(out: &mut [u8], sets: &[BusSet]) -> usize
+    requires { (rounds : List (List ℕ)) × HeldRounds sets.now rounds }
+    ensures { (rounds : List (List ℕ)) → HeldRounds sets.now rounds
         → Put out.old 0 (rounds_text rounds) out.new result }
 {
-    let a = put_rounds(out, list);
-    text_put::put_all(out, a, b"end\n")
+    let a = put_rounds(out, sets);
+    put_all(out, a, b"end\n")
 }

@@ -1,4 +1,5 @@
 -- The numbers of a round, and those of all rounds, round after round; and what the call replies.
+use Rattle.std.specs.Prelude.{Some, None}
 use mathlib.Core.Path.{◌≡◌, refl, sym, ap, ◌∙◌}
 use mathlib.Core.List.{List, [], ◌∷◌, ◌++◌}
 use Prim.Native.Nat.{ℕ, ◌+◌, ◌≤◌, ◌<◌}
@@ -7,13 +8,13 @@ use native.Mathlib.Omega.{arith}
 use lib.ListN.{length, get_or, drop, drop_of_length-le}
 use lib.Seq.{drop-cons}
 use Rattle.busset.specs.Sets.{empty}
-use Rattle.text_put.specs.Put.{Put}
-use Rattle.text_put.proofs.Whole.{put_whole, put_count}
+use Rattle.busset.specs.Held.{SetWord}
+use Rattle.text_put.specs.Put.{PutWhole}
 use Rattle.rules.proofs.Rounds.{rounds-unique}
 use Rattle.grid.specs.declared.Case.{Case}
 use Rattle.grid.specs.Cases.{grid_of}
-use Rattle.round_list.specs.Rounds.{each_bus, HeldRounds, HasRounds}
-use Rattle.round_list.specs.declared.RoundSets.{RoundSets}
+use Rattle.round_list.specs.Rounds.{each_bus, HasRounds}
+use Rattle.round_calls.specs.declared.Listed.{Listed}
 use Rattle.round_calls.specs.Replies.{round_numbers, RoundsFit, RoundsWritten}
 
 -- ---- one round
@@ -42,28 +43,26 @@ pub rest_all : (rounds : List (List ℕ)) (i : ℕ) → length rounds ≤ i → 
 unfolding rest_numbers round_numbers
 rest_all rounds i l = ap round_numbers (drop_of_length-le rounds {i = i} l)
 
--- ---- the reply: what counts is what writes
+-- ---- the reply
 
-module _ (c : Case) {list : RoundSets} {k : ℕ} {lent left : List ℕ} (h : HasRounds (grid_of c) list)
-    (put : (rounds : List (List ℕ)) → HeldRounds list rounds → Put lent 0 (round_numbers rounds) left k) where
-  numbers : k ≡ length (round_numbers h.rounds)
-  numbers = put_count (put h.rounds h.held)
+module _ (c : Case) {sets : List SetWord} (h : HasRounds (grid_of c) sets) (room left : List ℕ) where
+  pub no_room : PutWhole (round_numbers h.rounds) room left None → RoundsFit c room → ⊥
+  no_room p all = omega (arith, p.0, all h.rounds h.are)
 
-  pub no_room : (room : List ℕ) → length room < k → RoundsFit c room → ⊥
-  no_room room l fits = omega (arith, numbers, fits h.rounds h.are)
-
-  pub has_room_lem : (room : List ℕ) → k ≤ length room → RoundsFit c room
-  has_room_lem room l rounds p =
+  fits : {k : ℕ} → PutWhole (round_numbers h.rounds) room left (Some k) → RoundsFit c room
+  fits w rounds p =
       let same = rounds-unique (grid_of c) empty rounds h.rounds p h.are in
-      omega (arith, numbers, ap (λ (r : List (List ℕ)). length (round_numbers r)) same)
+      omega (arith, w.0, ap (λ (r : List (List ℕ)). length (round_numbers r)) same)
 
-  pub rounds_written : RoundsFit c lent → RoundsWritten c lent left k list.count
-  rounds_written fits = record {
-    rounds = h.rounds;
-    are = h.are;
-    long = numbers;
-    many = sym h.held.count;
-    written =
-        put_whole (put h.rounds h.held) (fits h.rounds h.are)
-        ∙ ap (λ (i : ℕ). round_numbers h.rounds ++ drop i lent) (sym numbers);
-  }
+  pub rounds_written : {l : Listed} → PutWhole (round_numbers h.rounds) room left (Some l.numbers) → l.rounds ≡ length sets
+      → RoundsFit c room × RoundsWritten c room left l
+  rounds_written {l} w many = (
+    fits w,
+    record {
+      rounds = h.rounds;
+      are = h.are;
+      long = w.1;
+      many = many ∙ sym h.held.count;
+      written = w.2 ∙ ap (λ (i : ℕ). round_numbers h.rounds ++ drop i room) (sym w.1);
+    },
+  )

@@ -1,12 +1,12 @@
 -- The list of the rounds as numbers, and what the call that writes it promises.
-use Rattle.std.specs.Prelude.{◌≡◌, List, [], ◌∷◌, ◌++◌, ℕ, ◌≤◌, length, drop}
+use Rattle.std.specs.Prelude.{◌≡◌, List, [], ◌∷◌, ◌++◌, ℕ, ◌≤◌, length, drop, Result, Ok, Err}
 use Rattle.rules.specs.Rounds.{RoundsOf}
 use Rattle.grid.specs.declared.Case.{Case}
 use Rattle.grid.specs.Cases.{grid_of, Valid}
 use Rattle.refusals.specs.Refusals.{Check, check_that, Passed, Failed}
 use Rattle.refusals.specs.Calls.{Call, Refuses}
-use Rattle.round_calls.specs.declared.RoundsAnswer.{RoundsAnswer}
-use Rattle.round_calls.specs.declared.RoundsAnswer.TheVariants.{Listed, Refused}
+use Rattle.refusals.specs.declared.Refusal.{Refusal}
+use Rattle.round_calls.specs.declared.Listed.{Listed}
 
 -- for each round the number of its buses, then the buses
 unfoldable pub round_numbers : List (List ℕ) → List ℕ
@@ -22,25 +22,25 @@ abbrev pub rounds_checks : Case → List ℕ → List Check
 rounds_checks c room = check_that (Valid c) 5 0 ∷ check_that (RoundsFit c room) 6 0 ∷ []
 
 -- the list of the rounds, so many numbers and so many rounds, stands first in the room, and the rest of it stays
-pub record RoundsWritten (c : Case) (entry exit : List ℕ) (numbers count : ℕ) : Type 0 where
+pub record RoundsWritten (c : Case) (entry exit : List ℕ) (l : Listed) : Type 0 where
   pub rounds : List (List ℕ)
   pub are : RoundsOf (grid_of c) rounds
-  pub long : numbers ≡ length (round_numbers rounds)
-  pub many : count ≡ length rounds
-  pub written : exit ≡ round_numbers rounds ++ drop numbers entry
+  pub long : l.numbers ≡ length (round_numbers rounds)
+  pub many : l.rounds ≡ length rounds
+  pub written : exit ≡ round_numbers rounds ++ drop l.numbers entry
 
 -- the list, or a refusal, which leaves all of the room as it was
-abbrev pub RoundsReply : Case → List ℕ → List ℕ → RoundsAnswer → Type 0
-RoundsReply c entry exit (Listed numbers count) = Passed (rounds_checks c entry) × RoundsWritten c entry exit numbers count
-RoundsReply c entry exit (Refused r) = Failed (rounds_checks c entry) r × (exit ≡ entry)
+abbrev pub RoundsReply : Case → List ℕ → List ℕ → Result Listed Refusal → Type 0
+RoundsReply c entry exit (Ok l) = Passed (rounds_checks c entry) × RoundsWritten c entry exit l
+RoundsReply c entry exit (Err r) = Failed (rounds_checks c entry) r × (exit ≡ entry)
 
 -- `observed_rounds`
 abbrev pub observed_rounds_call : Call
 observed_rounds_call = record {
   Input = Case;
   Lent = List ℕ;
-  Reply = RoundsAnswer;
+  Reply = Result Listed Refusal;
   promise = λ c entry exit r. RoundsReply c entry exit r;
   checks = λ c room. rounds_checks c room;
-  refuses = Refuses Refused;
+  refuses = Refuses Err;
 }

@@ -1,11 +1,11 @@
 -- One round, bus after bus; and the rounds, one after another.
-use mathlib.Core.Path.{◌≡◌, refl, ap, ◌∙◌, subst, subst⁻¹}
+use mathlib.Core.Path.{◌≡◌, refl, ap, subst, subst⁻¹}
 use mathlib.Core.Logic.{⊎_elim}
 use mathlib.Core.List.{List, [], ◌∷◌, ◌++◌, append_assoc, append-nil}
 use Prim.Native.Nat.{ℕ, ◌+◌, ◌-◌, ◌≤◌, ◌<◌}
 use native.Mathlib.Omega.{arith}
-use lib.ListN.{length, get_or, set, length-set, length-append, get_or-append}
-use lib.Seq.{get_or-set_same, get_or-set_other, get_or_at}
+use lib.ListN.{length, get_or, length-append, get_or-append}
+use lib.Seq.{get_or_at}
 use Rattle.basics.proofs.Tests.{same_or, below_or}
 use Rattle.busset.specs.Sets.{Bus, bit, In, Within, Union, With, empty, size, set_of}
 use Rattle.busset.specs.Held.{SetWord, empty_word}
@@ -57,34 +57,31 @@ gathered-yes {g} {s} {new} {t} {b} h k w =
 pub gathered-no : {g : Grid} {s new b : ℕ} → Gathered g s new b → (Gives g s b → ⊥) → Gathered g s new (b + 1)
 gathered-no h none = gathered-more h (λ a i. i) (λ k. absurd (none k)) h.only
 
-pub gathered-all : {g : Grid} {s new b : ℕ} → Proper g → g.n + 1 ≤ b → Gathered g s new b → RoundSet g s new
-gathered-all v l h = record { all = λ a k. h.all a (omega (arith, (gives-bus v k).most)) k; only = h.only }
-
 pub gathered-to : {g : Grid} {s : ℕ} {v w : SetWord} {b : ℕ} → v ≡ w → Gathered g s (set_of w) b → Gathered g s (set_of v) b
 gathered-to {g} {s} {b = b} e h = subst⁻¹ (λ (x : SetWord). Gathered g s (set_of x) b) e h
 
 -- ---- the rounds
 
 -- the rounds so far reach s, and whatever rounds come from there on complete them
-pub record RoundsSoFar (g : Grid) (s : ℕ) (sets : List SetWord) (count : ℕ) : Type 0 where
+pub record RoundsSoFar (g : Grid) (s : ℕ) (sets : List SetWord) : Type 0 where
   pub rounds : List (List ℕ)
-  pub held : HeldRounds (record { count = count; sets = sets }) rounds
-  pub grown : count ≤ size s
+  pub held : HeldRounds sets rounds
+  pub grown : length sets ≤ size s
   pub within : Within g.n s
   pub whole : (later : List (List ℕ)) → RoundsFrom g s later → RoundsOf g (rounds ++ later)
 
-pub sofar-none : (g : Grid) {s : ℕ} {sets : List SetWord} → s ≡ empty → length sets ≡ most_buses → RoundsSoFar g s sets 0
-sofar-none g {s} e room = record {
+pub sofar-none : (g : Grid) {s : ℕ} {sets : List SetWord} → s ≡ empty → sets ≡ [] → RoundsSoFar g s sets
+sofar-none g {s} {sets} e none = let few : length sets ≡ 0 = ap length none in record {
   rounds = [];
-  held = record { count = refl; most = omega arith; room = room; each = λ i l. absurd (omega arith) };
+  held = record { count = omega arith; most = omega arith; each = λ i l. absurd (omega arith) };
   grown = omega arith;
   within = λ b h. absurd (omega (arith, ap (λ (t : ℕ). bit t b) e, bit-zero b));
   whole = λ later p. subst (λ (t : ℕ). RoundsFrom g t later) e p;
 }
 
 -- a round that adds no bus is the last, and is not listed
-pub sofar-all : {g : Grid} {s : ℕ} (new : SetWord) {sets : List SetWord} {count : ℕ} → RoundSet g s (set_of new) → set_of new ≡ empty
-    → RoundsSoFar g s sets count → HasRounds g (record { count = count; sets = sets })
+pub sofar-all : {g : Grid} {s : ℕ} (new : SetWord) {sets : List SetWord} → RoundSet g s (set_of new) → set_of new ≡ empty
+    → RoundsSoFar g s sets → HasRounds g sets
 sofar-all {g} {s} new r e a = record {
   rounds = a.rounds;
   are = subst (RoundsOf g) (append-nil a.rounds) (a.whole [] last);
@@ -129,43 +126,43 @@ module _ {g : Grid} {s : ℕ} (new : SetWord) (v : Proper g) (r : RoundSet g s (
   within w = placed_of 0 added.list s (rising-to 0 0 added.list (omega arith) (λ b l h. gives-bus v h) round.rising) w
 
   -- there is a place for it
-  pub sofar_place : {sets : List SetWord} {count : ℕ} → g.n ≤ most_buses → RoundsSoFar g s sets count → count < most_buses
+  pub sofar_place : {sets : List SetWord} → g.n ≤ most_buses → RoundsSoFar g s sets → length sets < most_buses
   sofar_place few a = omega (arith, a.grown, larger, size-most g.n (placed s added.list) (within a.within))
 
   -- and what it leaves is less
-  pub sofar_less : {t : ℕ} {sets : List SetWord} {count : ℕ} → g.n ≤ most_buses → Union s (set_of new) t → RoundsSoFar g s sets count
+  pub sofar_less : {t : ℕ} {sets : List SetWord} → g.n ≤ most_buses → Union s (set_of new) t → RoundsSoFar g s sets
       → most_buses - size t < most_buses - size s
   sofar_less few u a = omega (arith, ap size (after u), larger, size-most g.n (placed s added.list) (within a.within))
 
-  pub sofar_more : {t : ℕ} {sets : List SetWord} {count : ℕ} → g.n ≤ most_buses → Union s (set_of new) t → RoundsSoFar g s sets count
-      → RoundsSoFar g t (set sets count new) (count + 1)
-  sofar_more {t} {sets} {count} few u a = record {
+  pub sofar_more : {t : ℕ} {sets more : List SetWord} → g.n ≤ most_buses → Union s (set_of new) t → more ≡ sets ++ new ∷ []
+      → RoundsSoFar g s sets → RoundsSoFar g t more
+  sofar_more {t} {sets} few u e a = subst⁻¹ (RoundsSoFar g t) e (record {
     rounds = a.rounds ++ added.list ∷ [];
     held = record {
-      count = length-append a.rounds (added.list ∷ []) ∙ omega (arith, a.held.count);
-      most = omega (arith, place);
-      room = simp length-set a.held.room;
+      count = omega (arith, length-append a.rounds (added.list ∷ []), a.held.count, long);
+      most = omega (arith, sofar_place few a, long);
       each = each;
     };
-    grown = omega (arith, a.grown, larger, ap size (after u));
+    grown = omega (arith, a.grown, larger, ap size (after u), long);
     within = subst⁻¹ (Within g.n) (after u) (within a.within);
     whole = λ later p.
         subst⁻¹ (RoundsOf g) (append_assoc a.rounds (added.list ∷ []) later)
         (a.whole (added.list ∷ later) (round, adds, subst (λ (x : ℕ). RoundsFrom g x later) (after u) p));
-  }
+  })
     where
-      place : count < most_buses
-      place = sofar_place few a
+      long : length (sets ++ new ∷ []) ≡ length sets + 1
+      long = length-append sets (new ∷ [])
 
       HeldAt : ℕ → Type 0
-      HeldAt i = HoldsBuses (get_or (set sets count new) i empty_word) (get_or (a.rounds ++ added.list ∷ []) i [])
+      HeldAt i = HoldsBuses (get_or (sets ++ new ∷ []) i empty_word) (get_or (a.rounds ++ added.list ∷ []) i [])
 
-      each : (i : ℕ) → i < count + 1 → HeldAt i
+      each : (i : ℕ) → i < length (sets ++ new ∷ []) → HeldAt i
       each i l =
           ⊎_elim
-          (λ (e : i ≡ count). subst⁻¹ HeldAt e
-          (members-by (get_or-set_same sets count new empty_word (omega (arith, a.held.room, place)))
-          (get_or_at a.rounds added.list [] [] count a.held.count) added.members))
-          (λ (ne : i ≡ count → ⊥). members-by (get_or-set_other sets count i new empty_word ne)
-          (get_or-append a.rounds (added.list ∷ []) [] i (omega (arith, a.held.count, ne))) (a.held.each i (omega (arith, ne))))
-          (same_or i count)
+          (λ (e : i ≡ length sets). subst⁻¹ HeldAt e
+          (members-by (get_or_at sets new [] empty_word (length sets) refl)
+          (get_or_at a.rounds added.list [] [] (length sets) a.held.count) added.members))
+          (λ (ne : i ≡ length sets → ⊥). let m : i < length sets = omega (arith, ne, long) in
+          members-by (get_or-append sets (new ∷ []) empty_word i m)
+          (get_or-append a.rounds (added.list ∷ []) [] i (omega (arith, a.held.count))) (a.held.each i m))
+          (same_or i (length sets))

@@ -7,7 +7,6 @@ use Rattle.rules.specs.Steps.{Holds}
 use Rattle.rules.specs.Rounds.{Gives, AllRising, RoundsOf}
 use Rattle.step.specs.declared.Reason.{Reason}
 use Rattle.grid.specs.Limits.{most_buses}
-use Rattle.round_list.specs.declared.RoundSets.{RoundSets}
 
 -- some reason holds for bus b where s is observed
 pub record SomeReason (g : Grid) (s b : ℕ) : Type 0 where
@@ -28,15 +27,14 @@ unfoldable pub each_bus : (ℕ → List ℕ) → List ℕ → List ℕ
 each_bus piece [] = []
 each_bus piece (b ∷ buses) = piece b ++ each_bus piece buses
 
--- the first `count` words hold these rounds
-pub record HeldRounds (r : RoundSets) (rounds : List (List ℕ)) : Type 0 where
-  pub count : length rounds ≡ r.count
-  pub most : r.count ≤ most_buses
-  pub room : length r.sets ≡ most_buses
-  pub each : (i : ℕ) → i < r.count → HoldsBuses (get_or r.sets i empty_word) (get_or rounds i [])
+-- the words hold these rounds
+pub record HeldRounds (sets : List SetWord) (rounds : List (List ℕ)) : Type 0 where
+  pub count : length rounds ≡ length sets
+  pub most : length sets ≤ most_buses
+  pub each : (i : ℕ) → i < length sets → HoldsBuses (get_or sets i empty_word) (get_or rounds i [])
 
--- r holds the rounds of the grid
-pub record HasRounds (g : Grid) (r : RoundSets) : Type 0 where
+-- the words hold the rounds of the grid
+pub record HasRounds (g : Grid) (sets : List SetWord) : Type 0 where
   pub rounds : List (List ℕ)
   pub are : RoundsOf g rounds
-  pub held : HeldRounds r rounds
+  pub held : HeldRounds sets rounds

@@ -1,4 +1,5 @@
 -- The derivation: there is one at most, it is accepted and finished; so it reaches the observed set, with one step for each bus of it.
+use Rattle.std.specs.Prelude.{Option, Some, None}
 use mathlib.Core.Path.{◌≡◌, refl, sym, ap, ap₂, subst}
 use mathlib.Core.List.{List, [], ◌∷◌}
 use mathlib.Core.Logic.{inl, inr}
@@ -8,8 +9,6 @@ use native.Mathlib.Omega.{arith}
 use lib.ListN.{length}
 use Rattle.busset.specs.Sets.{add, size}
 use Rattle.step.specs.declared.Reason.{Reason}
-use Rattle.step.specs.declared.NamedBus.{NamedBus}
-use Rattle.step.specs.declared.NamedBus.TheVariants.{Nothing, Bus}
 use Rattle.step.specs.declared.Step.{Step}
 use Rattle.step.specs.Reasons.{named_by}
 use Rattle.step.proofs.Reasons.{reason-unique, same-letter}
@@ -19,11 +18,11 @@ use Rattle.rules.specs.Steps.{Holds, Allowed, reached_from, AcceptedFrom, reache
 use Rattle.rules.specs.Derivation.{NamesAtMost, TakenFirst, NextIs, DerivedFrom, finished, next, Derivation}
 use Rattle.rules.proofs.Lists.{finished-least, accepted_length}
 
-names_antisym : (x y : NamedBus) → NamesAtMost x y → NamesAtMost y x → x ≡ y
-names_antisym Nothing Nothing a b = refl
-names_antisym Nothing (Bus q) a b = absurd b
-names_antisym (Bus p) Nothing a b = absurd a
-names_antisym (Bus p) (Bus q) a b = ap Bus (le_antisymm a b)
+names_antisym : (x y : Option ℕ) → NamesAtMost x y → NamesAtMost y x → x ≡ y
+names_antisym None None a b = refl
+names_antisym None (Some q) a b = absurd b
+names_antisym (Some p) None a b = absurd a
+names_antisym (Some p) (Some q) a b = ap Some (le_antisymm a b)
 
 -- neither comes in an earlier turn: so they have one letter and name one bus, by which a reason is known
 before_antisym : (q r : Reason) → TakenFirst q r → TakenFirst r q → q ≡ r
@@ -66,24 +65,3 @@ pub derivation_length : (g : Grid) (xs : List Step) → Derivation g xs → leng
 derivation_length g xs d = accepted_length g xs (derived-accepted d).0
 
 -- ---- two grids in which the same reasons hold
-
-pub record SameReasons (g h : Grid) : Type 0 where
-  pub to : (s b : ℕ) (r : Reason) → Holds g s b r → Holds h s b r
-  pub from : (s b : ℕ) (r : Reason) → Holds h s b r → Holds g s b r
-
-allowed-from : {g h : Grid} {s : ℕ} {x : Step} → SameReasons g h → Allowed h s x → Allowed g s x
-allowed-from {s = s} {x = x} k a = record { new = a.new; holds = k.from s x.bus x.reason a.holds }
-
-pub finished-to : {g h : Grid} {s : ℕ} → SameReasons g h → Finished g s → Finished h s
-finished-to k f x a = f x (allowed-from k a)
-
-pub next-to : {g h : Grid} {s : ℕ} {x : Step} → SameReasons g h → NextIs g s x → NextIs h s x
-next-to {s = s} {x = x} k n = record {
-  allowed = record { new = n.allowed.new; holds = k.to s x.bus x.reason n.allowed.holds };
-  lowest = λ y a. n.lowest y (allowed-from k a);
-  first = λ y a e. n.first y (allowed-from k a) e;
-}
-
-pub derived-to : {g h : Grid} {s : ℕ} {xs : List Step} → SameReasons g h → DerivedFrom g s xs → DerivedFrom h s xs
-derived-to k (finished f) = finished (finished-to k f)
-derived-to k (next n d) = next (next-to k n) (derived-to k d)

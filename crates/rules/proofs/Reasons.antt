@@ -1,13 +1,12 @@
 -- The reasons: they go on holding in a larger set, and a set is closed under O1 and O2 exactly when it is closed under them.
 -- A later rule adds a case to each of these laws, and no other theorem names a reason.
+use Rattle.std.specs.Prelude.{Option, Some, None}
 use Prim.Native.Nat.{ℕ, ◌≤◌}
 use native.Mathlib.Omega.{arith}
 use Rattle.busset.specs.Sets.{Bus, In, Sub}
 use Rattle.busset.proofs.Members.{sub_of, bus-more}
 use Rattle.step.specs.declared.Reason.{Reason}
 use Rattle.step.specs.declared.Reason.TheVariants.{OwnUnit, NeighbourOf, ZeroInjection}
-use Rattle.step.specs.declared.NamedBus.{NamedBus}
-use Rattle.step.specs.declared.NamedBus.TheVariants.{Nothing, Bus as BusNamed}
 use Rattle.step.specs.declared.Step.{Step}
 use Rattle.step.specs.Reasons.{named_by}
 use Rattle.rules.specs.Grids.{Grid, with_sites_and_units, Proper}
@@ -67,9 +66,9 @@ holds-names g s b v (ZeroInjection w) h = (v.lines w b h.joined).from
 pub names_more : {n m : ℕ} {x : Step} → Names n x → n ≤ m → Names m x
 names_more {n} {m} {x} h l = record { bus = bus-more h.bus l; reason = go (named_by x.reason) h.reason }
   where
-    go : (b : NamedBus) → BusIfNamed n b → BusIfNamed m b
-    go Nothing q = tt
-    go (BusNamed p) q = bus-more q l
+    go : (b : Option ℕ) → BusIfNamed n b → BusIfNamed m b
+    go None q = tt
+    go (Some p) q = bus-more q l
 
 -- an allowed step names buses of the grid
 pub allowed-names : {g : Grid} {s : ℕ} {x : Step} → Proper g → Allowed g s x → Names g.n x

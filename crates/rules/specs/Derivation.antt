@@ -1,19 +1,17 @@
 -- The derivation: the one fixed finished list.
-use Rattle.std.specs.Prelude.{◌≡◌, List, [], ◌∷◌, ◌⊎◌, ℕ, ◌≤◌, ◌<◌}
+use Rattle.std.specs.Prelude.{◌≡◌, List, [], ◌∷◌, ◌⊎◌, ℕ, ◌≤◌, ◌<◌, Option, Some, None}
 use Rattle.busset.specs.Sets.{empty, add}
 use Rattle.step.specs.declared.Reason.{Reason}
-use Rattle.step.specs.declared.NamedBus.{NamedBus}
-use Rattle.step.specs.declared.NamedBus.TheVariants.{Nothing, Bus}
 use Rattle.step.specs.declared.Step.{Step}
 use Rattle.step.specs.Reasons.{named_by, turn_of}
 use Rattle.rules.specs.Grids.{Grid}
 use Rattle.rules.specs.Steps.{Allowed, Finished}
 
 -- of what two reasons name, the first is no bus, or a bus at most the second
-abbrev pub NamesAtMost : NamedBus → NamedBus → Type 0
-NamesAtMost Nothing y = Unit {0}
-NamesAtMost (Bus p) Nothing = ⊥
-NamesAtMost (Bus p) (Bus q) = p ≤ q
+abbrev pub NamesAtMost : Option ℕ → Option ℕ → Type 0
+NamesAtMost None y = Unit {0}
+NamesAtMost (Some p) None = ⊥
+NamesAtMost (Some p) (Some q) = p ≤ q
 
 -- the reason q is taken before r, or is r: O, else N with the lowest p, else Z with the lowest w
 abbrev pub TakenFirst : Reason → Reason → Type 0

@@ -1,10 +1,8 @@
 -- Steps: when a reason holds, when a step is allowed, and lists of steps.
-use Rattle.std.specs.Prelude.{List, [], ◌∷◌, ℕ}
+use Rattle.std.specs.Prelude.{List, [], ◌∷◌, ℕ, Option, Some, None}
 use Rattle.busset.specs.Sets.{Bus, In, Out, empty, add}
 use Rattle.step.specs.declared.Reason.{Reason}
 use Rattle.step.specs.declared.Reason.TheVariants.{OwnUnit, NeighbourOf, ZeroInjection}
-use Rattle.step.specs.declared.NamedBus.{NamedBus}
-use Rattle.step.specs.declared.NamedBus.TheVariants.{Nothing, Bus as BusNamed}
 use Rattle.step.specs.declared.Step.{Step}
 use Rattle.step.specs.Reasons.{named_by}
 use Rattle.rules.specs.Grids.{Grid}
@@ -36,9 +34,9 @@ pub record Allowed (g : Grid) (s : ℕ) (x : Step) : Type 0 where
   pub holds : Holds g s x.bus x.reason
 
 -- the bus that is named, if one is, is 1 to n
-abbrev pub BusIfNamed : ℕ → NamedBus → Type 0
-BusIfNamed n Nothing = Unit {0}
-BusIfNamed n (BusNamed b) = Bus n b
+abbrev pub BusIfNamed : ℕ → Option ℕ → Type 0
+BusIfNamed n None = Unit {0}
+BusIfNamed n (Some b) = Bus n b
 
 -- the bus that a reason names, if it names one, is 1 to n
 abbrev pub ReasonNames : ℕ → Reason → Type 0

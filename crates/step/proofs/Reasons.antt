@@ -1,5 +1,6 @@
 -- The reasons by their letters and turns: there and back, and what the reasons of one turn are.
 -- A later reason adds one line to each of `there_and_back`, `turn-letter` and `turn-most`, and one that says what its turn has.
+use Rattle.std.specs.Prelude.{Option, Some, None}
 use mathlib.Core.Path.{◌≡◌, refl, sym, ap, ◌∙◌}
 use Prim.Native.Nat.{ℕ, ◌<◌}
 use native.Mathlib.Omega.{arith}
@@ -8,27 +9,17 @@ use lib.ListN.{length, get_or}
 use Rattle.step.specs.Reasons.{letter_of, named_by, if_letter, reason_of, letters, turn_of}
 use Rattle.step.specs.declared.Reason.{Reason}
 use Rattle.step.specs.declared.Reason.TheVariants.{OwnUnit, NeighbourOf, ZeroInjection}
-use Rattle.step.specs.declared.NamedBus.{NamedBus}
-use Rattle.step.specs.declared.NamedBus.TheVariants.{Nothing, Bus}
-use Rattle.step.specs.declared.Given.{Given}
-use Rattle.step.specs.declared.Given.TheVariants.{Is, Wrong}
 
 -- ---- letters
 
-pub letter_hit : {l k : ℕ} (r : Reason) (other : Given) → k ≡ letter_of r → l ≡ k → Is r ≡ if_letter l r other
-letter_hit {l} {k} r other e h = rw (eq-eqb l (letter_of r) (h ∙ e))
-
-pub letter_miss : {l k : ℕ} (r : Reason) (other : Given) → k ≡ letter_of r → (l ≡ k → ⊥) → other ≡ if_letter l r other
-letter_miss {l} {k} r other e n = rw (ne_eqb l (letter_of r) (λ h. n (h ∙ sym e)))
-
-there_and_back : (r : Reason) → reason_of (letter_of r) (named_by r) ≡ Is r
+there_and_back : (r : Reason) → reason_of (letter_of r) (named_by r) ≡ Some r
 there_and_back OwnUnit = refl
 there_and_back (NeighbourOf p) = refl
 there_and_back (ZeroInjection w) = refl
 
 -- a reason is known by its letter and the bus that it names
 pub reason-unique : (q r : Reason) → letter_of q ≡ letter_of r → named_by q ≡ named_by r → q ≡ r
-reason-unique q r l b = let e : Is q ≡ Is r = sym (there_and_back q) ∙ rw (l, b) (there_and_back r) in cc
+reason-unique q r l b = let e : Some q ≡ Some r = sym (there_and_back q) ∙ rw (l, b) (there_and_back r) in cc
 
 -- ---- turns
 
@@ -59,29 +50,29 @@ pub record OfTurn (f : ℕ → Reason) (r : Reason) : Type 0 where
 
 -- the reasons f name a bus each, and no other reason has their turn
 pub record Naming (f : ℕ → Reason) : Type 0 where
-  pub names : (p : ℕ) → named_by (f p) ≡ Bus p
+  pub names : (p : ℕ) → named_by (f p) ≡ Some p
   pub turn : (p : ℕ) → turn_of (f p) ≡ turn_of (f 0)
   pub only : (r : Reason) → turn_of r ≡ turn_of (f 0) → OfTurn f r
 
-given-same : {q r : Reason} → Is q ≡ Is r → r ≡ q
+given-same : {q r : Reason} → Some q ≡ Some r → r ≡ q
 given-same e = cc
 
-given-wrong : {r : Reason} → Wrong ≡ Is r → ⊥
+given-wrong : {r : Reason} → None ≡ Some r → ⊥
 given-wrong e = let z : ◌≡◌ {A = ℕ} 0 1 = cc in omega arith
 
 -- what the turn of q has, by the bus that is named
-by_turn : (q r : Reason) → turn_of r ≡ turn_of q → reason_of (letter_of q) (named_by r) ≡ Is r
+by_turn : (q r : Reason) → turn_of r ≡ turn_of q → reason_of (letter_of q) (named_by r) ≡ Some r
 by_turn q r e = rw (← same-letter r q e) (there_and_back r)
 
-alone : (q : Reason) → reason_of (letter_of q) Nothing ≡ Is q → ((p : ℕ) → reason_of (letter_of q) (Bus p) ≡ Wrong) → Alone q
+alone : (q : Reason) → reason_of (letter_of q) None ≡ Some q → ((p : ℕ) → reason_of (letter_of q) (Some p) ≡ None) → Alone q
 alone q none some = record { only = λ r e. go r (named_by r) (by_turn q r e) }
   where
-    go : (r : Reason) (x : NamedBus) → reason_of (letter_of q) x ≡ Is r → r ≡ q
-    go r Nothing e = given-same (sym none ∙ e)
-    go r (Bus p) e = absurd (given-wrong (sym (some p) ∙ e))
+    go : (r : Reason) (x : Option ℕ) → reason_of (letter_of q) x ≡ Some r → r ≡ q
+    go r None e = given-same (sym none ∙ e)
+    go r (Some p) e = absurd (given-wrong (sym (some p) ∙ e))
 
-naming : (f : ℕ → Reason) → ((p : ℕ) → named_by (f p) ≡ Bus p) → ((p : ℕ) → letter_of (f p) ≡ letter_of (f 0))
-    → reason_of (letter_of (f 0)) Nothing ≡ Wrong → ((p : ℕ) → reason_of (letter_of (f 0)) (Bus p) ≡ Is (f p))
+naming : (f : ℕ → Reason) → ((p : ℕ) → named_by (f p) ≡ Some p) → ((p : ℕ) → letter_of (f p) ≡ letter_of (f 0))
+    → reason_of (letter_of (f 0)) None ≡ None → ((p : ℕ) → reason_of (letter_of (f 0)) (Some p) ≡ Some (f p))
     → Naming f
 naming f names letter none some = record {
   names = names;
@@ -89,9 +80,9 @@ naming f names letter none some = record {
   only = λ r e. go r (named_by r) (by_turn (f 0) r e);
 }
   where
-    go : (r : Reason) (x : NamedBus) → reason_of (letter_of (f 0)) x ≡ Is r → OfTurn f r
-    go r Nothing e = absurd (given-wrong (sym none ∙ e))
-    go r (Bus p) e = record { bus = p; is = given-same (sym (some p) ∙ e) }
+    go : (r : Reason) (x : Option ℕ) → reason_of (letter_of (f 0)) x ≡ Some r → OfTurn f r
+    go r None e = absurd (given-wrong (sym none ∙ e))
+    go r (Some p) e = record { bus = p; is = given-same (sym (some p) ∙ e) }
 
 pub own_turn : Alone OwnUnit
 own_turn = alone OwnUnit refl (λ p. refl)

@@ -1,12 +1,8 @@
 -- What each reason has: its letter, the bus that it names, its turn. `Holds` (rules, specs/Steps.antt) says when it holds.
-use Rattle.std.specs.Prelude.{cond, List, [], ◌∷◌, ℕ, suc, eqb}
+use Rattle.std.specs.Prelude.{cond, List, [], ◌∷◌, ℕ, suc, eqb, Option, Some, None}
 use Prim.Native.Char.{code}
 use Rattle.step.specs.declared.Reason.{Reason}
 use Rattle.step.specs.declared.Reason.TheVariants.{OwnUnit, NeighbourOf, ZeroInjection}
-use Rattle.step.specs.declared.NamedBus.{NamedBus}
-use Rattle.step.specs.declared.NamedBus.TheVariants.{Nothing, Bus}
-use Rattle.step.specs.declared.Given.{Given}
-use Rattle.step.specs.declared.Given.TheVariants.{Is, Wrong}
 
 -- the letter of a reason
 abbrev pub letter_of : Reason → ℕ
@@ -15,21 +11,21 @@ letter_of (NeighbourOf p) = code "N"
 letter_of (ZeroInjection w) = code "Z"
 
 -- the bus that it names, if it names one
-abbrev pub named_by : Reason → NamedBus
-named_by OwnUnit = Nothing
-named_by (NeighbourOf p) = Bus p
-named_by (ZeroInjection w) = Bus w
+abbrev pub named_by : Reason → Option ℕ
+named_by OwnUnit = None
+named_by (NeighbourOf p) = Some p
+named_by (ZeroInjection w) = Some w
 
 -- ---- the way back
 
 -- the reason r if l is its letter, else `other`
-abbrev pub if_letter : ℕ → Reason → Given → Given
-if_letter l r other = cond (eqb l (letter_of r)) (Is r) other
+abbrev pub if_letter : ℕ → Reason → Option Reason → Option Reason
+if_letter l r other = cond (eqb l (letter_of r)) (Some r) other
 
 -- the reason with the letter l that names this bus
-abbrev pub reason_of : ℕ → NamedBus → Given
-reason_of l Nothing = if_letter l OwnUnit Wrong
-reason_of l (Bus b) = if_letter l (NeighbourOf b) (if_letter l (ZeroInjection b) Wrong)
+abbrev pub reason_of : ℕ → Option ℕ → Option Reason
+reason_of l None = if_letter l OwnUnit None
+reason_of l (Some b) = if_letter l (NeighbourOf b) (if_letter l (ZeroInjection b) None)
 
 -- ---- the fixed order
 

@@ -6,9 +6,10 @@ ghost use Rattle.std.specs.Prelude.{◌≡◌};
 ghost use Rattle.step.specs.Reasons.{letter_of, named_by, if_letter, reason_of};
 
 // Why a bus is observed.
-#[derive(Clone, Copy)]
+#[derive(Clone, Copy, Default, PartialEq, Eq)]
 pub enum Reason {
     // A unit stands at the bus itself.
+    #[default]
     OwnUnit,
     // A unit stands at this bus, joined to the step's.
     NeighbourOf(usize),
@@ -16,67 +17,55 @@ pub enum Reason {
     ZeroInjection(usize),
 }
 
-#[derive(Clone, Copy)]
+#[derive(Clone, Copy, Default, PartialEq, Eq)]
 pub struct Step {
     pub bus: usize,
     pub reason: Reason,
 }
 
-// The bus that a reason names, if it names one.
-#[derive(Clone, Copy)]
-pub enum NamedBus {
-    Nothing,
-    Bus(usize),
-}
-
-// The reason that a letter and a named bus give.
-#[derive(Clone, Copy)]
-pub enum Given {
-    Is(Reason),
-    Wrong,
-}
-
-// The letter of a reason.
-pub fn letter(r: Reason) -> u8
-    ensures { result ≡ letter_of r }
-{
-    match r {
-        Reason::OwnUnit => b'O',
-        Reason::NeighbourOf(_) => b'N',
-        Reason::ZeroInjection(_) => b'Z',
+impl Reason {
+    // The reason with this letter that names this bus, if there is one.
+    pub fn of(letter: u8, bus: Option<usize>) -> Option<Reason>
+        ensures { result ≡ reason_of letter bus }
+    {
+        match bus {
+            None => Reason::OwnUnit.if_letter(letter, None),
+            Some(b) => {
+                let zero = Reason::ZeroInjection(b).if_letter(letter, None);
+                Reason::NeighbourOf(b).if_letter(letter, zero)
+            }
+        }
     }
-}
 
-// The bus that a reason names.
-pub fn named(r: Reason) -> NamedBus
-    ensures { result ≡ named_by r }
-{
-    match r {
-        Reason::OwnUnit => NamedBus::Nothing,
-        Reason::NeighbourOf(p) => NamedBus::Bus(p),
-        Reason::ZeroInjection(w) => NamedBus::Bus(w),
+    // This reason if the letter is its own, else `other`.
+    fn if_letter(self, letter: u8, other: Option<Reason>) -> Option<Reason>
+        ensures { result ≡ if_letter letter self other }
+    {
+        if letter == self.letter() {
+            return Some(self);
+        }
+        other
     }
-}
 
-// The reason r if l is its letter, else `other`.
-fn if_letter(l: u8, r: Reason, other: Given) -> Given
-    ensures { result ≡ if_letter l r other }
-{
-    if l == letter(r) {
-        return Given::Is(r);
+    // Its letter.
+    pub fn letter(self) -> u8
+        ensures { result ≡ letter_of self }
+    {
+        match self {
+            Reason::OwnUnit => b'O',
+            Reason::NeighbourOf(_) => b'N',
+            Reason::ZeroInjection(_) => b'Z',
+        }
     }
-    other
-}
 
-// The reason with the letter l that names this bus, or that there is none.
-pub fn reason_of(l: u8, bus: NamedBus) -> Given
-    ensures { result ≡ reason_of l bus }
-{
-    match bus {
-        NamedBus::Nothing => if_letter(l, Reason::OwnUnit, Given::Wrong),
-        NamedBus::Bus(b) => {
-            let zero = if_letter(l, Reason::ZeroInjection(b), Given::Wrong);
-            if_letter(l, Reason::NeighbourOf(b), zero)
+    // The bus that it names, if it names one.
+    pub fn named(self) -> Option<usize>
+        ensures { result ≡ named_by self }
+    {
+        match self {
+            Reason::OwnUnit => None,
+            Reason::NeighbourOf(p) => Some(p),
+            Reason::ZeroInjection(w) => Some(w),
         }
     }
 }

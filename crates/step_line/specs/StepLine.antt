@@ -1,14 +1,8 @@
 -- A line of a step text: `step bus O`, `step bus N p`, `step bus Z w` or `end`, with fields separated by one tab.
-use Rattle.std.specs.Prelude.{cond, List, [], ◌∷◌, ℕ}
+use Rattle.std.specs.Prelude.{cond, List, [], ◌∷◌, ℕ, Option, Some, None}
 use Rattle.text_field.specs.Split.{split, join, same, bytes, tab}
 use Rattle.text_field.specs.Number.{numeral_of, number_text}
-use Rattle.text_field.specs.declared.Numeral.{Numeral}
-use Rattle.text_field.specs.declared.Numeral.TheVariants.{Is as Number, Wrong as NoNumber}
 use Rattle.step.specs.declared.Reason.{Reason}
-use Rattle.step.specs.declared.NamedBus.{NamedBus}
-use Rattle.step.specs.declared.NamedBus.TheVariants.{Nothing, Bus}
-use Rattle.step.specs.declared.Given.{Given}
-use Rattle.step.specs.declared.Given.TheVariants.{Is as By, Wrong as NoReason}
 use Rattle.step.specs.declared.Step as step
 use Rattle.step.specs.Reasons.{letter_of, named_by, reason_of}
 use Rattle.case_line.specs.Fields.{if_no_field, one_number}
@@ -29,44 +23,49 @@ step_word_of f =
 -- ---- the fields of each line
 
 -- the reason with the letter l that names the bus of this number
-abbrev pub numbered_reason : ℕ → Numeral → Given
-numbered_reason l (Number b) = reason_of l (Bus b)
-numbered_reason l NoNumber = NoReason
+abbrev pub numbered_reason : ℕ → Option ℕ → Option Reason
+numbered_reason l None = None
+numbered_reason l (Some b) = reason_of l (Some b)
 
 -- the reason with the letter l: no field follows it, or the number of the bus that it names
-unfoldable pub lettered_fields : ℕ → List (List ℕ) → Given
-lettered_fields l [] = reason_of l Nothing
+unfoldable pub lettered_fields : ℕ → List (List ℕ) → Option Reason
+lettered_fields l [] = reason_of l None
 lettered_fields l (f ∷ fs) = numbered_reason l (one_number (f ∷ fs))
 
 -- the letter, which is one byte, and the fields after it
-abbrev pub by_letter : List ℕ → List (List ℕ) → Given
-by_letter [] fs = NoReason
+abbrev pub by_letter : List ℕ → List (List ℕ) → Option Reason
+by_letter [] fs = None
 by_letter (l ∷ []) fs = lettered_fields l fs
-by_letter (l ∷ m ∷ f) fs = NoReason
+by_letter (l ∷ m ∷ f) fs = None
 
 -- the fields after the bus
-unfoldable pub reason_fields : List (List ℕ) → Given
-reason_fields [] = NoReason
+unfoldable pub reason_fields : List (List ℕ) → Option Reason
+reason_fields [] = None
 reason_fields (f ∷ fs) = by_letter f fs
 
 -- a bus and its reason
-abbrev pub step_of : Numeral → Given → StepLine
-step_of (Number b) (By reason) = Step (record { bus = b; reason = reason })
-step_of (Number b) NoReason = Wrong
-step_of NoNumber given = Wrong
+abbrev pub step_of : Option ℕ → Option Reason → Option step.Step
+step_of (Some b) (Some reason) = Some (record { bus = b; reason = reason })
+step_of (Some b) None = None
+step_of None reason = None
 
 -- the fields after `step`
-unfoldable pub step_fields : List (List ℕ) → StepLine
-step_fields [] = Wrong
+unfoldable pub step_fields : List (List ℕ) → Option step.Step
+step_fields [] = None
 step_fields (b ∷ fs) = step_of (numeral_of b) (reason_fields fs)
 
 -- `end`, which no field follows
 abbrev pub end_fields : List (List ℕ) → StepLine
 end_fields = if_no_field Wrong End
 
+-- the line of a step, if there is one
+abbrev pub line_of : Option step.Step → StepLine
+line_of None = Wrong
+line_of (Some x) = Step x
+
 -- the word, and the fields after it
 abbrev pub by_step_word : StepWord → List (List ℕ) → StepLine
-by_step_word TheStep fs = step_fields fs
+by_step_word TheStep fs = line_of (step_fields fs)
 by_step_word EndWord fs = end_fields fs
 by_step_word OtherWord fs = Wrong
 
@@ -77,9 +76,9 @@ step_line_of l = by_step_word (step_word_of (split tab l).first) (split tab l).r
 -- ---- a step's text
 
 -- the number of the bus that is named, if one is
-abbrev pub named_texts : NamedBus → List (List ℕ)
-named_texts Nothing = []
-named_texts (Bus b) = number_text b ∷ []
+abbrev pub named_texts : Option ℕ → List (List ℕ)
+named_texts None = []
+named_texts (Some b) = number_text b ∷ []
 
 -- the fields of a reason
 abbrev pub reason_texts : Reason → List (List ℕ)

@@ -6,7 +6,7 @@ ghost use Rattle.text_field.specs.Split.{line_feed};
 ghost use Rattle.step_line.specs.StepLine.{step_text};
 ghost use Rattle.text_put.specs.Put.{Put};
 
-use step::{NamedBus, Step};
+use step::Step;
 
 // A step and its line feed.
 pub fn put_step(out: &mut [u8], at: usize, x: Step) -> usize
@@ -14,13 +14,12 @@ pub fn put_step(out: &mut [u8], at: usize, x: Step) -> usize
     ensures { Put out.old at (step_text x ++ line_feed ∷ []) out.new result }
 {
     let b = x.bus;
-    let reason = x.reason;
-    let l = step::letter(reason);
-    match step::named(reason) {
-        NamedBus::Nothing => {
+    let l = x.reason.letter();
+    match x.reason.named() {
+        None => {
             let a = text_put::put_tagged(out, at, b"step\t", b);
             text_put::put_all(out, a, &[b'\t', l, b'\n'])
         }
-        NamedBus::Bus(p) => text_put::put_pair(out, at, b"step\t", b, &[b'\t', l, b'\t'], p),
+        Some(p) => text_put::put_pair(out, at, b"step\t", b, &[b'\t', l, b'\t'], p),
     }
 }

@@ -1,31 +1,28 @@
 -- What replaying a step text promises.
-use Rattle.std.specs.Prelude.{◌≡◌, List, [], ◌∷◌, ◌++◌, ℕ, ◌+◌}
+use Rattle.std.specs.Prelude.{◌≡◌, List, [], ◌∷◌, ◌++◌, ℕ, ◌+◌, Result, Ok, Err}
 use Rattle.grid.specs.declared.Case.{Case}
 use Rattle.refusals.specs.declared.Refusal.{Refusal}
+use Rattle.refusals.specs.declared.ReplayError.{ReplayError}
+use Rattle.refusals.specs.declared.ReplayError.TheVariants as refused
 use Rattle.refusals.specs.Refusals.{number_of, place_of, Is, Check, check_that}
 use Rattle.refusals.specs.Calls.{Call}
-use Rattle.list_follow.specs.Replies.{replay_checks, ReplayReply}
 use Rattle.list_follow.specs.declared.Replayed.{Replayed}
-use Rattle.list_follow.specs.declared.Replayed.TheVariants as replayed
+use Rattle.list_follow.specs.Replies.{replay_checks, ReplayReply}
 use Rattle.step_text.specs.Steps.{read_steps, steps_of}
 use Rattle.step_text.specs.Checks.{step_text_checks}
-use Rattle.step_text.specs.declared.StepsRead.{StepsRead}
-use Rattle.step_text.specs.declared.StepsRead.TheVariants as read
-use Rattle.step_replay.specs.declared.TextReplayed.{TextReplayed}
-use Rattle.step_replay.specs.declared.TextReplayed.TheVariants.{Reached, Refused, Unread}
 
 -- replay's answer, of a text
-abbrev pub text_answer : Replayed → TextReplayed
-text_answer (replayed.Reached s finished) = Reached s finished
-text_answer (replayed.Refused q) = Refused q
+abbrev pub text_answer : Result Replayed Refusal → Result Replayed ReplayError
+text_answer (Ok r) = Ok r
+text_answer (Err q) = Err (refused.List q)
 
 -- by what reading says of the text: its steps are replayed, or its refusal is given
-abbrev pub TextReplayAt : Case → List ℕ → StepsRead → TextReplayed → Type 0
-TextReplayAt c text (read.Steps n) r = (a : Replayed) × ReplayReply c (steps_of text) a × (r ≡ text_answer a)
-TextReplayAt c text (read.Refused q) r = r ≡ Unread q
+abbrev pub TextReplayAt : Case → List ℕ → Result ℕ Refusal → Result Replayed ReplayError → Type 0
+TextReplayAt c text (Ok n) r = (a : Result Replayed Refusal) × ReplayReply c (steps_of text) a × (r ≡ text_answer a)
+TextReplayAt c text (Err q) r = r ≡ Err (refused.Text q)
 
 -- a step text that reads is replayed as the list of its steps; else its refusal is given
-abbrev pub TextReplayReply : Case → List ℕ → TextReplayed → Type 0
+abbrev pub TextReplayReply : Case → List ℕ → Result Replayed ReplayError → Type 0
 TextReplayReply c text r = TextReplayAt c text (read_steps text) r
 
 -- ---- the call
@@ -45,17 +42,17 @@ pub record IsUnread (number place : ℕ) (q : Refusal) : Type 0 where
   pub placed : place_of q ≡ place
 
 -- the reply is the refusal with this number and this place
-abbrev pub TextRefuses : TextReplayed → ℕ → ℕ → Type 0
-TextRefuses (Reached s finished) number place = ⊥
-TextRefuses (Refused q) number place = Is number place q
-TextRefuses (Unread q) number place = IsUnread number place q
+abbrev pub TextRefuses : Result Replayed ReplayError → ℕ → ℕ → Type 0
+TextRefuses (Ok r) number place = ⊥
+TextRefuses (Err (refused.List q)) number place = Is number place q
+TextRefuses (Err (refused.Text q)) number place = IsUnread number place q
 
 -- `replay_text`
 abbrev pub replay_text_call : Call
 replay_text_call = record {
   Input = Case × List ℕ;
   Lent = Unit {0};
-  Reply = TextReplayed;
+  Reply = Result Replayed ReplayError;
   promise = λ (c, text) before after r. TextReplayReply c text r;
   checks = λ (c, text) lent. text_replay_checks c text;
   refuses = TextRefuses;

@@ -1,4 +1,5 @@
 -- Where a step text is refused: no line is further down than the text has bytes.
+use Rattle.std.specs.Prelude.{Result, Ok, Err}
 use mathlib.Core.Path.{◌≡◌, refl, subst}
 use mathlib.Core.Bool.{Bool, true, false, cond}
 use mathlib.Core.List.{List, [], ◌∷◌}
@@ -17,22 +18,21 @@ use Rattle.refusals.specs.declared.Refusal.TheVariants.{TextTooLong, OutOfRange,
 use Rattle.refusals.specs.Refusals.{place_of}
 use Rattle.grid.specs.Limits.{most_steps, most_step_bytes}
 use Rattle.step_text.specs.Steps.{step_in_range, ended, line_said, step_lines, read_steps}
-use Rattle.step_text.specs.declared.StepsRead.{StepsRead}
-use Rattle.step_text.specs.declared.StepsRead.TheVariants.{Steps, Refused}
 
 -- a refusal has a place of at most m
-abbrev PlacedBy : ℕ → StepsRead → Type 0
-PlacedBy m (Steps n) = Unit {0}
-PlacedBy m (Refused q) = place_of q ≤ m
+abbrev PlacedBy : ℕ → Result ℕ Refusal → Type 0
+PlacedBy m (Ok n) = Unit {0}
+PlacedBy m (Err q) = place_of q ≤ m
 
 -- a step that is out of range, or one too many
-step-placed : (m k : ℕ) (a b : Bool) (on : StepsRead) → k ≤ m → PlacedBy m on
-    → PlacedBy m (cond a (cond b (Refused (TooManySteps k)) on) (Refused (OutOfRange k)))
+step-placed : (m k : ℕ) (a b : Bool) (on : Result ℕ Refusal) → k ≤ m → PlacedBy m on
+    → PlacedBy m (cond a (cond b (Err (TooManySteps k)) on) (Err (OutOfRange k)))
 step-placed m k true true on h p = h
 step-placed m k true false on h p = p
 step-placed m k false b on h p = h
 
-said-placed : (m k : ℕ) (r : StepLine) (on end : StepsRead) → k ≤ m → PlacedBy m on → PlacedBy m end → PlacedBy m (line_said r k on end)
+said-placed : (m k : ℕ) (r : StepLine) (on end : Result ℕ Refusal) → k ≤ m → PlacedBy m on → PlacedBy m end
+    → PlacedBy m (line_said r k on end)
 said-placed m k (StepOf x) on end h p q = step-placed m k (step_in_range x) (ltb most_steps k) on h p
 said-placed m k End on end h p q = q
 said-placed m k Wrong on end h p q = h
@@ -55,11 +55,11 @@ text-placed text = go (ltb most_step_bytes (length text)) refl
   where
     go : (b : Bool) → ltb most_step_bytes (length text) ≡ b
         → PlacedBy (1 + most_step_bytes)
-        (cond b (Refused TextTooLong) (step_lines 1 (split line_feed text).first (split line_feed text).rest))
+        (cond b (Err TextTooLong) (step_lines 1 (split line_feed text).first (split line_feed text).rest))
     go true e = omega arith
     go false e =
         lines-placed (1 + most_step_bytes) (split line_feed text).rest 1 (split line_feed text).first
         (omega (arith, ltb-false most_step_bytes (length text) e, rest-few line_feed text))
 
-pub steps-place : (text : List ℕ) (q : Refusal) → read_steps text ≡ Refused q → place_of q ≤ 1 + most_step_bytes
+pub steps-place : (text : List ℕ) (q : Refusal) → read_steps text ≡ Err q → place_of q ≤ 1 + most_step_bytes
 steps-place text q e = subst (PlacedBy (1 + most_step_bytes)) e (text-placed text)

@@ -1,9 +1,9 @@
 -- Reading a step text: `step bus O`, `step bus N p` or `step bus Z w`, line after line, then `end`.
+use Rattle.refusals.specs.declared.Refusal.{Refusal}
+use Rattle.std.specs.Prelude.{Option, Some, None, Result, Ok, Err}
 use Rattle.std.specs.Prelude.{Bool, true, cond, ◌&&◌, List, [], ◌∷◌, ℕ, ◌+◌, ◌-◌, ◌≤◌, ◌<◌, ◌≡◌, ltb, length, drop}
 use Rattle.text_field.specs.Split.{split, line_feed}
 use Rattle.step.specs.declared.Reason.{Reason}
-use Rattle.step.specs.declared.NamedBus.{NamedBus}
-use Rattle.step.specs.declared.NamedBus.TheVariants.{Nothing, Bus}
 use Rattle.step.specs.declared.Step.{Step}
 use Rattle.step.specs.Reasons.{named_by}
 use Rattle.step_line.specs.StepLine.{step_line_of}
@@ -12,15 +12,13 @@ use Rattle.step_line.specs.declared.StepLine.TheVariants.{Step as StepOf, End, W
 use Rattle.grid.specs.Limits.{most_buses, most_steps, most_step_bytes}
 use Rattle.refusals.specs.declared.Refusal.TheVariants.{TextTooLong, WrongForm, OutOfRange, TooManySteps}
 use Rattle.case_judge.specs.Judging.{is_bus}
-use Rattle.step_text.specs.declared.StepsRead.{StepsRead}
-use Rattle.step_text.specs.declared.StepsRead.TheVariants.{Steps, Refused}
 
 -- ---- one line
 
 -- the bus that is named, if one is, is 1 to 64; if not, refusal 3
-abbrev pub named_in_range : NamedBus → Bool
-named_in_range Nothing = true
-named_in_range (Bus b) = is_bus most_buses b
+abbrev pub named_in_range : Option ℕ → Bool
+named_in_range None = true
+named_in_range (Some b) = is_bus most_buses b
 
 -- the bus that a reason names, if it names one, is 1 to 64; if not, refusal 3
 abbrev pub reason_in_range : Reason → Bool
@@ -31,32 +29,28 @@ unfoldable pub step_in_range : Step → Bool
 step_in_range x = is_bus most_buses x.bus && reason_in_range x.reason
 
 -- after `end`, on line k, nothing follows: k - 1 steps were read
-abbrev pub ended : ℕ → List ℕ → List (List ℕ) → StepsRead
-ended k [] [] = Steps (k - 1)
-ended k [] (m ∷ ms) = Refused (WrongForm (k + 1))
-ended k (b ∷ l) ms = Refused (WrongForm (k + 1))
-
--- what is read where the line feed of `end`, on line k, is at index e
-abbrev pub ended_after : ℕ → List ℕ → ℕ → StepsRead
-ended_after k text e = ended k (split line_feed (drop (e + 1) text)).first (split line_feed (drop (e + 1) text)).rest
+abbrev pub ended : ℕ → List ℕ → List (List ℕ) → Result ℕ Refusal
+ended k [] [] = Ok (k - 1)
+ended k [] (m ∷ ms) = Err (WrongForm (k + 1))
+ended k (b ∷ l) ms = Err (WrongForm (k + 1))
 
 -- what is said of line k, which holds step k: 2 before 3 before 12
-abbrev pub line_said : StepLine → ℕ → StepsRead → StepsRead → StepsRead
-line_said (StepOf x) k on end = cond (step_in_range x) (cond (ltb most_steps k) (Refused (TooManySteps k)) on) (Refused (OutOfRange k))
+abbrev pub line_said : StepLine → ℕ → Result ℕ Refusal → Result ℕ Refusal → Result ℕ Refusal
+line_said (StepOf x) k on end = cond (step_in_range x) (cond (ltb most_steps k) (Err (TooManySteps k)) on) (Err (OutOfRange k))
 line_said End k on end = end
-line_said Wrong k on end = Refused (WrongForm k)
+line_said Wrong k on end = Err (WrongForm k)
 
 -- ---- line after line
 
 -- line k, and the pieces after its line feed; where there are none, its line feed is missing
-unfoldable pub step_lines : ℕ → List ℕ → List (List ℕ) → StepsRead
-step_lines k l [] = Refused (WrongForm k)
+unfoldable pub step_lines : ℕ → List ℕ → List (List ℕ) → Result ℕ Refusal
+step_lines k l [] = Err (WrongForm k)
 step_lines k l (m ∷ ms) = line_said (step_line_of l) k (step_lines (k + 1) m ms) (ended k m ms)
 
 -- a step text: how many steps it has, or its refusal
-unfoldable pub read_steps : List ℕ → StepsRead
+unfoldable pub read_steps : List ℕ → Result ℕ Refusal
 read_steps text =
-    cond (ltb most_step_bytes (length text)) (Refused TextTooLong)
+    cond (ltb most_step_bytes (length text)) (Err TextTooLong)
     (step_lines 1 (split line_feed text).first (split line_feed text).rest)
 
 -- ---- the steps

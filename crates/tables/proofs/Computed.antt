@@ -2,20 +2,13 @@
 use mathlib.Core.Path.{◌≡◌, refl}
 use mathlib.Core.List.{[], ◌∷◌}
 use Prim.Native.Nat.{ℕ}
-use lib.Count.{ones, ones_in}
-use Rattle.busset.specs.Sets.{add, lack, less, up_to, set_of}
-use Rattle.busset.specs.Held.{word_of, hold}
-use Rattle.rules.specs.Grids.{total}
 use Rattle.rules.specs.Observation.{ObservedSet}
-use Rattle.tables.proofs.Tests.{gap, is_one, above, within_test, given, sub_test}
-use Rattle.tables.proofs.Tests.{closed_test}
-use Rattle.grid.specs.Rows.{set_at, neighbours}
+use Rattle.tables.proofs.Words.{test_words}
 use Rattle.grid.specs.Cases.{Valid}
-use Rattle.tables.proofs.Drawn.{written_row, row_test, lines_test, valid_test, filled_passes}
+use Rattle.tables.proofs.Drawn.{valid_test, filled_passes}
 use Rattle.tables.specs.Starred.{Drawing, short_case, drawn_case, seven, path}
 use Rattle.tables.specs.Drawings.{set, drawn_grid, path_with, sweep, onward, leaf, lone, ring}
-use Rattle.tables.proofs.Deriving.{holds_test, accepted_test, least_test, least_passes, derived, pick, reason_for, reason_at, step_for}
-use Rattle.tables.proofs.Deriving.{pass_from, extended, derive}
+use Rattle.tables.proofs.Deriving.{least_test, least_passes, derived}
 
 -- a valid case, and the set that is observed in it
 pub record ObservedIn (d : Drawing) (s : ℕ) : Type 0 where
@@ -48,9 +41,7 @@ pub record Known : Type 0 where
   pub lone1 : ObservedIn lone (set (1 ∷ []))
 
 pub known : Known
-unfolding valid_test lines_test within_test row_test above least_test accepted_test holds_test closed_test sub_test is_one gap given total
-    neighbours hold word_of set_of up_to less lack add ones ones_in pick reason_for reason_at step_for pass_from extended derive set_at
-    written_row
+unfolding test_words
 known = record {
   none = observed (seven []) (set []) refl refl;
   at2 = observed (seven (2 ∷ [])) (set (1 ∷ 2 ∷ 3 ∷ [])) refl refl;

@@ -3,19 +3,16 @@ use mathlib.Core.Path.{◌≡◌, refl}
 use mathlib.Core.List.{List, [], ◌∷◌}
 use Prim.Native.Nat.{ℕ, ◌+◌}
 use native.Mathlib.Omega.{arith}
-use lib.Count.{ones, ones_in}
-use Rattle.busset.specs.Sets.{bit, meet, up_to, size, add, set_of, lack}
-use Rattle.busset.specs.Held.{word_of, hold}
+use Rattle.busset.specs.Sets.{bit, meet, size}
 use Rattle.busset.proofs.Members.{meet-at}
 use Rattle.busset.proofs.Sizes.{size-some}
 use Rattle.busset.proofs.Words.{set-zero}
-use Rattle.rules.specs.Grids.{total}
 use Rattle.rules.specs.Confirming.{Confirm, joined, share, UnconfirmedSet}
 use Rattle.rules.proofs.Choices.{unconfirmed-unique}
-use Rattle.tables.proofs.Tests.{gap, above, within_test, within_passes, given}
-use Rattle.tables.proofs.Sought.{confirm_test, alone_test, unconfirmed_test, unconfirmed_passes}
-use Rattle.grid.specs.Rows.{set_at, neighbours}
-use Rattle.tables.proofs.Drawn.{written_row, row_test, lines_test, valid_test, filled_passes}
+use Rattle.tables.proofs.Words.{case_words, search_words}
+use Rattle.tables.proofs.Tests.{within_test, within_passes}
+use Rattle.tables.proofs.Sought.{unconfirmed_test, unconfirmed_passes}
+use Rattle.tables.proofs.Drawn.{valid_test, filled_passes}
 use Rattle.tables.specs.Starred.{Drawing, word_with, short_case, seven}
 use Rattle.tables.proofs.Rows.{◌&◌}
 use Rattle.tables.specs.Tables.{AllRight}
@@ -28,7 +25,7 @@ strangers nbr a b e (joined j) = omega arith
 strangers nbr a b e (share c j k) = omega (arith, size-some (meet (nbr a) (nbr b)) c (let m = meet-at (nbr a) (nbr b) c in omega arith))
 
 pub confirm-right : AllRight tables.confirm_table
-unfolding meet neighbours hold word_of add set_of ones ones_in set_at
+unfolding case_words
 confirm-right =
     joined refl
     & joined refl
@@ -49,17 +46,15 @@ alone d bs v w e =
 
 -- no units, and a unit alone
 pub nobody : UnconfirmedSet (seven_grid []).neighbours (set []) (set [])
-unfolding valid_test lines_test within_test above row_test unconfirmed_test alone_test confirm_test gap given total meet up_to neighbours
-    hold word_of add set_of ones ones_in lack set_at written_row
+unfolding search_words
 nobody = alone (seven []) [] refl refl refl
 
 pub itself : UnconfirmedSet (seven_grid []).neighbours (set (3 ∷ [])) (set (3 ∷ []))
-unfolding valid_test lines_test within_test above row_test unconfirmed_test alone_test confirm_test gap given total meet up_to neighbours
-    hold word_of add set_of ones ones_in lack set_at written_row
+unfolding search_words
 itself = alone (seven (3 ∷ [])) (3 ∷ []) refl refl refl
 
 pub unconfirmed-right : AllRight tables.unconfirmed_table
-unfolding neighbours hold word_of add set_of set_at
+unfolding case_words
 unconfirmed-right =
     itself.only 3 refl
     & (λ h. h.none 4 refl (λ e. omega arith) (joined refl))
@@ -67,8 +62,7 @@ unconfirmed-right =
     & tt
 
 pub sets_right : AllRight tables.unconfirmed_set_table
-unfolding valid_test lines_test within_test above row_test unconfirmed_test alone_test confirm_test gap given total meet up_to neighbours
-    hold word_of add set_of ones ones_in lack set_at written_row
+unfolding search_words
 sets_right =
     nobody
     & itself

@@ -1,5 +1,7 @@
 -- Tests of reasons, of steps and of lists, which the checker computes: 0 where they pass.
 -- One more reason adds a clause here, and to no other proof of the tables.
+use Rattle.std.specs.Prelude.{Option, Some, None}
+use Rattle.std.specs.Int.{abs_diff}
 use mathlib.Core.Path.{◌≡◌, ap, ◌∙◌, subst, subst⁻¹}
 use mathlib.Core.List.{List, [], ◌∷◌}
 use mathlib.Core.Logic.{⊎_elim}
@@ -13,8 +15,6 @@ use Rattle.basics.proofs.Tests.{same_or, below_or}
 use Rattle.busset.proofs.Members.{in_or, less-here, less-there, less_sub}
 use Rattle.step.specs.declared.Reason.{Reason}
 use Rattle.step.specs.declared.Reason.TheVariants.{OwnUnit, NeighbourOf, ZeroInjection}
-use Rattle.step.specs.declared.NamedBus.{NamedBus}
-use Rattle.step.specs.declared.NamedBus.TheVariants.{Nothing, Bus as BusNamed}
 use Rattle.step.specs.declared.Step.{Step}
 use Rattle.step.specs.Reasons.{named_by}
 use Rattle.rules.specs.Grids.{Grid, Proper, total}
@@ -24,15 +24,15 @@ use Rattle.rules.specs.Derivation.{TakenFirst, NextIs, DerivedFrom, finished, ne
 use Rattle.rules.proofs.Firing.{others_in}
 use Rattle.rules.proofs.Lists.{accepted-inside}
 use Rattle.rules.proofs.Reasons.{holds-names, allowed-bus}
-use Rattle.tables.proofs.Tests.{total-none, total_pass, gap, gap-none, given, sub_test, sub_passes}
+use Rattle.tables.proofs.Tests.{total-none, total_pass, pick, given, given_passes, sub_test, sub_passes}
 use Rattle.tables.proofs.Tests.{bus_test, bus_passes, closed_test, closed_passes}
 
 -- ---- the buses that a step names
 
 -- what is named, if anything is, is a bus 1 to n
-abbrev pub named_test : ℕ → NamedBus → ℕ
-named_test n Nothing = 0
-named_test n (BusNamed b) = bus_test n b
+abbrev pub named_test : ℕ → Option ℕ → ℕ
+named_test n None = 0
+named_test n (Some b) = bus_test n b
 
 -- the step, in its bus and its reason, names buses 1 to n
 abbrev pub names_test : ℕ → Step → ℕ
@@ -41,9 +41,9 @@ names_test n x = bus_test n x.bus + named_test n (named_by x.reason)
 pub names_pass : (n : ℕ) (x : Step) → names_test n x ≡ 0 → Names n x
 names_pass n x e = record { bus = bus_passes n x.bus (omega arith); reason = go (named_by x.reason) (omega arith) }
   where
-    go : (b : NamedBus) → named_test n b ≡ 0 → BusIfNamed n b
-    go Nothing e = tt
-    go (BusNamed b) e = bus_passes n b e
+    go : (b : Option ℕ) → named_test n b ≡ 0 → BusIfNamed n b
+    go None e = tt
+    go (Some b) e = bus_passes n b e
 
 -- ---- a reason, and a list of steps
 
@@ -106,14 +106,14 @@ accepted_passes g s (x ∷ xs) v e = (
 
 -- s is the observed set, as the list xs derives it
 unfoldable pub least_test : Grid → List Step → ℕ → ℕ
-least_test g xs s = accepted_test g empty xs + gap (reached xs) s + closed_test g s
+least_test g xs s = accepted_test g empty xs + abs_diff (reached xs) s + closed_test g s
 
 pub least_passes : (g : Grid) (xs : List Step) (s : ℕ) → Proper g → least_test g xs s ≡ 0 → ObservedSet g s
 unfolding least_test
 least_passes g xs s v e = record {
   closed = closed_passes g s v (omega arith);
   least =
-      λ t cl. subst (λ (r : ℕ). Sub r t) (gap-none (reached xs) s (omega arith))
+      λ t cl. subst (λ (r : ℕ). Sub r t) (omega arith)
       (accepted-inside g t xs cl (accepted_passes g empty xs v (omega arith)));
 }
 
@@ -124,7 +124,7 @@ unfoldable pub reason_test : Grid → ℕ → ℕ → Reason → ℕ
 reason_test g s b OwnUnit = 1 - bit g.units b
 reason_test g s b (NeighbourOf p) = (1 - bit g.units p) + (1 - bit (g.neighbours p) b)
 reason_test g s b (ZeroInjection w) =
-    (1 - bit g.zeros w) + (1 - bit s w) + (1 - bit (g.neighbours w) b) + gap (size (lack (g.neighbours w) s)) 1
+    (1 - bit g.zeros w) + (1 - bit s w) + (1 - bit (g.neighbours w) b) + abs_diff (size (lack (g.neighbours w) s)) 1
 
 unfoldable pub allowed_test : Grid → ℕ → Step → ℕ
 allowed_test g s x = bit s x.bus + reason_test g s x.bus x.reason
@@ -138,7 +138,7 @@ reason_passes g s b (ZeroInjection w) o e = record {
   observed = omega arith;
   joined = omega arith;
   others =
-      others_in (g.neighbours w) s s b (gap-none (size (lack (g.neighbours w) s)) 1 (omega arith)) (λ a. omega arith) (omega arith) o;
+      others_in (g.neighbours w) s s b (omega arith) (λ a. omega arith) (omega arith) o;
 }
 
 pub allowed_passes : (g : Grid) (s : ℕ) (x : Step) → allowed_test g s x ≡ 0 → Allowed g s x
@@ -171,12 +171,6 @@ next_test g s x = allowed_test g s x + total (x.bus - 1) (no_reason g s) + no_so
 unfoldable pub derived_test : Grid → ℕ → List Step → ℕ
 derived_test g s [] = total g.n (no_reason g s)
 derived_test g s (x ∷ xs) = next_test g s x + derived_test g (add s x.bus) xs
-
--- what is wanted where the digit is 0
-given_out : (d x : ℕ) → d ≡ 0 → given (1 - d) x ≡ 0 → x ≡ 0
-unfolding given
-given_out zero x o e = e
-given_out (suc d) x o e = absurd (omega arith)
 
 -- a bus that is not below p
 not_below : (p q : ℕ) → 1 ≤ q → (Bus (p - 1) q → ⊥) → p ≤ q
@@ -224,7 +218,7 @@ module _ (g : Grid) (v : Proper g) where
   pub no-reason : (s b : ℕ) (r : Reason) → no_reason g s b ≡ 0 → Out s b → Holds g s b r → ⊥
   unfolding no_reason
   no-reason s b r e o =
-      let z = given_out (bit s b) ((1 - holds_test g s b OwnUnit) + no_unit g s b g.n + no_zero g s b g.n) o e in
+      let z = given_passes (1 - bit s b) ((1 - holds_test g s b OwnUnit) + no_unit g s b g.n + no_zero g s b g.n) (omega arith) e in
       none-holds (zeros_fail s b (units_fail s b (own_fails s b (omega arith)) (omega arith)) (omega arith)) r
 
   finished_passes : (s : ℕ) → total g.n (no_reason g s) ≡ 0 → Finished g s
@@ -257,11 +251,6 @@ module _ (g : Grid) (v : Proper g) where
   derived_passes s (x ∷ xs) e = next (next_passes s x (omega arith)) (derived_passes (add s x.bus) xs (omega arith))
 
 -- ---- a list that derives the observed set
-
--- x at 0, y elsewhere
-unfoldable pub pick : ℕ → ℕ → ℕ → ℕ
-pick zero x y = x
-pick (suc d) x y = y
 
 -- the reason that holds for b: 0 none, 1 its own unit, 2 + 2 p a neighbour, 3 + 2 w a zero injection
 unfoldable pub reason_for : Grid → ℕ → ℕ → ℕ → ℕ

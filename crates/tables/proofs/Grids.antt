@@ -4,19 +4,14 @@ use mathlib.Core.List.{List, [], ◌∷◌}
 use mathlib.Core.Logic.{inl, inr}
 use Prim.Native.Nat.{◌≤◌}
 use native.Mathlib.Omega.{arith}
-use lib.Count.{ones, ones_in}
-use Rattle.busset.specs.Sets.{add, lack, less, up_to, set_of}
-use Rattle.busset.specs.Held.{word_of, hold}
-use Rattle.rules.specs.Grids.{total}
-use Rattle.tables.proofs.Tests.{above, within_test}
+use Rattle.tables.proofs.Words.{case_words, test_words}
 use Rattle.refusals.specs.declared.Refusal.{Refusal}
 use Rattle.refusals.specs.declared.Refusal.TheVariants.{InvalidCase, OverBudget}
 use Rattle.grid.specs.Limits.{most_buses}
-use Rattle.grid.specs.Rows.{set_at, neighbours, circuits, with_bit, with_circuits, with_end, with_line}
 use Rattle.grid.specs.Cases.{Lines}
 use Rattle.refusals.specs.Refusals.{Check, check_that, Failed}
 use Rattle.refusals.proofs.Orders.{itself, failed-unique, failed_or_passed}
-use Rattle.tables.proofs.Drawn.{written_row, row_test, lines_test, valid_test, filled_passes}
+use Rattle.tables.proofs.Drawn.{filled_passes}
 use Rattle.estimator_reply.specs.Results.{code_of}
 use Rattle.tables.specs.Starred.{short_case, seven, path}
 use Rattle.tables.proofs.Rows.{◌&◌}
@@ -31,19 +26,19 @@ pub limits_right : grids.LimitsRight
 limits_right = refl
 
 pub neighbours-right : grids.NeighboursRight
-unfolding neighbours set_at
+unfolding case_words
 neighbours-right = refl
 
 pub parts-right : grids.GridPartsRight
-unfolding neighbours hold word_of add set_of set_at
+unfolding case_words
 parts-right = refl
 
 pub sums_right : grids.SumsRight
-unfolding total up_to neighbours hold word_of add set_of ones ones_in set_at
+unfolding case_words
 sums_right = refl
 
 pub circuits-right : grids.CircuitsRight
-unfolding circuits with_line with_end with_circuits with_bit set_at neighbours less lack hold word_of add set_of
+unfolding case_words
 circuits-right = refl
 
 pub table_right : refusals.RefusalTableRight
@@ -52,8 +47,7 @@ table_right = refl
 -- ---- which case values are valid
 
 pub valid-right : AllRight grids.valid_table
-unfolding valid_test lines_test within_test above row_test total lack less up_to written_row neighbours set_at circuits with_circuits
-    with_bit hold word_of add set_of ones ones_in
+unfolding test_words
 valid-right =
     filled_passes (short_case (seven (3 ∷ []))) refl
     & filled_passes (short_case path) refl
@@ -79,7 +73,7 @@ valid-right =
     & tt
 
 pub proper-right : AllRight grids.proper_table
-unfolding neighbours hold word_of add set_of set_at
+unfolding case_words
 proper-right =
     valid-right.0.proper
     & (λ v. omega (arith, (v.lines 1 2 refl).back))
@@ -87,8 +81,7 @@ proper-right =
     & tt
 
 pub lines-right : AllRight grids.line_table
-unfolding neighbours hold word_of add set_of valid_test lines_test within_test above row_test total lack up_to ones ones_in set_at
-    written_row
+unfolding test_words
 lines-right =
     pair_lines 1 2 refl
     & (λ l. omega (arith, l.back))

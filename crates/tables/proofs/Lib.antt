@@ -3,6 +3,7 @@ pub mod Listed
 pub mod Sought
 pub mod Drawn
 pub mod Rows
+pub mod Words
 pub mod Texts
 pub mod Readings
 pub mod Results

@@ -3,6 +3,7 @@ use mathlib.Core.Logic.{⊎_elim}
 use mathlib.Core.Path.{◌≡◌, sym, ap, ap₂, ◌∙◌, subst⁻¹}
 use Prim.Native.Nat.{ℕ, zero, suc, ◌≤◌, ◌<◌}
 use native.Mathlib.Omega.{arith}
+use Rattle.std.specs.Int.{abs_diff}
 use Rattle.busset.specs.Sets.{Bus, bit, In, Within, size, All}
 use Rattle.basics.proofs.Tests.{same_or, below_or}
 use Rattle.busset.proofs.Digits.{bit-zero}
@@ -11,7 +12,7 @@ use Rattle.busset.proofs.Sizes.{size-empty, size-add}
 use Rattle.busset.proofs.Members.{out_of}
 use Rattle.busset.proofs.Holding.{set-hold, hold-here, hold-there}
 use Rattle.rules.specs.Grids.{total}
-use Rattle.tables.proofs.Tests.{total-none, gap, gap-none}
+use Rattle.tables.proofs.Tests.{total-none}
 use Rattle.tables.specs.Starred.{word_with, buses_to}
 use Rattle.tables.specs.Drawings.{set}
 
@@ -47,7 +48,7 @@ size-buses (suc n) =
 
 -- an operation that gives 0 of two digits 0, where all buses are 1 to n: its digit at every bus, from those at 1 to n
 module _ (n : ℕ) (f : ℕ → ℕ → ℕ) (s t r : ℕ) (none : f 0 0 ≡ 0) (ws : Within n s) (wt : Within n t) (wr : Within n r)
-    (same : total n (λ b. gap (bit r b) (f (bit s b) (bit t b))) ≡ 0) where
+    (same : total n (λ b. abs_diff (bit r b) (f (bit s b) (bit t b))) ≡ 0) where
   outside : (b : ℕ) → (Bus n b → ⊥) → bit r b ≡ f (bit s b) (bit t b)
   outside b off =
       out_of r b (λ h. off (wr b h)) ∙ sym none ∙ ap₂ f (sym (out_of s b (λ h. off (ws b h)))) (sym (out_of t b (λ h. off (wt b h))))
@@ -57,6 +58,8 @@ module _ (n : ℕ) (f : ℕ → ℕ → ℕ) (s t r : ℕ) (none : f 0 0 ≡ 0) 
   by_bus (suc b) =
       ⊎_elim
       (λ (l : n < suc b). outside (suc b) (λ h. omega (arith, h.most)))
-      (λ (l : suc b ≤ n). gap-none (bit r (suc b)) (f (bit s (suc b)) (bit t (suc b)))
-      (total-none n (λ b. gap (bit r b) (f (bit s b) (bit t b))) same (suc b) (record { some = omega arith; most = l })))
+      (λ (l : suc b ≤ n). omega (
+        arith,
+        total-none n (λ b. abs_diff (bit r b) (f (bit s b) (bit t b))) same (suc b) (record { some = omega arith; most = l }),
+      ))
       (below_or n (suc b))

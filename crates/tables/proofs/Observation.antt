@@ -3,14 +3,11 @@ use mathlib.Core.Path.{◌≡◌, refl}
 use mathlib.Core.List.{[], ◌∷◌}
 use Prim.Native.Nat.{ℕ}
 use native.Mathlib.Omega.{arith}
-use lib.Count.{ones, ones_in}
-use Rattle.busset.specs.Sets.{In, Out, lack, size, add, set_of}
-use Rattle.busset.specs.Held.{word_of, hold}
-use Rattle.rules.specs.Grids.{Grid}
-use Rattle.rules.specs.Observation.{AllBut, O2, Closed, ObservedSet}
+use Rattle.busset.specs.Sets.{In, Out, lack, size}
+use Rattle.rules.specs.Observation.{AllBut, O2, Closed}
 use Rattle.rules.proofs.Firing.{fired-by, others_in}
 use Rattle.rules.proofs.Leasts.{least-unique, all_closed}
-use Rattle.grid.specs.Rows.{set_at, neighbours}
+use Rattle.tables.proofs.Words.{case_words, set_words}
 use Rattle.tables.specs.Starred.{path}
 use Rattle.tables.proofs.Rows.{◌&◌}
 use Rattle.tables.proofs.Computed.{known}
@@ -22,7 +19,7 @@ use Rattle.tables.specs.Observation as tables
 -- ---- the rules
 
 pub o1-right : AllRight tables.o1_table
-unfolding neighbours hold word_of add set_of set_at
+unfolding case_words
 o1-right =
     known.at3.least.closed.direct
     & (λ h. omega (arith, h.near 3 refl 2))
@@ -36,7 +33,7 @@ but_one : (m b s : ℕ) → (size (lack m s) ≡ 1) → In m b → Out s b → A
 but_one m b s e i o = others_in m s s b e (λ a. omega arith) i o
 
 pub all_but_right : AllRight tables.all_but_table
-unfolding lack hold word_of add set_of ones ones_in
+unfolding set_words
 all_but_right =
     but_one (set (2 ∷ 4 ∷ 7 ∷ [])) 7 (set (2 ∷ 4 ∷ [])) refl refl refl
     & (λ h. omega (arith, h 4 refl (λ e. omega arith)))
@@ -44,7 +41,7 @@ all_but_right =
     & tt
 
 pub fired-right : AllRight tables.fired_table
-unfolding lack hold word_of add set_of ones ones_in
+unfolding set_words
 fired-right =
     (λ h. omega (arith, h 1 refl (but_one (set (1 ∷ 3 ∷ [])) 1 (set (3 ∷ [])) refl refl refl)))
     & fired-by (set (1 ∷ 3 ∷ [])) (set (1 ∷ 3 ∷ [])) (λ e. omega arith)
@@ -54,11 +51,11 @@ fired-right =
 
 -- bus 2 of the seven asks for 1
 asks_1 : O2 (seven_grid []).neighbours (seven_grid []).zeros (set (2 ∷ 3 ∷ 4 ∷ 7 ∷ [])) → ⊥
-unfolding neighbours lack hold word_of add set_of ones ones_in set_at
+unfolding case_words
 asks_1 h = omega (arith, h 2 refl refl 1 refl (but_one (set (1 ∷ 3 ∷ [])) 1 (set (2 ∷ 3 ∷ 4 ∷ 7 ∷ [])) refl refl refl))
 
 pub o2-right : AllRight tables.o2_table
-unfolding neighbours lack hold word_of add set_of ones ones_in set_at
+unfolding case_words
 o2-right =
     asks_1
     & known.at3.least.closed.zeros.o2
@@ -73,11 +70,11 @@ o2-right =
 
 -- all seven buses satisfy the rules
 all-seven : Closed (seven_grid (3 ∷ [])) (set (1 ∷ 2 ∷ 3 ∷ 4 ∷ 5 ∷ 6 ∷ 7 ∷ []))
-unfolding hold word_of add set_of
+unfolding set_words
 all-seven = all_closed known.at3.valid.proper (all-buses 7)
 
 pub closed-right : AllRight tables.closed_table
-unfolding hold word_of add set_of
+unfolding set_words
 closed-right =
     known.at3.least.closed
     & all-seven
@@ -85,12 +82,8 @@ closed-right =
     & (λ h. omega (arith, h.direct.own 3 refl))
     & tt
 
--- another set than the observed one is not it
-other : (g : Grid) (s t : ℕ) → ObservedSet g s → (s ≡ t → ⊥) → ObservedSet g t → ⊥
-other g s t l ne h = ne (least-unique g s t l h)
-
 pub least-right : AllRight tables.observed_set_table
-unfolding hold word_of add set_of
+unfolding set_words
 least-right =
     known.none.least
     & known.at2.least
@@ -98,11 +91,11 @@ least-right =
     & known.at4.least
     & known.at14.least
     & known.path15.least
-    & other (seven_grid (3 ∷ [])) _ _ known.at3.least (λ e. omega arith)
+    & (λ h. omega (arith, least-unique (seven_grid (3 ∷ [])) _ _ known.at3.least h))
     & (λ h. asks_1 h.closed.zeros.o2)
-    & other (drawn_grid path) _ _ known.path15.least (λ e. omega arith)
-    & other (drawn_grid sweep) _ _ known.swept.least (λ e. omega arith)
+    & (λ h. omega (arith, least-unique (drawn_grid path) _ _ known.path15.least h))
+    & (λ h. omega (arith, least-unique (drawn_grid sweep) _ _ known.swept.least h))
     & known.swept.least
     & known.lone1.least
-    & other (drawn_grid lone) _ _ known.lone1.least (λ e. omega arith)
+    & (λ h. omega (arith, least-unique (drawn_grid lone) _ _ known.lone1.least h))
     & tt

@@ -1,49 +1,41 @@
 -- The tables of placing: the fewest and greedy are computed, and what is not them differs from them.
-use mathlib.Core.Path.{◌≡◌, refl, ap}
+use mathlib.Core.Path.{◌≡◌, refl}
 use mathlib.Core.List.{List, [], ◌∷◌}
 use mathlib.Core.Logic.{inl, inr}
 use Prim.Native.Nat.{ℕ, ◌+◌, ◌≤◌, ◌<◌}
 use native.Mathlib.Omega.{arith}
-use lib.Count.{ones, ones_in}
-use lib.ListN.{get_or}
-use Rattle.busset.specs.Sets.{add, lack, less, up_to, set_of}
-use Rattle.busset.specs.Held.{word_of, hold}
+use Rattle.busset.specs.Sets.{lack}
 use Rattle.busset.proofs.Members.{lack-at}
+use Rattle.tables.proofs.Words.{search_words, set_words}
 use Rattle.tables.proofs.Listed.{all-buses}
-use Rattle.rules.specs.Grids.{Grid, total}
-use Rattle.rules.specs.Placing.{Full, Covers, Free, placed, Addition, Before, Earlier, FewestSites, SomeAddition}
+use Rattle.rules.specs.Grids.{Grid}
+use Rattle.rules.specs.Placing.{Full, Covers, Free, placed, Addition, FewestSites, SomeAddition}
 use Rattle.rules.specs.Choosing.{WithSite, NoneAdds, GreedyList}
 use Rattle.rules.proofs.Choices.{best-unique, greedy-unique}
 use Rattle.rules.proofs.Covering.{covers-full, full-covers}
 use Rattle.rules.proofs.Leasts.{least-unique}
 use Rattle.rules.proofs.Ordering.{before_antisym, earlier_antisym, fewest-set-unique, fewest-some}
-use Rattle.tables.proofs.Tests.{gap, is_one, above, within_test, given, sub_test, closed_test}
-use Rattle.tables.proofs.Sought.{Sought, PlanIs}
-use Rattle.tables.proofs.Sought.{no_better, best_test, none_test, greedy_test, greedy_passes, none, some}
-use Rattle.tables.proofs.Sought.{sought_from, judge, or_else, choose, seek, first_of, smallest, fewest_passes}
+use Rattle.tables.proofs.Sought.{Sought, PlanIs, greedy_test, greedy_passes, none, some, smallest, fewest_passes}
 use Rattle.grid.specs.declared.Case.{Case}
 use Rattle.grid.specs.Limits.{largest_budget, most_budget}
-use Rattle.grid.specs.Rows.{set_at, neighbours}
 use Rattle.grid.specs.Cases.{grid_of}
-use Rattle.tables.proofs.Drawn.{written_row, row_test, lines_test, valid_test, filled_passes}
+use Rattle.tables.proofs.Drawn.{valid_test, filled_passes}
 use Rattle.tables.specs.Starred.{filled, short_case, seven}
-use Rattle.tables.proofs.Rows.{◌&◌}
+use Rattle.tables.proofs.Rows.{◌&◌, differ}
 use Rattle.tables.proofs.Computed.{known}
 use Rattle.tables.specs.Tables.{AllRight}
 use Rattle.plan_input.specs.Asking.{default_budget}
 use Rattle.tables.specs.Drawings.{set, drawn_grid, seven_grid, short_value, apart, four_apart, barred, trio, hub}
 use Rattle.tables.specs.Placing as tables
-use Rattle.tables.proofs.Deriving.{holds_test, accepted_test, least_test, pick, reason_for, reason_at, step_for, pass_from, extended}
-use Rattle.tables.proofs.Deriving.{derive}
 
 -- ---- additions
 
 pub placings_right : tables.PlacedRight
-unfolding add hold word_of set_of
+unfolding set_words
 placings_right = refl
 
 pub free-right : AllRight tables.free_table
-unfolding hold word_of add set_of
+unfolding set_words
 free-right =
     record { site = refl; bare = refl }
     & (λ h. omega (arith, h.bare))
@@ -64,16 +56,16 @@ rising-right =
 
 -- all seven buses
 full : Full 7 (set (1 ∷ 2 ∷ 3 ∷ 4 ∷ 5 ∷ 6 ∷ 7 ∷ []))
-unfolding hold word_of add set_of
+unfolding set_words
 full = (all-buses 7).has
 
 -- bus 5 is missing where only 3 has a unit
 uncovered : Covers (seven_grid []) (set (3 ∷ [])) → ⊥
-unfolding hold word_of add set_of
+unfolding set_words
 uncovered h = omega (arith, covers-full (seven_grid []) known.at3.least h 5 (record { some = omega arith; most = omega arith }))
 
 pub covers-right : AllRight tables.covers_table
-unfolding hold word_of add set_of
+unfolding set_words
 covers-right =
     full
     & (λ h. omega (arith, h 6 (record { some = omega arith; most = omega arith })))
@@ -89,7 +81,7 @@ two : (g : Grid) (x y budget : ℕ) → 0 < x → x < y → Free g x → Free g 
 two g x y budget l m p q c k = record { within = k; rising = (l, p, (m, q, tt)); covers = c }
 
 pub plan_right : AllRight tables.addition_table
-unfolding add hold word_of set_of
+unfolding set_words
 plan_right =
     at14 2 (omega arith)
     & at14 (most_budget 7) (omega arith)
@@ -114,30 +106,23 @@ plan_right =
 
 -- ---- which comes first
 
--- of two lists that differ at some place, only one comes first
-not_before : (i : ℕ) (xs ys : List ℕ) → Before xs ys → (get_or xs i 0 ≡ get_or ys i 0 → ⊥) → Before ys xs → ⊥
-not_before i xs ys h ne k = ne (ap (λ (zs : List ℕ). get_or zs i 0) (before_antisym xs ys h k))
-
 pub before-right : AllRight tables.before_table
 before-right =
     inl (omega arith)
-    & not_before 0 (1 ∷ 4 ∷ []) (2 ∷ 3 ∷ []) (inl (omega arith)) (λ e. omega arith)
+    & (λ h. differ 0 (before_antisym (1 ∷ 4 ∷ []) (2 ∷ 3 ∷ []) (inl (omega arith)) h) (λ e. omega arith))
     & inr (refl, inl (omega arith))
-    & not_before 1 (1 ∷ 3 ∷ []) (1 ∷ 4 ∷ []) (inr (refl, inl (omega arith))) (λ e. omega arith)
+    & (λ h. differ 1 (before_antisym (1 ∷ 3 ∷ []) (1 ∷ 4 ∷ []) (inr (refl, inl (omega arith))) h) (λ e. omega arith))
     & inr (refl, inr (refl, tt))
     & tt
-
-not_earlier : (i : ℕ) (xs ys : List ℕ) → Earlier xs ys → (get_or xs i 0 ≡ get_or ys i 0 → ⊥) → Earlier ys xs → ⊥
-not_earlier i xs ys h ne k = ne (ap (λ (zs : List ℕ). get_or zs i 0) (earlier_antisym xs ys h k))
 
 pub earlier-right : AllRight tables.earlier_table
 earlier-right =
     inl (omega arith)
-    & not_earlier 1 (1 ∷ []) (1 ∷ 4 ∷ []) (inl (omega arith)) (λ e. omega arith)
+    & (λ h. differ 1 (earlier_antisym (1 ∷ []) (1 ∷ 4 ∷ []) (inl (omega arith)) h) (λ e. omega arith))
     & inl (omega arith)
-    & not_earlier 0 (4 ∷ []) (1 ∷ 2 ∷ 3 ∷ []) (inl (omega arith)) (λ e. omega arith)
+    & (λ h. differ 0 (earlier_antisym (4 ∷ []) (1 ∷ 2 ∷ 3 ∷ []) (inl (omega arith)) h) (λ e. omega arith))
     & inr (refl, inl (omega arith))
-    & not_earlier 0 (1 ∷ 4 ∷ []) (2 ∷ 3 ∷ []) (inr (refl, inl (omega arith))) (λ e. omega arith)
+    & (λ h. differ 0 (earlier_antisym (1 ∷ 4 ∷ []) (2 ∷ 3 ∷ []) (inr (refl, inl (omega arith))) h) (λ e. omega arith))
     & inr (refl, inr (refl, inr (refl, tt)))
     & tt
 
@@ -174,9 +159,7 @@ pub record Placed : Type 0 where
   pub greedy_barred : GreedyList (barred []) 1 (2 ∷ [])
 
 pub known_places : Placed
-unfolding valid_test lines_test within_test row_test above least_test accepted_test holds_test closed_test sub_test is_one gap given total
-    neighbours hold word_of set_of up_to less lack add ones ones_in pick reason_for reason_at step_for pass_from extended derive
-    sought_from judge or_else choose seek first_of smallest no_better best_test none_test greedy_test set_at written_row
+unfolding search_words
 known_places = record {
   fewest1 = found (short_case (seven [])) 1 none refl refl;
   fewest2 = found (short_case (seven [])) 2 (some (set (1 ∷ 4 ∷ []))) refl refl;
@@ -198,7 +181,7 @@ known_places = record {
 -- ---- the fewest
 
 pub fewest-right : AllRight tables.fewest_sites_table
-unfolding hold word_of add set_of
+unfolding set_words
 fewest-right =
     known_places.fewest2
     & known_places.fewest3
@@ -221,11 +204,11 @@ fewest-right =
 
 -- a unit at 3
 with3 : WithSite (seven_grid []) 3 (set (1 ∷ 2 ∷ 3 ∷ 4 ∷ 7 ∷ []))
-unfolding add hold word_of set_of
+unfolding set_words
 with3 = record { free = record { site = refl; bare = refl }; observed = known.at3.least }
 
 pub with-right : AllRight tables.with_site_table
-unfolding add hold word_of set_of
+unfolding set_words
 with-right =
     with3
     & (λ h. omega (arith, least-unique (seven_grid (3 ∷ [])) _ _ known.at3.least h.observed))
@@ -234,7 +217,7 @@ with-right =
     & tt
 
 pub best-right : AllRight tables.best_table
-unfolding hold word_of add set_of ones ones_in
+unfolding set_words
 best-right =
     known_places.greedy2.0
     & (λ h. omega (arith, best-unique known_places.greedy2.0 h))
@@ -247,22 +230,16 @@ best-right =
     & (λ h. omega (arith, h 3 _ _ known.none.least with3))
     & tt
 
--- of two lists that differ at some place, greedy adds only one
-not_greedy : (g : Grid) (budget i : ℕ) (xs ys : List ℕ) → GreedyList g budget xs → (get_or xs i 0 ≡ get_or ys i 0 → ⊥)
-    → GreedyList g budget ys
-    → ⊥
-not_greedy g budget i xs ys h ne k = ne (ap (λ (zs : List ℕ). get_or zs i 0) (greedy-unique g budget xs ys h k))
-
 pub greedy-right : AllRight tables.greedy_list_table
 greedy-right =
     known_places.greedy2
-    & not_greedy (seven_grid []) 2 0 (3 ∷ 4 ∷ []) (4 ∷ 3 ∷ []) known_places.greedy2 (λ e. omega arith)
-    & not_greedy (seven_grid []) 2 0 (3 ∷ 4 ∷ []) (1 ∷ 4 ∷ []) known_places.greedy2 (λ e. omega arith)
+    & (λ h. differ 0 (greedy-unique (seven_grid []) 2 (3 ∷ 4 ∷ []) (4 ∷ 3 ∷ []) known_places.greedy2 h) (λ e. omega arith))
+    & (λ h. differ 0 (greedy-unique (seven_grid []) 2 (3 ∷ 4 ∷ []) (1 ∷ 4 ∷ []) known_places.greedy2 h) (λ e. omega arith))
     & (known_places.greedy2.0, tt)
     & tt
     & (λ h. h.1)
-    & not_greedy (seven_grid []) 2 1 (3 ∷ 4 ∷ []) (3 ∷ []) known_places.greedy2 (λ e. omega arith)
+    & (λ h. differ 1 (greedy-unique (seven_grid []) 2 (3 ∷ 4 ∷ []) (3 ∷ []) known_places.greedy2 h) (λ e. omega arith))
     & known_places.greedy3
     & known_places.covered
-    & not_greedy (seven_grid (1 ∷ 4 ∷ [])) 2 0 [] (2 ∷ []) known_places.covered (λ e. omega arith)
+    & (λ h. differ 0 (greedy-unique (seven_grid (1 ∷ 4 ∷ [])) 2 [] (2 ∷ []) known_places.covered h) (λ e. omega arith))
     & tt

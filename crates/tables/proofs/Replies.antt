@@ -3,48 +3,36 @@ use mathlib.Core.Path.{refl, ap}
 use mathlib.Core.List.{List, [], ◌∷◌}
 use Prim.Native.Nat.{ℕ, suc, ◌≤◌}
 use native.Mathlib.Omega.{arith}
-use lib.Count.{ones, ones_in}
 use lib.Signed.{mag}
 use lib.ListN.{length, get_or}
-use Rattle.busset.specs.Sets.{add, meet, lack, less, up_to, set_of, empty}
+use Rattle.busset.specs.Sets.{empty}
 use Rattle.busset.proofs.Holding.{word_own}
-use Rattle.busset.specs.Held.{word_of, hold}
 use Rattle.basics.proofs.Tests.{decides-yes, decides-no, refutes}
-use Rattle.text_field.specs.Split.{split, join, same}
-use Rattle.text_field.specs.Number.{digits}
 use Rattle.step.specs.Records.{no_step}
 use Rattle.step.specs.declared.Step.{Step}
-use Rattle.case_line.specs.Record.{record_text}
-use Rattle.rules.specs.Grids.{total}
 use Rattle.rules.specs.Steps.{ByUnit, Names, Finished}
-use Rattle.rules.specs.Figures.{figure}
 use Rattle.rules.specs.Choosing.{GreedyList}
 use Rattle.rules.proofs.Choices.{greedy-unique}
 use Rattle.rules.proofs.Derivations.{derived-accepted}
 use Rattle.rules.proofs.Leasts.{least-unique}
 use Rattle.rules.proofs.Lists.{closed-finished}
 use Rattle.rules.proofs.Ordering.{fewest-some}
-use Rattle.tables.proofs.Tests.{above, within_test, bus_passes}
+use Rattle.tables.proofs.Words.{case_words, report_words, set_words, step_words, test_words}
+use Rattle.tables.proofs.Tests.{bus_passes}
 use Rattle.refusals.specs.declared.Refusal.TheVariants.{InvalidCase, NoSuchBus, ReasonFails, OverBudget, NoCover}
 use Rattle.grid.specs.Limits.{most_budget}
-use Rattle.grid.specs.Rows.{set_at, neighbours, circuits, with_bit, with_circuits, with_end, with_line}
 use Rattle.grid.specs.Cases.{Valid}
 use Rattle.refusals.specs.Refusals.{Failed, number_of}
 use Rattle.refusals.proofs.Orders.{itself, failed_or_passed, failed-unique}
-use Rattle.tables.proofs.Drawn.{written_row, row_test, lines_test, valid_test, filled_passes}
-use Rattle.case_line.specs.Fields.{if_no_field}
-use Rattle.step_line.specs.StepLine.{step_word_of, step_line_of}
+use Rattle.tables.proofs.Drawn.{filled_passes}
 use Rattle.step_text.specs.Taking.{count_read}
-use Rattle.step_text.specs.Steps.{step_lines, read_steps}
-use Rattle.case_read.specs.Reading.{read_lines, read_text, read_case}
-use Rattle.case_line.specs.CaseText.{bus_records, members, line_records, lines_text}
 use Rattle.list_follow.specs.Replies.{replay_checks}
 use Rattle.observe_calls.specs.Replies.{observed_checks}
 use Rattle.place_calls.specs.Replies.{fewest_checks}
 use Rattle.demands.proofs.Demand2.{accepted-checks}
 use Rattle.tables.proofs.Rows.{◌&◌, ◌then◌, stop}
 use Rattle.tables.proofs.Computed.{known}
-use Rattle.tables.proofs.Deriving.{reason_test, allowed_test, allowed_passes}
+use Rattle.tables.proofs.Deriving.{allowed_passes}
 use Rattle.tables.proofs.Steps.{is-derivation}
 use Rattle.tables.proofs.Confirming as confirming
 use Rattle.tables.proofs.Placing.{known_places}
@@ -71,7 +59,7 @@ named23 = names_pass 7 (near 2 3) refl
 -- ---- one question
 
 pub figures-right : AllRight tables.figure_reply_table
-unfolding figure meet less lack up_to neighbours hold word_of add set_of ones ones_in set_at
+unfolding case_words
 figures-right =
     ((known.at2.valid, ((bus_passes 7 2 refl, bus_passes 7 1 refl), (refl, tt))), refl)
     & (λ h. omega (arith, ap mag h.1))
@@ -85,7 +73,7 @@ figures-right =
     & tt
 
 pub tests_right : AllRight tables.step_reply_table
-unfolding up_to neighbours hold word_of add set_of set_at
+unfolding case_words
 tests_right =
     (v, (named23, (refl, (record { unit = refl; joined = refl }, tt))))
     & stop invalid (itself _)
@@ -106,7 +94,7 @@ refused_9 : Failed (replay_checks (tables.seven_case (3 ∷ [])) (zero_at 1 2 �
 refused_9 = known.at3.valid then omega arith then named12 then refl then stop (λ h. omega (arith, h.observed)) (itself _)
 
 pub replays_right : AllRight tables.replay_reply_table
-unfolding reason_test allowed_test neighbours add hold word_of set_of set_at
+unfolding step_words
 replays_right = (
   (v, (omega arith, accepted-checks (tables.seven_case (3 ∷ [])) v.proper 1 empty derivation_steps (derived-accepted is-derivation).0)),
   refl,
@@ -142,7 +130,7 @@ replays_right = (
     none_allowed = closed-finished (seven_grid []) (set []) known.none.least.closed
 
 pub weaves-right : AllRight tables.weave_reply_table
-unfolding neighbours add hold word_of set_of set_at
+unfolding case_words
 weaves-right = (
   (
     v,
@@ -192,14 +180,14 @@ weaves-right = (
 -- ---- whole cases
 
 pub sets_right : AllRight tables.case_reply_table
-unfolding hold word_of add set_of
+unfolding set_words
 sets_right =
     ((known.at3.valid, tt), known.at3.least, word_own _)
     & (λ h. omega (arith, least-unique (seven_grid (3 ∷ [])) _ _ known.at3.least h.1))
     & stop invalid (itself _)
     & (λ h. failed_or_passed (observed_checks (tables.seven_case (3 ∷ []))) InvalidCase h (known.at3.valid, tt))
-    & ((known.at3.valid, tt), record { steps = derivation_steps; derived = is-derivation; is = refl })
-    & (stop invalid (itself _), refl)
+    & ((known.at3.valid, tt), is-derivation)
+    & stop invalid (itself _)
     & ((known.at3.valid, tt), confirming.itself, word_own _)
     & stop invalid (itself _)
     & tt
@@ -244,9 +232,7 @@ fewests_right =
     over = v then stop (λ h. omega arith) (itself _)
 
 pub texts_right : AllRight tables.text_reply_table
-unfolding read_case read_text read_lines read_steps step_lines step_line_of step_word_of if_no_field split same valid_test lines_test
-    within_test above row_test total bus_records members line_records lines_text record_text join digits neighbours set_of ones ones_in
-    lack set_at written_row with_line with_end with_circuits with_bit less circuits
+unfolding report_words test_words
 texts_right =
     refl
     & refl

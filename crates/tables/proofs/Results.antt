@@ -1,8 +1,6 @@
 -- The tables of what a C program gets: each is computed.
 use mathlib.Core.Path.{refl}
-use Rattle.busset.specs.Held.{word_of, hold}
-use Rattle.busset.specs.Sets.{set_of, add}
-use Rattle.busset.specs.Bytes.{byte_of, bytes_from}
+use Rattle.tables.proofs.Words.{set_words}
 use Rattle.tables.specs.Results.{CodesRight, ResultsRight, SetBytesRight, LeftByRight}
 
 pub codes_right : CodesRight
@@ -12,9 +10,9 @@ pub results_right : ResultsRight
 results_right = refl
 
 pub bytes-right : SetBytesRight
-unfolding byte_of bytes_from hold word_of add set_of
+unfolding set_words
 bytes-right = refl
 
 pub lefts_right : LeftByRight
-unfolding byte_of bytes_from hold word_of add set_of
+unfolding set_words
 lefts_right = refl

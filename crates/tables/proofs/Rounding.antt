@@ -4,13 +4,14 @@ use mathlib.Core.List.{List, [], ◌∷◌, map}
 use mathlib.Core.Logic.{inl, inr}
 use Prim.Native.Nat.{ℕ, zero, suc, ◌+◌, ◌-◌}
 use native.Mathlib.Omega.{arith}
+use Rattle.std.specs.Int.{abs_diff}
 use Rattle.basics.specs.Lists.{Some}
 use Rattle.step.specs.declared.Step.{Step}
 use Rattle.rules.specs.Grids.{Grid, Proper, total}
 use Rattle.rules.specs.Placing.{Rising, placed}
 use Rattle.rules.specs.Rounds.{Gives, RoundsFrom}
 use Rattle.rules.proofs.Reasons.{allowed-bus}
-use Rattle.tables.proofs.Tests.{total-none, gap, gap-none, given}
+use Rattle.tables.proofs.Tests.{total-none, pick, given}
 use Rattle.tables.proofs.Deriving.{allowed_test, allowed_passes, no_reason, no-reason}
 
 -- the buses of steps
@@ -34,15 +35,16 @@ rising_passes g s low (x ∷ xs) e = (
 -- b is one of a list
 unfoldable pub among_test : ℕ → List ℕ → ℕ
 among_test b [] = 1
-among_test b (x ∷ xs) = given (gap x b) (among_test b xs)
+among_test b (x ∷ xs) = given (abs_diff x b) (among_test b xs)
 
 among_passes : (b : ℕ) (xs : List ℕ) → among_test b xs ≡ 0 → Some (λ x. x ≡ b) xs
-unfolding among_test given
+unfolding among_test pick
 among_passes b [] e = absurd (omega arith)
-among_passes b (x ∷ xs) e = go (gap x b) refl (λ h. among_passes b xs h) e
+among_passes b (x ∷ xs) e = go (abs_diff x b) refl (λ h. among_passes b xs h) e
   where
-    go : (d : ℕ) → gap x b ≡ d → (among_test b xs ≡ 0 → Some (λ x. x ≡ b) xs) → given d (among_test b xs) ≡ 0 → Some (λ x. x ≡ b) (x ∷ xs)
-    go zero q later h = inl (gap-none x b q)
+    go : (d : ℕ) → abs_diff x b ≡ d → (among_test b xs ≡ 0 → Some (λ x. x ≡ b) xs) → given d (among_test b xs) ≡ 0
+        → Some (λ x. x ≡ b) (x ∷ xs)
+    go zero q later h = inl (omega arith)
     go (suc d) q later h = inr (later h)
 
 -- no reason holds for a bus that is not one of these
@@ -50,7 +52,7 @@ unfoldable pub others_test : Grid → ℕ → List ℕ → ℕ
 others_test g s xs = total g.n (λ b. given (among_test b xs) (no_reason g s b))
 
 others_pass : (g : Grid) (s : ℕ) (xs : List ℕ) → Proper g → others_test g s xs ≡ 0 → (b : ℕ) → Gives g s b → Some (λ x. x ≡ b) xs
-unfolding others_test given
+unfolding others_test pick
 others_pass g s xs v e b h =
     go (among_test b xs) refl (total-none g.n (λ b. given (among_test b xs) (no_reason g s b)) e b (allowed-bus v h.allowed))
   where

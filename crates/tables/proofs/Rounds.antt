@@ -3,30 +3,19 @@ use mathlib.Core.Path.{◌≡◌, refl, sym, ap, ◌∙◌}
 use mathlib.Core.List.{List, [], ◌∷◌, ◌++◌}
 use Prim.Native.Nat.{ℕ, ◌≤◌}
 use native.Mathlib.Omega.{arith}
-use lib.Count.{ones, ones_in}
 use lib.ListN.{length, get_or, replicate}
-use Rattle.busset.specs.Sets.{empty, add, lack, less, set_of}
-use Rattle.busset.specs.Held.{word_of, hold}
-use Rattle.text_field.specs.Split.{split, join, same, bytes}
-use Rattle.text_field.specs.Number.{is_digit, takes_digit, number_from, numeral_of, digits}
-use Rattle.case_line.specs.Fields.{mark_of, if_one_field, if_no_field}
-use Rattle.case_line.specs.Record.{record_word_of, line_fields, bus_fields, record_of}
-use Rattle.case_judge.specs.Judging.{is_bus, is_several, is_after, past_buses, judged}
-use Rattle.case_read.specs.Reading.{read_lines, read_text, read_case}
-use Rattle.report_lines.specs.Printing.{refused_text}
-use Rattle.rules.specs.Grids.{Grid, total}
+use Rattle.busset.specs.Sets.{empty}
+use Rattle.rules.specs.Grids.{Grid}
 use Rattle.rules.specs.Rounds.{RoundsOf}
 use Rattle.rules.proofs.Rounds.{rounds-unique}
-use Rattle.grid.specs.Rows.{set_at, neighbours, with_bit, with_circuits, with_end, with_line}
 use Rattle.refusals.proofs.Orders.{itself}
 use Rattle.round_calls.specs.Replies.{round_numbers, RoundsFit}
-use Rattle.report_rounds.specs.Rounds.{round_fields, round_lines, RoundsPrinted}
+use Rattle.report_rounds.specs.Rounds.{RoundsPrinted}
 use Rattle.report_rounds.proofs.Reports.{rounds-text-unique}
-use Rattle.tables.proofs.Rows.{◌&◌, ◌then◌, stop}
-use Rattle.tables.proofs.Tests.{gap, given, sub_test}
+use Rattle.tables.proofs.Words.{report_words, round_words}
+use Rattle.tables.proofs.Rows.{◌&◌, ◌then◌, stop, differ}
 use Rattle.tables.proofs.Computed.{known}
-use Rattle.tables.proofs.Deriving.{allowed_test, reason_test, holds_test, no_reason, no_unit, no_zero}
-use Rattle.tables.proofs.Rounding.{rising_test, among_test, others_test, rounds_test, rounds_pass}
+use Rattle.tables.proofs.Rounding.{rounds_pass}
 use Rattle.tables.proofs.Replies.{invalid}
 use Rattle.tables.specs.Tables.{AllRight, block}
 use Rattle.tables.specs.Drawings.{own, near, zero_at, drawn_grid, seven_grid, onward}
@@ -44,8 +33,7 @@ record Shown : Type 0 where
   pub path : RoundsOf (drawn_grid onward) ((1 ∷ 2 ∷ []) ∷ (3 ∷ []) ∷ (4 ∷ []) ∷ [])
 
 shown : Shown
-unfolding rounds_test rising_test others_test among_test no_reason no_unit no_zero allowed_test reason_test holds_test sub_test given gap
-    total neighbours add lack less hold word_of set_of ones ones_in set_at
+unfolding round_words
 shown = record {
   seven =
       rounds_pass (seven_grid (3 ∷ [])) empty ((near 2 3 ∷ own 3 ∷ near 4 3 ∷ near 7 3 ∷ []) ∷ (zero_at 1 2 ∷ []) ∷ [])
@@ -87,7 +75,7 @@ unfolding round_numbers
 numbers-right = refl
 
 pub texts_right : tables.RoundsTextsRight
-unfolding round_lines round_fields join digits
+unfolding report_words
 texts_right = refl
 
 -- ---- the calls
@@ -125,18 +113,13 @@ replies-right = (
         omega (arith, ap (λ (r : List ℕ). get_or r 7 0) (e ∙ sym (ap (λ (rs : List (List ℕ)). round_numbers rs ++ 9 ∷ []) is)))
 
 pub printed-right : AllRight tables.rounds_printed_table
-unfolding read_case read_text read_lines judged is_bus is_after past_buses record_of record_word_of line_fields bus_fields mark_of
-    if_one_field if_no_field split same is_digit takes_digit number_from numeral_of add hold word_of set_of neighbours refused_text join
-    digits set_at is_several with_line with_end with_circuits with_bit less lack round_lines round_fields
+unfolding report_words
 printed-right =
     seven
-    & (λ h. different (rounds-text-unique (block input) _ _ seven h))
+    & (λ h. differ 0 (rounds-text-unique (block input) _ _ seven h) (λ e. omega arith))
     & record { rounds = []; are = shown.none; is = refl }
     & refl
     & tt
   where
     seven : RoundsPrinted (block input) (block ("round 1 2 3 4 7" ∷ "round 2 1" ∷ "end" ∷ []))
     seven = record { rounds = seven_rounds; are = shown.seven; is = refl }
-
-    different : block ("round 1 2 3 4 7" ∷ "round 2 1" ∷ "end" ∷ []) ≡ bytes "end\n" → ⊥
-    different e = omega (arith, ap (λ (t : List ℕ). get_or t 0 0) e)

@@ -4,15 +4,14 @@ use mathlib.Core.Bool.{true, false}
 use mathlib.Core.List.{List, [], ◌∷◌}
 use Prim.Native.Nat.{ℕ, zero, suc, ◌-◌, ◌<◌, max, min}
 use native.Mathlib.Omega.{arith}
-use lib.Count.{ones, ones_in}
-use Rattle.busset.specs.Sets.{bit, Out, Within, add, meet, lack, less, up_to, set_of}
-use Rattle.busset.specs.Held as held
-use Rattle.busset.specs.Bytes.{byte_of}
+use Rattle.std.specs.Int.{abs_diff}
+use Rattle.busset.specs.Sets.{bit, Out, Within, set_of}
 use Rattle.basics.proofs.Tests.{decides-yes, decides-no}
 use Rattle.busset.proofs.Members.{add-there, less-there}
 use Rattle.busset.proofs.Words.{set-zero}
 use Rattle.rules.specs.Grids.{total}
-use Rattle.tables.proofs.Tests.{gap, above, within_test, within_passes, sub_test, sub_passes}
+use Rattle.tables.proofs.Words.{set_words, test_words}
+use Rattle.tables.proofs.Tests.{within_test, within_passes, sub_passes}
 use Rattle.tables.proofs.Listed.{by_bus, all-buses}
 use Rattle.tables.proofs.Rows.{◌&◌}
 use Rattle.tables.specs.Starred.{word_with}
@@ -27,43 +26,43 @@ unfolding set_of
 digits-right = refl
 
 pub words_right : sets.WordsRight
-unfolding held.hold held.word_of set_of
+unfolding set_words
 words_right = refl
 
 pub holding_right : sets.HoldingRight
-unfolding add held.hold held.word_of set_of
+unfolding set_words
 holding_right = refl
 
 pub holding_if_right : sets.HoldingIfRight
-unfolding add held.hold held.word_of set_of
+unfolding set_words
 holding_if_right = refl
 
 pub bytes-right : sets.BytesRight
-unfolding byte_of held.hold held.word_of add set_of
+unfolding set_words
 bytes-right = refl
 
 pub adds-right : sets.AddsRight
-unfolding add held.hold held.word_of set_of
+unfolding set_words
 adds-right = refl
 
 pub lesses_right : sets.LessesRight
-unfolding less lack held.hold held.word_of add set_of
+unfolding set_words
 lesses_right = refl
 
 pub meets-right : sets.MeetsRight
-unfolding meet held.hold held.word_of add set_of
+unfolding set_words
 meets-right = refl
 
 pub lacks-right : sets.LacksRight
-unfolding lack held.hold held.word_of add set_of
+unfolding set_words
 lacks-right = refl
 
 pub up_tos_right : sets.UpTosRight
-unfolding up_to held.hold held.word_of add set_of
+unfolding set_words
 up_tos_right = refl
 
 pub sizes_right : sets.SizesRight
-unfolding ones ones_in held.hold held.word_of add set_of
+unfolding set_words
 sizes_right = refl
 
 -- ---- what is said of sets
@@ -75,12 +74,12 @@ inside bs e = within_passes 3 (set bs) (set-zero (word_with bs)) e
 -- what an operation on digits says of three such lists
 listed : (f : ℕ → ℕ → ℕ) (bs cs ds : List ℕ) → f 0 0 ≡ 0 → within_test 3 (set bs) ≡ 0 → within_test 3 (set cs) ≡ 0
     → within_test 3 (set ds) ≡ 0
-    → total 3 (λ b. gap (bit (set ds) b) (f (bit (set bs) b) (bit (set cs) b))) ≡ 0
+    → total 3 (λ b. abs_diff (bit (set ds) b) (f (bit (set bs) b) (bit (set cs) b))) ≡ 0
     → (b : ℕ) → bit (set ds) b ≡ f (bit (set bs) b) (bit (set cs) b)
 listed f bs cs ds z wb wc wd e = by_bus 3 f (set bs) (set cs) (set ds) z (inside bs wb) (inside cs wc) (inside ds wd) e
 
 pub said-right : AllRight sets.set_table
-unfolding within_test above sub_test gap total held.hold held.word_of set_of add less lack up_to ones ones_in
+unfolding test_words
 said-right =
     record { some = omega arith; most = omega arith }
     & record { some = omega arith; most = omega arith }

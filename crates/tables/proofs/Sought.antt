@@ -4,6 +4,7 @@ use mathlib.Core.List.{List, [], ◌∷◌}
 use mathlib.Core.Logic.{⊎_elim}
 use Prim.Native.Nat.{ℕ, zero, suc, ◌+◌, ◌-◌, ◌≤◌, ◌<◌}
 use native.Mathlib.Omega.{arith}
+use Rattle.std.specs.Int.{abs_diff}
 use Rattle.busset.specs.Sets.{Bus, bit, In, Out, Sub, Within, empty, add, meet, size, Lowest, Without, Minus}
 use Rattle.basics.proofs.Tests.{below_or}
 use Rattle.busset.proofs.Digits.{ext}
@@ -16,7 +17,7 @@ use Rattle.rules.specs.Confirming.{Confirm, joined, share, Unconfirmed, Unconfir
 use Rattle.rules.specs.Placing.{with_units, Full, Free, SomeAddition, FewestSites}
 use Rattle.rules.specs.Choosing as choosing
 use Rattle.rules.specs.Choosing.{GreedyList}
-use Rattle.tables.proofs.Tests.{total-none, total_pass, gap, gap-none, above, after_in, after-out, given, given_passes}
+use Rattle.tables.proofs.Tests.{total-none, total_pass, above, after_in, after-out, pick, given, given_passes}
 use Rattle.rules.proofs.Leasts.{least-unique}
 use Rattle.rules.proofs.Covering.{covers-full, full-covers}
 use Rattle.place_light.specs.Ways.{NoWay, FirstWay}
@@ -26,13 +27,8 @@ use Rattle.tables.proofs.Deriving.{least_test, least_passes, derived}
 
 -- ---- what helps to compute
 
-given-some : (d x : ℕ) → 0 < d → given d x ≡ 0 → x ≡ 0
-unfolding given
-given-some zero x e h = absurd (omega arith)
-given-some (suc d) x e h = h
-
 given-none : (d x : ℕ) → (0 < d → x ≡ 0) → given d x ≡ 0
-unfolding given
+unfolding pick
 given-none zero x h = refl
 given-none (suc d) x h = h (omega arith)
 
@@ -60,29 +56,22 @@ proper-with {g} x v h = record {
 
 -- whether a unit at a, which is not b, confirms one at b
 unfoldable pub confirm_test : Grid → ℕ → ℕ → ℕ
-confirm_test g b a = given (bit g.units a) (given (gap a b) (bit (g.neighbours a) b + size (meet (g.neighbours a) (g.neighbours b))))
+confirm_test g b a = given (bit g.units a) (given (abs_diff a b) (bit (g.neighbours a) b + size (meet (g.neighbours a) (g.neighbours b))))
 
 -- 1 where no other unit confirms the one at b
 unfoldable pub alone_test : Grid → ℕ → ℕ
 alone_test g b = given (bit g.units b) (1 - total g.n (confirm_test g b))
 
 unfoldable pub unconfirmed_test : Grid → ℕ → ℕ
-unconfirmed_test g s = total g.n (λ b. gap (bit s b) (alone_test g b))
+unconfirmed_test g s = total g.n (λ b. abs_diff (bit s b) (alone_test g b))
 
 module _ (g : Grid) (v : Proper g) where
-  apart : (a b : ℕ) → (a ≡ b → ⊥) → 0 < gap a b
-  unfolding gap
-  apart a b ne =
-      ⊎_elim (λ (l : a < b). omega arith)
-      (λ (l : b ≤ a). ⊎_elim (λ (m : b < a). omega arith) (λ (m : a ≤ b). absurd (ne (omega arith))) (below_or b a)) (below_or a b)
-
   alone_none : (b : ℕ) → total g.n (confirm_test g b) ≡ 0 → (a : ℕ) → In g.units a → (a ≡ b → ⊥) → Confirm g.neighbours a b → ⊥
   unfolding confirm_test
   alone_none b e a u ne c =
-      go c
-      (given-some (gap a b) (bit (g.neighbours a) b + size (meet (g.neighbours a) (g.neighbours b))) (apart a b ne)
-      (given_passes (bit g.units a) (given (gap a b) (bit (g.neighbours a) b + size (meet (g.neighbours a) (g.neighbours b)))) u
-      (total-none g.n (confirm_test g b) e a (v.units a u))))
+      let x = bit (g.neighbours a) b + size (meet (g.neighbours a) (g.neighbours b)) in
+      go c (given_passes (abs_diff a b) x (omega arith)
+      (given_passes (bit g.units a) (given (abs_diff a b) x) (omega arith) (total-none g.n (confirm_test g b) e a (v.units a u))))
     where
       go : Confirm g.neighbours a b → bit (g.neighbours a) b + size (meet (g.neighbours a) (g.neighbours b)) ≡ 0 → ⊥
       go (joined j) z = omega arith
@@ -94,11 +83,11 @@ module _ (g : Grid) (v : Proper g) where
           )
 
   alone_all : (b : ℕ) → Unconfirmed g.neighbours g.units b → total g.n (confirm_test g b) ≡ 0
-  unfolding confirm_test gap
+  unfolding confirm_test
   alone_all b u = total_pass g.n (confirm_test g b)
-      (λ a. given-none (bit g.units a) (given (gap a b) (bit (g.neighbours a) b + size (meet (g.neighbours a) (g.neighbours b))))
-      (λ h. given-none (gap a b) (bit (g.neighbours a) b + size (meet (g.neighbours a) (g.neighbours b)))
-      (λ d. none a (omega arith) (λ e. omega arith))))
+      (λ a. let x = bit (g.neighbours a) b + size (meet (g.neighbours a) (g.neighbours b)) in
+      given-none (bit g.units a) (given (abs_diff a b) x)
+      (λ h. given-none (abs_diff a b) x (λ d. none a (omega arith) (λ e. omega arith))))
     where
       none : (a : ℕ) → In g.units a → (a ≡ b → ⊥) → bit (g.neighbours a) b + size (meet (g.neighbours a) (g.neighbours b)) ≡ 0
       none a h ne =
@@ -110,11 +99,11 @@ module _ (g : Grid) (v : Proper g) where
           omega (arith, ap size nothing, size-empty)
 
   pub unconfirmed_passes : (s : ℕ) → Within g.n s → unconfirmed_test g s ≡ 0 → UnconfirmedSet g.neighbours g.units s
-  unfolding unconfirmed_test alone_test given
+  unfolding unconfirmed_test alone_test pick
   unconfirmed_passes s w e = record { all = all; only = only }
     where
       at_bus : (b : ℕ) → Bus g.n b → bit s b ≡ alone_test g b
-      at_bus b h = gap-none (bit s b) (alone_test g b) (total-none g.n (λ b. gap (bit s b) (alone_test g b)) e b h)
+      at_bus b h = omega (arith, total-none g.n (λ b. abs_diff (bit s b) (alone_test g b)) e b h)
 
       all : (b : ℕ) → Unconfirmed g.neighbours g.units b → In s b
       all b u = at_bus b (v.units b u.unit) ∙ go (bit g.units b) refl
@@ -160,7 +149,7 @@ greedy_test g (suc k) (x ∷ xs) = best_test g x + greedy_test (with_units g (ad
 no-better : (g : Grid) (most y t : ℕ) → Proper g → no_better g most y ≡ 0 → choosing.WithSite g y t → size t ≤ most
 unfolding no_better
 no-better g most y t v e w =
-    let f = given-some (bit g.sites y - bit g.units y)
+    let f = given_passes (bit g.sites y - bit g.units y)
     (seen_test (with_units g (add g.units y)) + (size (seen (with_units g (add g.units y))) - most))
     (let a = w.free.site in let b = w.free.bare in omega arith) e in
     let l = seen-least (with_units g (add g.units y)) (proper-with y v w.free.site) (omega arith) in

@@ -1,4 +1,5 @@
 -- The rows of the table that the siting group's calls answer, each from a test that the checker computes.
+use Rattle.std.specs.Prelude.{Ok, Err}
 use mathlib.Core.Path.{◌≡◌, refl, subst}
 use mathlib.Core.List.{List, ◌++◌}
 use mathlib.Core.Logic.{inl, inr}
@@ -18,9 +19,6 @@ use Rattle.grid.specs.Limits.{most_budget, most_greedy_budget}
 use Rattle.grid.specs.Cases.{Valid}
 use Rattle.refusals.proofs.Orders.{itself}
 use Rattle.tables.proofs.Drawn.{valid_test, filled_passes}
-use Rattle.place_calls.specs.declared.Verdict.TheVariants as verdict
-use Rattle.place_calls.specs.declared.Greedy.TheVariants as greedy
-use Rattle.place_calls.specs.declared.Fewest.TheVariants as fewest
 use Rattle.place_calls.specs.Replies.{VerdictReply, GreedyReply, FewestReply}
 use Rattle.tables.specs.Starred.{Drawing, word_with, short_case, drawn_case}
 use Rattle.tables.specs.Drawings.{set, drawn_grid}
@@ -33,7 +31,7 @@ free d = lack (drawn_grid d).sites (drawn_grid d).units
 
 pub verdict-right : (d : Drawing) (bs : List ℕ)
     → valid_test (short_case d) + within_test d.n (set bs) + unconfirmed_test (drawn_grid d) (set bs) ≡ 0
-    → VerdictReply (drawn_case d) (verdict.Unconfirmed (word_with bs))
+    → VerdictReply (drawn_case d) (Ok (word_with bs))
 verdict-right d bs e =
     let v : Valid (drawn_case d) = filled_passes (short_case d) (omega arith) in (
       (v, tt),
@@ -45,7 +43,7 @@ verdict-right d bs e =
 pub greedy-right : (d : Drawing) (budget : ℕ) (xs : List ℕ)
     → valid_test (short_case d) + (budget - most_greedy_budget) + greedy_test (drawn_grid d) budget xs ≡ 0
     → (entry : List ℕ) → length xs ≤ length entry
-    → GreedyReply (drawn_case d) budget entry (xs ++ drop (length xs) entry) (greedy.Added (length xs))
+    → GreedyReply (drawn_case d) budget entry (xs ++ drop (length xs) entry) (Ok (length xs))
 greedy-right d budget xs e entry room =
     let v : Valid (drawn_case d) = filled_passes (short_case d) (omega arith) in
     let added = greedy_passes (drawn_grid d) budget xs v.proper (omega arith) in (
@@ -64,7 +62,7 @@ greedy-right d budget xs e entry room =
 
 pub fewest-right : (d : Drawing) (budget : ℕ) (bs : List ℕ) → valid_test (short_case d) + (budget - most_budget d.n) ≡ 0
     → smallest (drawn_grid d) (free d) (budget + 1) 0 ≡ some (set bs)
-    → FewestReply (drawn_case d) budget (fewest.Sites (word_with bs))
+    → FewestReply (drawn_case d) budget (Ok (word_with bs))
 fewest-right d budget bs e found =
     let v : Valid (drawn_case d) = filled_passes (short_case d) (omega arith) in
     let f = fewest_passes (drawn_grid d) v.proper (free d) (record { at = lack-at (drawn_grid d).sites (drawn_grid d).units }) budget
@@ -72,7 +70,7 @@ fewest-right d budget bs e found =
     ((v, (omega arith, (fewest-some f, tt))), f, word_own _)
 
 pub uncovered-right : (d : Drawing) (budget : ℕ) → valid_test (short_case d) + (budget - most_budget d.n) ≡ 0
-    → smallest (drawn_grid d) (free d) (budget + 1) 0 ≡ none → FewestReply (drawn_case d) budget (fewest.Refused NoCover)
+    → smallest (drawn_grid d) (free d) (budget + 1) 0 ≡ none → FewestReply (drawn_case d) budget (Err NoCover)
 uncovered-right d budget e found =
     let v : Valid (drawn_case d) = filled_passes (short_case d) (omega arith) in
     inr (

@@ -4,35 +4,30 @@ use mathlib.Core.List.{List, [], ◌∷◌}
 use mathlib.Core.Logic.{◌⊎◌, inl, inr}
 use Prim.Native.Nat.{ℕ, ◌≤◌, ◌<◌}
 use native.Mathlib.Omega.{arith}
-use lib.Count.{ones, ones_in}
 use lib.ListN.{length, get_or}
 use Rattle.step.specs.Records.{no_step}
-use Rattle.busset.specs.Sets.{add, lack, less, set_of}
-use Rattle.busset.specs.Held.{word_of, hold}
 use Rattle.step.specs.declared.Reason.TheVariants.{NeighbourOf}
 use Rattle.step.specs.declared.Step.{Step}
-use Rattle.rules.specs.Grids.{Grid, total}
+use Rattle.rules.specs.Grids.{Grid}
 use Rattle.rules.specs.Derivation.{Derivation}
 use Rattle.rules.proofs.Reasons.{closed_reasoned}
 use Rattle.rules.proofs.Lists.{closed-finished}
 use Rattle.rules.proofs.Derivations.{derived-unique, derived-accepted}
-use Rattle.tables.proofs.Tests.{gap, given, sub_test, bus_passes}
-use Rattle.grid.specs.Rows.{set_at, neighbours}
-use Rattle.list_value.specs.declared.StepList.{StepList}
+use Rattle.tables.proofs.Words.{set_words, step_words}
+use Rattle.tables.proofs.Tests.{bus_passes}
 use Rattle.tables.proofs.Rows.{◌&◌}
 use Rattle.tables.proofs.Computed.{known}
-use Rattle.tables.proofs.Deriving.{reason_test, allowed_test, allowed_passes, no_unit, no_zero, no_reason}
-use Rattle.tables.proofs.Deriving.{no_sooner, next_test, next_passes, derived_test, derived_passes}
+use Rattle.tables.proofs.Deriving.{allowed_passes, next_passes, derived_passes}
 use Rattle.tables.specs.Tables.{AllRight}
 use Rattle.tables.specs.Drawings.{set, own, near, zero_at, drawn_grid, seven_grid, sweep, ring}
 use Rattle.tables.specs.Steps as steps
 use Rattle.tables.specs.Derivation as derivation
-use Rattle.tables.proofs.Deriving.{holds_test, names_pass}
+use Rattle.tables.proofs.Deriving.{names_pass}
 
 -- ---- computed
 
 pub reaches-right : steps.ReachedRight
-unfolding add hold word_of set_of
+unfolding set_words
 reaches-right = refl
 
 pub values_right : steps.ListOfRight
@@ -53,7 +48,7 @@ places_right = refl
 -- ---- one step
 
 pub reasons_right : AllRight steps.reason_table
-unfolding reason_test allowed_test gap neighbours lack hold word_of add set_of ones ones_in set_at
+unfolding step_words
 reasons_right =
     refl
     & (λ h. omega arith)
@@ -71,7 +66,7 @@ reasons_right =
     & tt
 
 pub allowed-right : AllRight steps.allowed_table
-unfolding reason_test allowed_test gap neighbours lack hold word_of add set_of ones ones_in set_at
+unfolding step_words
 allowed-right =
     allowed_passes (seven_grid (3 ∷ [])) (set []) (near 2 3) refl
     & allowed_passes (seven_grid (3 ∷ [])) (set (2 ∷ [])) (own 3) refl
@@ -100,17 +95,16 @@ names-right =
 
 -- document 01's derivation
 pub is-derivation : Derivation (seven_grid (3 ∷ [])) steps.derivation_steps
-unfolding derived_test next_test no_sooner no_reason no_unit no_zero allowed_test reason_test holds_test sub_test given gap total
-    neighbours add lack less hold word_of set_of ones ones_in set_at
+unfolding step_words
 is-derivation = derived_passes (seven_grid (3 ∷ [])) known.at3.valid.proper (set []) steps.derivation_steps refl
 
 -- and that of no units
 pub no_steps : Derivation (seven_grid []) []
-unfolding derived_test no_reason no_unit no_zero holds_test sub_test given total neighbours less lack hold word_of add set_of set_at
+unfolding step_words
 no_steps = derived_passes (seven_grid []) known.none.valid.proper (set []) [] refl
 
 pub accepted-right : AllRight steps.accepted_table
-unfolding reason_test allowed_test gap neighbours lack add hold word_of set_of ones ones_in set_at
+unfolding step_words
 accepted-right =
     (derived-accepted is-derivation).0
     & tt
@@ -124,7 +118,7 @@ accepted-right =
     & tt
 
 pub finished-right : AllRight steps.finished_table
-unfolding reason_test allowed_test gap neighbours lack hold word_of add set_of ones ones_in set_at
+unfolding step_words
 finished-right =
     closed-finished (seven_grid (3 ∷ [])) (set (1 ∷ 2 ∷ 3 ∷ 4 ∷ 7 ∷ [])) known.at3.least.closed
     & (λ h. h (zero_at 1 2) (allowed_passes (seven_grid (3 ∷ [])) (set (2 ∷ 3 ∷ 4 ∷ 7 ∷ [])) (zero_at 1 2) refl))
@@ -156,8 +150,7 @@ before-right =
     & tt
 
 pub next-right : AllRight derivation.next_step_table
-unfolding next_test no_sooner no_reason no_unit no_zero allowed_test reason_test holds_test sub_test given gap total neighbours lack less
-    hold word_of add set_of ones ones_in set_at
+unfolding step_words
 next-right =
     next_passes (seven_grid (3 ∷ [])) known.at3.valid.proper (set []) (near 2 3) refl
     & (λ h. omega (arith, h.lowest (near 2 3) (allowed_passes (seven_grid (3 ∷ [])) (set []) (near 2 3) refl)))
@@ -184,8 +177,7 @@ other : (g : Grid) (i : ℕ) (xs ys : List Step) → Derivation g xs
 other g i xs ys d ne h = let e = derived-unique d ys h in ne (ap length e) (ap (λ (zs : List Step). (get_or zs i no_step).bus) e)
 
 pub derivations_right : AllRight derivation.derivation_table
-unfolding derived_test next_test no_sooner no_reason no_unit no_zero allowed_test reason_test holds_test sub_test given gap total
-    neighbours add lack less hold word_of set_of ones ones_in set_at
+unfolding step_words
 derivations_right =
     is-derivation
     & (λ xs d. sym (derived-unique is-derivation xs d))
@@ -195,8 +187,8 @@ derivations_right =
     & no_steps
     & sweeping
     & other (drawn_grid sweep) 0 _ _ sweeping (λ l e. omega arith)
-    & record { steps = steps.derivation_steps; derived = is-derivation; is = refl }
-    & (λ h. omega (arith, ap (λ (l : StepList). l.n) h.is, ap length (derived-unique is-derivation h.steps h.derived)))
+    & is-derivation
+    & other (seven_grid (3 ∷ [])) 0 _ _ is-derivation (λ l e. omega arith)
     & tt
   where
     sweeping : Derivation (drawn_grid sweep) (near 3 4 ∷ own 4 ∷ zero_at 2 3 ∷ zero_at 1 2 ∷ [])

@@ -3,6 +3,7 @@ use mathlib.Core.Path.{◌≡◌, refl, sym, ap, ◌∙◌, subst, subst⁻¹}
 use mathlib.Core.Logic.{⊎_elim}
 use Prim.Native.Nat.{ℕ, zero, suc, ◌+◌, ◌-◌, ◌≤◌, ◌<◌, zero-le}
 use native.Mathlib.Omega.{arith}
+use Rattle.std.specs.Int.{abs_diff}
 use Rattle.busset.specs.Sets.{Bus, bit, In, Out, Sub, Within, lack, up_to, size}
 use Rattle.basics.proofs.Tests.{same_or, below_or}
 use Rattle.busset.proofs.Digits.{ext}
@@ -46,20 +47,12 @@ total-none (suc n) f e b h =
     (λ (l : suc n ≤ b). let q : b ≡ suc n = let m = h.most in omega arith in omega (arith, ap f q))
     (below_or b (suc n))
 
--- how far two numbers are apart
-unfoldable pub gap : ℕ → ℕ → ℕ
-gap m n = (m - n) + (n - m)
-
-pub gap-none : (m n : ℕ) → gap m n ≡ 0 → m ≡ n
-unfolding gap
-gap-none m n e = omega arith
-
 -- 1 at 1, and 0 elsewhere
 unfoldable pub is_one : ℕ → ℕ
-is_one n = 1 - gap n 1
+is_one n = 1 - abs_diff n 1
 
 is_one_not : (n : ℕ) → is_one n ≡ 0 → n ≡ 1 → ⊥
-unfolding is_one gap
+unfolding is_one
 is_one_not n e q = omega arith
 
 -- ---- sets
@@ -126,15 +119,19 @@ pub sub_passes : (n m s : ℕ) → Within n m → sub_test n m s ≡ 0 → Sub m
 unfolding sub_test
 sub_passes n m s w e = sub_of m s (λ b h. omega (arith, total-none n (λ b. bit m b - bit s b) e b (w b h)))
 
--- x where the digit d is not 0
-unfoldable pub given : ℕ → ℕ → ℕ
-given zero x = 0
-given (suc d) x = x
+-- x at 0, y elsewhere
+unfoldable pub pick : ℕ → ℕ → ℕ → ℕ
+pick zero x y = x
+pick (suc d) x y = y
 
-pub given_passes : (d x : ℕ) → d ≡ 1 → given d x ≡ 0 → x ≡ 0
-unfolding given
-given_passes zero x e h = absurd (omega arith)
-given_passes (suc d) x e h = h
+-- x where d is not 0
+abbrev pub given : ℕ → ℕ → ℕ
+given d x = pick d 0 x
+
+pub given_passes : (d x : ℕ) → 0 < d → given d x ≡ 0 → x ≡ 0
+unfolding pick
+given_passes zero x l e = absurd (omega arith)
+given_passes (suc d) x l e = e
 
 -- ---- what a step names
 
@@ -165,7 +162,7 @@ closed_passes g s v e = record {
     own = λ b h. omega (arith, sub_passes g.n g.units s v.units (omega arith) b);
     near = λ b h.
         sub_passes g.n (g.neighbours b) s (λ a j. (v.lines b a j).to)
-        (given_passes (bit g.units b) (sub_test g.n (g.neighbours b) s) h
+        (given_passes (bit g.units b) (sub_test g.n (g.neighbours b) s) (omega arith)
         (total-none g.n (λ b. given (bit g.units b) (sub_test g.n (g.neighbours b) s)) (omega arith) b (v.units b h)));
   };
   zeros = record {
@@ -173,8 +170,8 @@ closed_passes g s v e = record {
         let f : ℕ → ℕ = λ w. given (bit g.zeros w) (given (bit s w) (is_one (size (lack (g.neighbours w) s)))) in
         fired-by (g.neighbours w) s
         (is_one_not (size (lack (g.neighbours w) s))
-        (given_passes (bit s w) (is_one (size (lack (g.neighbours w) s))) o
-        (given_passes (bit g.zeros w) (given (bit s w) (is_one (size (lack (g.neighbours w) s)))) z
+        (given_passes (bit s w) (is_one (size (lack (g.neighbours w) s))) (omega arith)
+        (given_passes (bit g.zeros w) (given (bit s w) (is_one (size (lack (g.neighbours w) s)))) (omega arith)
         (total-none g.n f (omega arith) w (v.zeros w z)))));
   };
 }

@@ -2,11 +2,10 @@
 use mathlib.Core.Path.{refl, ap}
 use native.Mathlib.Omega.{arith}
 use lib.ListN.{length}
-use Rattle.text_field.specs.Split.{split, join, after, same, Pieces}
-use Rattle.text_field.specs.Number.{is_digit, takes_digit, number_from, numeral_of, digits}
-use Rattle.case_line.specs.Fields.{mark_of, if_one_field, if_no_field}
-use Rattle.case_line.specs.Record.{record_word_of, line_fields, bus_fields, record_of, record_text}
-use Rattle.step_line.specs.StepLine.{lettered_fields, step_word_of, reason_fields, step_fields, step_line_of, step_text}
+use Rattle.text_field.specs.Split.{split, join, Pieces}
+use Rattle.text_field.specs.Number.{digits}
+use Rattle.case_line.specs.Fields.{mark_of}
+use Rattle.tables.proofs.Words.{case_text_words, field_words, step_text_words}
 use Rattle.tables.proofs.Rows.{◌&◌}
 use Rattle.tables.specs.Tables.{AllRight}
 use Rattle.tables.specs.Fields as fields
@@ -23,11 +22,10 @@ unfolding join
 joins-right = refl
 
 pub sames_right : fields.SamesRight
-unfolding same
 sames_right = refl
 
 pub ends-right : AllRight fields.piece_end_table
-unfolding split after
+unfolding field_words
 ends-right =
     record { low = omega arith; high = omega arith; cut = refl }
     & record { low = omega arith; high = omega arith; cut = refl }
@@ -38,7 +36,7 @@ ends-right =
     & tt
 
 pub numbers-right : fields.NumbersRight
-unfolding is_digit takes_digit number_from numeral_of
+unfolding field_words
 numbers-right = refl
 
 pub numerals_right : fields.NumeralsRight
@@ -56,12 +54,11 @@ unfolding mark_of
 sites-right = refl
 
 pub records-right : records.RecordsRight
-unfolding record_of record_word_of line_fields bus_fields mark_of if_one_field if_no_field split same is_digit takes_digit number_from
-    numeral_of
+unfolding case_text_words
 records-right = refl
 
 pub record_lines-right : records.RecordTextsRight
-unfolding record_text join digits
+unfolding case_text_words
 record_lines-right = refl
 
 pub formed-right : AllRight records.formed_table
@@ -80,10 +77,9 @@ formed-right =
     & tt
 
 pub step-lines-right : records.StepLinesRight
-unfolding step_line_of step_word_of lettered_fields reason_fields step_fields if_one_field if_no_field split same is_digit takes_digit
-    number_from numeral_of
+unfolding step_text_words
 step-lines-right = refl
 
 pub step_texts_right : records.StepTextsRight
-unfolding step_text join digits
+unfolding step_text_words
 step_texts_right = refl

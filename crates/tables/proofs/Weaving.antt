@@ -1,31 +1,31 @@
 -- The tables of weaving and of the firing figure.
-use mathlib.Core.Path.{◌≡◌, refl, ap}
+use Rattle.std.specs.Prelude.{Result, Ok}
+use Rattle.std.specs.Result.{result_unwrap_or}
+use mathlib.Core.Path.{refl, ap}
 use mathlib.Core.List.{List, [], ◌∷◌}
 use mathlib.Core.Logic.{◌⊎◌, inl, inr, ⊎_elim}
 use Prim.Native.Nat.{ℕ, ◌≤◌}
 use native.Mathlib.Omega.{arith}
-use lib.Count.{ones, ones_in}
 use lib.ListN.{length, get_or}
 use lib.Signed.{le_z_yes}
-use Rattle.busset.specs.Sets.{bit, In, add, meet, lack, less, up_to, set_of}
-use Rattle.busset.specs.Held.{SetWord, word_of, hold}
+use Rattle.busset.specs.Sets.{bit, In, add, set_of}
 use Rattle.step.specs.Records.{no_step}
 use Rattle.busset.proofs.Holding.{word_own}
 use Rattle.step.specs.declared.Step.{Step}
 use Rattle.rules.specs.Steps.{Names, reached, Accepted}
 use Rattle.basics.specs.Lists.{Each}
 use Rattle.rules.specs.Weaving.{TakenFromOne, here, there, Shuffle, none, next}
-use Rattle.rules.specs.Figures.{figure}
 use Rattle.rules.proofs.Shuffles.{weaving_shuffles}
-use Rattle.grid.specs.Rows.{set_at, neighbours}
-use Rattle.list_follow.specs.declared.Wove.TheVariants as wove
+use Rattle.refusals.specs.declared.Refusal.{Refusal}
+use Rattle.list_follow.specs.declared.Wove.{Wove}
 use Rattle.demands.proofs.Demand3.{demand_3}
-use Rattle.tables.specs.Starred.{word_with, drawn_case, seven}
+use Rattle.tables.proofs.Words.{case_words, set_words, step_words}
+use Rattle.tables.specs.Starred.{drawn_case, seven}
 use Rattle.tables.proofs.Computed.{known}
-use Rattle.tables.proofs.Rows.{◌&◌}
-use Rattle.tables.proofs.Deriving.{reason_test, allowed_test, allowed_passes}
+use Rattle.tables.proofs.Rows.{◌&◌, no_answer}
+use Rattle.tables.proofs.Deriving.{allowed_passes}
 use Rattle.tables.specs.Tables.{AllRight}
-use Rattle.tables.specs.Drawings.{set, own, near, seven_grid}
+use Rattle.tables.specs.Drawings.{set, own, near, count_wove, seven_grid}
 use Rattle.tables.specs.Weaving as weaving
 use Rattle.tables.specs.Figures as figures
 use Rattle.tables.proofs.Deriving.{names_pass}
@@ -37,15 +37,15 @@ unfolding add
 wovens_right = refl
 
 pub wovens_from-right : weaving.WovensFromRight
-unfolding add hold word_of set_of
+unfolding set_words
 wovens_from-right = refl
 
 pub figures-right : figures.FiguresRight
-unfolding figure meet less lack neighbours hold word_of add set_of ones ones_in set_at
+unfolding case_words
 figures-right = refl
 
 pub stated-right : figures.StatedRight
-unfolding up_to hold word_of add set_of
+unfolding set_words
 stated-right = refl
 
 pub runs-right : AllRight figures.figure_run_table
@@ -59,7 +59,7 @@ runs-right =
 -- ---- weaving
 
 pub weavable-right : AllRight weaving.weavable_table
-unfolding add neighbours hold word_of set_of set_at
+unfolding case_words
 weavable-right =
     ((λ o. record { unit = refl; joined = refl }), ((λ o. refl), tt))
     & ((λ o. refl), ((λ o. absurd (omega arith)), tt))
@@ -123,7 +123,7 @@ shuffles_right =
 
 -- each desk's list is accepted
 accepted : Each (Accepted (seven_grid (3 ∷ []))) weaving.desks
-unfolding reason_test allowed_test neighbours add hold word_of set_of set_at
+unfolding step_words
 accepted = (
   (allowed_passes (seven_grid (3 ∷ [])) (set []) (near 2 3) refl, (allowed_passes (seven_grid (3 ∷ [])) (set (2 ∷ [])) (own 3) refl, tt)),
   ((allowed_passes (seven_grid (3 ∷ [])) (set []) (own 3) refl, tt), tt),
@@ -139,11 +139,15 @@ demand_right =
     (h.only 4 refl))
     & tt
 
+-- what is answered, or else that nothing is woven
+abbrev answer_of : Result Wove Refusal → Wove
+answer_of r = result_unwrap_or r (count_wove 0 [])
+
 pub calls-right : AllRight weaving.demand3_table
-unfolding neighbours add hold word_of set_of set_at
+unfolding case_words
 calls-right =
     demand_3.weaves (drawn_case (seven (3 ∷ []))) weaving.desks weaving.sent
-    (own 7 ∷ own 8 ∷ own 9 ∷ []) (own 3 ∷ near 2 3 ∷ own 9 ∷ []) (wove.Written 2 (word_with (2 ∷ 3 ∷ [])))
+    (own 7 ∷ own 8 ∷ own 9 ∷ []) (own 3 ∷ near 2 3 ∷ own 9 ∷ []) (Ok (count_wove 2 (2 ∷ 3 ∷ [])))
     (record { valid = known.at3.valid; alone = accepted; shuffled = shuffled; few = omega arith; room = omega arith }) (
       (
         known.at3.valid,
@@ -157,12 +161,10 @@ calls-right =
       refl,
       word_own _,
     )
-    & (λ h. let e = h.answers in let z : ◌≡◌ {A = ℕ} 0 1 = cc in omega arith)
+    & (λ h. no_answer _ h.answers)
     & (λ h. omega (arith, ap (λ (xs : List Step). (get_or xs 0 no_step).bus) h.records))
-    & (λ h. let e = h.answers in let c : ◌≡◌ {A = ℕ} 3 h.count = cc in omega (arith, c, h.counted))
-    & (λ h. let e = h.answers in
-    let s : ◌≡◌ {A = SetWord} (word_with (3 ∷ [])) h.set = cc in
-    omega (arith, ap (λ (w : SetWord). bit (set_of w) 2) s, ap (λ (t : ℕ). bit t 2) h.reaches))
+    & (λ h. omega (arith, ap (λ r. (answer_of r).count) h.answers, h.counted))
+    & (λ h. omega (arith, ap (λ r. bit (set_of (answer_of r).set) 2) h.answers, ap (λ (t : ℕ). bit t 2) h.reaches))
     & tt
   where
     named3 : Names 7 (own 3)

@@ -1,5 +1,5 @@
--- What the tables speak of: sets, steps, case values and grids, written short.
-use Rattle.std.specs.Prelude.{List, [], ◌∷◌, map, ℕ}
+-- What the tables speak of: sets, steps, answers, case values and grids, written short.
+use Rattle.std.specs.Prelude.{Bool, List, [], ◌∷◌, map, ℕ}
 use Rattle.busset.specs.Sets.{set_of}
 use Rattle.step.specs.declared.Reason.TheVariants.{OwnUnit, NeighbourOf, ZeroInjection}
 use Rattle.step.specs.declared.Step.{Step}
@@ -7,6 +7,8 @@ use Rattle.rules.specs.Grids.{Grid}
 use Rattle.grid.specs.declared.Case.{Case}
 use Rattle.grid.specs.Rows.{with_circuits}
 use Rattle.grid.specs.Cases.{grid_of}
+use Rattle.list_follow.specs.declared.Replayed.{Replayed}
+use Rattle.list_follow.specs.declared.Wove.{Wove}
 use Rattle.tables.specs.Starred.{Drawing, word_with, filled, drawn_case, seven, path}
 
 -- the set of the buses of a list
@@ -24,6 +26,14 @@ near b p = record { bus = b; reason = NeighbourOf p }
 -- `step b Z w`
 abbrev pub zero_at : ℕ → ℕ → Step
 zero_at b w = record { bus = b; reason = ZeroInjection w }
+
+-- replay's answer: the buses reached, and whether the list is finished
+abbrev pub set_replayed : List ℕ → Bool → Replayed
+set_replayed bs finished = record { set = word_with bs; finished = finished }
+
+-- weaving's: how many steps are written, and the buses reached
+abbrev pub count_wove : ℕ → List ℕ → Wove
+count_wove count bs = record { count = count; set = word_with bs }
 
 -- n, the neighbours of each bus in bus order, the Z buses, the Y sites and the units: a case value, but for its rows
 abbrev pub short_value : ℕ → List (List ℕ) → List ℕ → List ℕ → List ℕ → Case

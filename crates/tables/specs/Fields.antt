@@ -1,10 +1,8 @@
 -- Fields and numbers: fields are separated by one tab; numbers are 1 to 4 digits, with no leading zero except 0 itself.
-use Rattle.std.specs.Prelude.{Bool, true, false, List, [], ◌∷◌, ℕ}
+use Rattle.std.specs.Prelude.{Bool, true, false, List, [], ◌∷◌, ℕ, Option, Some, None}
 use Prim.Native.String.{String}
 use Rattle.text_field.specs.Split.{split, join, all_pieces, same, bytes, tab, PieceEnd}
 use Rattle.text_field.specs.Number.{numeral_of, number_text}
-use Rattle.text_field.specs.declared.Numeral.{Numeral}
-use Rattle.text_field.specs.declared.Numeral.TheVariants.{Is, Wrong}
 use Rattle.tables.specs.Tables.{Right, Reads, Writes, Row, holds, fails}
 
 -- ---- cut at tabs
@@ -61,24 +59,24 @@ piece_end_table =
 -- ---- numbers
 
 -- fields, and the number that each is
-abbrev pub number_table : List (String × Numeral)
+abbrev pub number_table : List (String × Option ℕ)
 number_table =
-    ("0", Is 0)
-    ∷ ("7", Is 7)
-    ∷ ("42", Is 42)
-    ∷ ("9999", Is 9999)
-    ∷ ("00", Wrong)
-    ∷ ("07", Wrong)
-    ∷ ("10000", Wrong)
-    ∷ ("", Wrong)
-    ∷ ("+1", Wrong)
-    ∷ ("-1", Wrong)
-    ∷ ("1 ", Wrong)
-    ∷ (" 1", Wrong)
-    ∷ ("1\r", Wrong)
-    ∷ ("1a", Wrong)
-    ∷ ("/", Wrong)
-    ∷ (":", Wrong)
+    ("0", Some 0)
+    ∷ ("7", Some 7)
+    ∷ ("42", Some 42)
+    ∷ ("9999", Some 9999)
+    ∷ ("00", None)
+    ∷ ("07", None)
+    ∷ ("10000", None)
+    ∷ ("", None)
+    ∷ ("+1", None)
+    ∷ ("-1", None)
+    ∷ ("1 ", None)
+    ∷ (" 1", None)
+    ∷ ("1\r", None)
+    ∷ ("1a", None)
+    ∷ ("/", None)
+    ∷ (":", None)
     ∷ []
 
 -- every row is right

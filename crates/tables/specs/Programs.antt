@@ -1,23 +1,21 @@
 -- From text to text: document 01's two programs, the four C functions, and the calls on step texts.
-use Rattle.std.specs.Prelude.{true, List, [], ◌∷◌, ◌++◌, ℕ, suc, replicate}
+use Rattle.std.specs.Prelude.{true, List, [], ◌∷◌, ◌++◌, ℕ, suc, replicate, Ok, Err}
 use Rattle.busset.specs.Bytes.{set_length, set_bytes}
 use Rattle.text_field.specs.Split.{bytes}
 use Rattle.refusals.specs.declared.Refusal.TheVariants.{WrongForm, OutOfRange, InvalidCase, NoRoom, NoSuchBus}
 use Rattle.grid.specs.Limits.{largest_budget}
 use Rattle.text_put.specs.Put.{Put}
 use Rattle.report_lines.specs.Printing.{IsRefusedText, PrintedReply}
-use Rattle.refusals.specs.declared.Written.TheVariants as written
 use Rattle.step_text.specs.Taking.{StepsReadReply}
-use Rattle.step_text.specs.declared.StepsRead.TheVariants as steps
 use Rattle.report_day.specs.Day.{DayPrinted}
 use Rattle.report_plan.specs.Plan.{PlanPrinted}
 use Rattle.step_replay.specs.Replying.{TextReplayReply}
-use Rattle.step_replay.specs.declared.TextReplayed.TheVariants as replayed
+use Rattle.refusals.specs.declared.ReplayError.TheVariants as refused
 use Rattle.estimator.specs.Answers.{ObservedFor, UnconfirmedFor, FewestFor, ReplayFor, OfText}
 use Rattle.estimator_reply.specs.Results.{Answered}
 use Rattle.tables.specs.Starred.{word_with}
 use Rattle.tables.specs.Tables.{Row, holds, fails, block}
-use Rattle.tables.specs.Drawings.{own}
+use Rattle.tables.specs.Drawings.{own, set_replayed}
 use Rattle.tables.specs.CaseTexts.{input, bare_input}
 use Rattle.tables.specs.StepTexts.{derivation_text}
 use Rattle.tables.specs.Reports.{output}
@@ -55,26 +53,26 @@ plan_printed_table =
 -- the case, the step text, and what replaying it answers
 abbrev pub text_replay_table : List Row
 text_replay_table =
-    holds (TextReplayReply (seven_case (3 ∷ [])) derivation_text (replayed.Reached (word_with (1 ∷ 2 ∷ 3 ∷ 4 ∷ 7 ∷ [])) true))
+    holds (TextReplayReply (seven_case (3 ∷ [])) derivation_text (Ok (set_replayed (1 ∷ 2 ∷ 3 ∷ 4 ∷ 7 ∷ []) true)))
     -- 9999 is refused in reading, 8 at the step
-    ∷ holds (TextReplayReply (seven_case (3 ∷ [])) (bytes "step\t9999\tO\nend\n") (replayed.Unread (OutOfRange 1)))
-    ∷ holds (TextReplayReply (seven_case (3 ∷ [])) (bytes "step\t8\tO\nend\n") (replayed.Refused (NoSuchBus 1)))
-    ∷ fails (TextReplayReply (seven_case (3 ∷ [])) (bytes "step\t8\tO\nend\n") (replayed.Unread (NoSuchBus 1)))
+    ∷ holds (TextReplayReply (seven_case (3 ∷ [])) (bytes "step\t9999\tO\nend\n") (Err (refused.Text (OutOfRange 1))))
+    ∷ holds (TextReplayReply (seven_case (3 ∷ [])) (bytes "step\t8\tO\nend\n") (Err (refused.List (NoSuchBus 1))))
+    ∷ fails (TextReplayReply (seven_case (3 ∷ [])) (bytes "step\t8\tO\nend\n") (Err (refused.Text (NoSuchBus 1))))
     -- the whole text is read before step 1 is tried
-    ∷ holds (TextReplayReply (seven_case (3 ∷ [])) (bytes "step\t8\tO\nstep\nend\n") (replayed.Unread (WrongForm 2)))
+    ∷ holds (TextReplayReply (seven_case (3 ∷ [])) (bytes "step\t8\tO\nstep\nend\n") (Err (refused.Text (WrongForm 2))))
     -- and before the case value is looked at
-    ∷ holds (TextReplayReply bad_case (bytes "step\nend\n") (replayed.Unread (WrongForm 1)))
-    ∷ holds (TextReplayReply bad_case (bytes "end\n") (replayed.Refused InvalidCase))
+    ∷ holds (TextReplayReply bad_case (bytes "step\nend\n") (Err (refused.Text (WrongForm 1))))
+    ∷ holds (TextReplayReply bad_case (bytes "end\n") (Err (refused.List InvalidCase)))
     ∷ []
 
 -- the step text, the records before and after, and what reading it into them answers
 abbrev pub steps_read_table : List Row
 steps_read_table =
-    holds (StepsReadReply (bytes "step\t3\tO\nend\n") (own 7 ∷ own 8 ∷ []) (own 3 ∷ own 8 ∷ []) (steps.Steps 1))
-    ∷ holds (StepsReadReply (bytes "step\t3\tO\nend\n") [] [] (steps.Refused NoRoom))
-    ∷ holds (StepsReadReply (bytes "step\t3\tO\nstep\n") [] [] (steps.Refused (WrongForm 2)))
-    ∷ holds (StepsReadReply (bytes "step\t3\tO\nstep\n") (own 7 ∷ []) (own 7 ∷ []) (steps.Refused (WrongForm 2)))
-    ∷ fails (StepsReadReply (bytes "step\t3\tO\nstep\n") (own 7 ∷ []) (own 3 ∷ []) (steps.Refused (WrongForm 2)))
+    holds (StepsReadReply (bytes "step\t3\tO\nend\n") (own 7 ∷ own 8 ∷ []) (own 3 ∷ own 8 ∷ []) (Ok 1))
+    ∷ holds (StepsReadReply (bytes "step\t3\tO\nend\n") [] [] (Err NoRoom))
+    ∷ holds (StepsReadReply (bytes "step\t3\tO\nstep\n") [] [] (Err (WrongForm 2)))
+    ∷ holds (StepsReadReply (bytes "step\t3\tO\nstep\n") (own 7 ∷ []) (own 7 ∷ []) (Err (WrongForm 2)))
+    ∷ fails (StepsReadReply (bytes "step\t3\tO\nstep\n") (own 7 ∷ []) (own 3 ∷ []) (Err (WrongForm 2)))
     ∷ []
 
 -- ---- bytes lent
@@ -82,13 +80,13 @@ steps_read_table =
 -- the line of refusal 2 at line 1 printed into bytes lent, and a text put into a buffer
 abbrev pub print_table : List Row
 print_table =
-    holds (PrintedReply (IsRefusedText (WrongForm 1)) (replicate 14 7) (bytes "refused\t2\t1\n" ++ 7 ∷ 7 ∷ []) (written.Bytes 12))
-    ∷ holds (PrintedReply (IsRefusedText (WrongForm 1)) (replicate 11 7) (replicate 11 7) (written.Refused NoRoom))
-    ∷ fails (PrintedReply (IsRefusedText (WrongForm 1)) (replicate 12 7) (replicate 12 7) (written.Refused NoRoom))
-    ∷ holds (Put (1 ∷ 2 ∷ 3 ∷ []) 1 (9 ∷ []) (1 ∷ 9 ∷ 3 ∷ []) 2)
+    holds (PrintedReply (IsRefusedText (WrongForm 1)) (replicate 14 7) (bytes "refused\t2\t1\n" ++ 7 ∷ 7 ∷ []) (Ok 12))
+    ∷ holds (PrintedReply (IsRefusedText (WrongForm 1)) (replicate 11 7) (replicate 11 7) (Err NoRoom))
+    ∷ fails (PrintedReply (IsRefusedText (WrongForm 1)) (replicate 12 7) (replicate 12 7) (Err NoRoom))
+    ∷ holds (Put {A = ℕ} (1 ∷ 2 ∷ 3 ∷ []) 1 (9 ∷ []) (1 ∷ 9 ∷ 3 ∷ []) 2)
     -- what lies past the end is counted, and not written
-    ∷ holds (Put (1 ∷ 2 ∷ 3 ∷ []) 2 (9 ∷ 8 ∷ []) (1 ∷ 2 ∷ 9 ∷ []) 4)
-    ∷ fails (Put (1 ∷ 2 ∷ 3 ∷ []) 1 (9 ∷ []) (1 ∷ 2 ∷ 3 ∷ []) 2)
+    ∷ holds (Put {A = ℕ} (1 ∷ 2 ∷ 3 ∷ []) 2 (9 ∷ 8 ∷ []) (1 ∷ 2 ∷ 9 ∷ []) 4)
+    ∷ fails (Put {A = ℕ} (1 ∷ 2 ∷ 3 ∷ []) 1 (9 ∷ []) (1 ∷ 2 ∷ 3 ∷ []) 2)
     ∷ []
 
 -- ---- the four C functions

@@ -1,13 +1,11 @@
 -- Lines of texts: the records of a case text, and the steps of a step text.
-use Rattle.std.specs.Prelude.{true, false, List, [], ◌∷◌}
+use Rattle.std.specs.Prelude.{Bool, true, false, List, [], ◌∷◌, Option, Some, None}
 use Prim.Native.String.{String}
 use Rattle.case_line.specs.Fields.{class_of, site_of}
 use Rattle.case_line.specs.Record.{record_of, record_text, Formed}
 use Rattle.step_line.specs.StepLine.{step_line_of, step_text}
 use Rattle.case_line.specs.declared.Record.{Record}
 use Rattle.case_line.specs.declared.Record.TheVariants.{Grid, Bus, Line, Circuits, Pmu, End, Wrong}
-use Rattle.case_line.specs.declared.Mark.{Mark}
-use Rattle.case_line.specs.declared.Mark.TheVariants.{Is, Neither}
 use Rattle.step_line.specs.declared.StepLine.{StepLine}
 use Rattle.step_line.specs.declared.StepLine.TheVariants as line
 use Rattle.step.specs.declared.Step.{Step}
@@ -17,16 +15,16 @@ use Rattle.tables.specs.Drawings.{own, near, zero_at}
 -- ---- letters
 
 -- classes: whether it is Z
-abbrev pub class_table : List (String × Mark)
-class_table = ("Z", Is true) ∷ ("I", Is false) ∷ ("z", Neither) ∷ ("i", Neither) ∷ ("ZZ", Neither) ∷ ("", Neither) ∷ ("Y", Neither) ∷ []
+abbrev pub class_table : List (String × Option Bool)
+class_table = ("Z", Some true) ∷ ("I", Some false) ∷ ("z", None) ∷ ("i", None) ∷ ("ZZ", None) ∷ ("", None) ∷ ("Y", None) ∷ []
 
 -- every row is right
 abbrev pub ClassesRight : Type 0
 ClassesRight = Reads class_of class_table
 
 -- sites: whether it is Y
-abbrev pub site_table : List (String × Mark)
-site_table = ("Y", Is true) ∷ ("N", Is false) ∷ ("y", Neither) ∷ ("n", Neither) ∷ ("YN", Neither) ∷ ("", Neither) ∷ ("Z", Neither) ∷ []
+abbrev pub site_table : List (String × Option Bool)
+site_table = ("Y", Some true) ∷ ("N", Some false) ∷ ("y", None) ∷ ("n", None) ∷ ("YN", None) ∷ ("", None) ∷ ("Z", None) ∷ []
 
 -- every row is right
 abbrev pub SitesRight : Type 0

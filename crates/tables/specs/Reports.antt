@@ -1,16 +1,11 @@
 -- What document 01's two programs print, and what the planning program reads first.
-use Rattle.std.specs.Prelude.{List, [], ◌∷◌, ◌++◌, ℕ, suc, ◌-◌, length, replicate}
+use Rattle.std.specs.Prelude.{List, [], ◌∷◌, ◌++◌, ℕ, suc, ◌-◌, length, replicate, Option, Some, None, Result, Ok, Err}
 use Prim.Native.String.{String}
 use Rattle.text_field.specs.Split.{bytes, line_feed}
-use Rattle.text_field.specs.declared.Numeral.{Numeral}
-use Rattle.text_field.specs.declared.Numeral.TheVariants.{Is, Wrong}
 use Rattle.step.specs.declared.Step.{Step}
 use Rattle.grid.specs.Limits.{most_bytes}
 use Rattle.refusals.specs.declared.Refusal.{Refusal}
 use Rattle.refusals.specs.declared.Refusal.TheVariants.{TextTooLong, WrongForm, OutOfRange, OutOfOrder, OverBudget, NoCover}
-use Rattle.case_read.specs.Reading.{got, refused}
-use Rattle.case_read.specs.declared.ReadAnswer.{ReadAnswer}
-use Rattle.case_read.specs.declared.ReadAnswer.TheVariants.{Read, Refused}
 use Rattle.case_line.specs.declared.Record.{Record}
 use Rattle.case_line.specs.declared.Record.TheVariants.{Pmu, End}
 use Rattle.case_write.specs.Lines.{line_text}
@@ -20,7 +15,7 @@ use Rattle.plan_input.specs.Asking.{default_budget, budget_of, read_plan}
 use Rattle.report_plan.specs.Plan.{plan_text}
 use Rattle.plan_input.specs.declared.Asked.{Asked}
 use Rattle.tables.specs.Starred.{drawn_case, seven}
-use Rattle.tables.specs.Tables.{Right, Reads, Writes, block}
+use Rattle.tables.specs.Tables.{Right, Reads, Writes, said, block}
 use Rattle.tables.specs.Drawings.{set, own, near, zero_at}
 use Rattle.tables.specs.CaseTexts.{input}
 
@@ -77,22 +72,22 @@ VerdictFieldsRight = Right verdict_fields verdict_field_table
 -- ---- the planning program
 
 -- first lines, and the budget that each says
-abbrev pub budget_table : List (String × Numeral)
+abbrev pub budget_table : List (String × Option ℕ)
 budget_table =
-    ("plan", Is default_budget)
-    ∷ ("plan\t0", Is 0)
-    ∷ ("plan\t8", Is 8)
-    ∷ ("plan\t9", Is 9)
-    ∷ ("plan\t9999", Is 9999)
-    ∷ ("plan\t10000", Wrong)
-    ∷ ("plan\t00", Wrong)
-    ∷ ("plan\t", Wrong)
-    ∷ ("plan 8", Wrong)
-    ∷ ("plan\r", Wrong)
-    ∷ ("plan\t8\t8", Wrong)
-    ∷ ("Plan", Wrong)
-    ∷ ("", Wrong)
-    ∷ ("grid\t7", Wrong)
+    ("plan", Some default_budget)
+    ∷ ("plan\t0", Some 0)
+    ∷ ("plan\t8", Some 8)
+    ∷ ("plan\t9", Some 9)
+    ∷ ("plan\t9999", Some 9999)
+    ∷ ("plan\t10000", None)
+    ∷ ("plan\t00", None)
+    ∷ ("plan\t", None)
+    ∷ ("plan 8", None)
+    ∷ ("plan\r", None)
+    ∷ ("plan\t8\t8", None)
+    ∷ ("Plan", None)
+    ∷ ("", None)
+    ∷ ("grid\t7", None)
     ∷ []
 
 -- every row is right
@@ -100,30 +95,30 @@ abbrev pub BudgetsRight : Type 0
 BudgetsRight = Reads budget_of budget_table
 
 -- inputs, and what reading says: the case text's lines count from 2
-abbrev pub input_table : List (List ℕ × ReadAnswer)
+abbrev pub input_table : List (List ℕ × Result (Unit {0}) Refusal)
 input_table =
-    (block ("plan 2" ∷ input), Read)
-    ∷ (block ("plan 9999" ∷ input), Read)
-    ∷ (bytes "", Refused (WrongForm 1))
-    ∷ (bytes "plan", Refused (WrongForm 1))
-    ∷ (block ("plan 00" ∷ input), Refused (WrongForm 1))
-    ∷ (block input, Refused (WrongForm 1))
-    ∷ (bytes "plan\n", Refused (WrongForm 2))
-    ∷ (bytes "plan\t9999\ngrid\t0\n", Refused (OutOfRange 2))
-    ∷ (bytes "plan\ngrid\t2\nbus\t2\tI\tY\n", Refused (OutOfOrder 3))
-    ∷ (block ("plan" ∷ input) ++ line_feed ∷ [], Refused (WrongForm 18))
+    (block ("plan 2" ∷ input), Ok tt)
+    ∷ (block ("plan 9999" ∷ input), Ok tt)
+    ∷ (bytes "", Err (WrongForm 1))
+    ∷ (bytes "plan", Err (WrongForm 1))
+    ∷ (block ("plan 00" ∷ input), Err (WrongForm 1))
+    ∷ (block input, Err (WrongForm 1))
+    ∷ (bytes "plan\n", Err (WrongForm 2))
+    ∷ (bytes "plan\t9999\ngrid\t0\n", Err (OutOfRange 2))
+    ∷ (bytes "plan\ngrid\t2\nbus\t2\tI\tY\n", Err (OutOfOrder 3))
+    ∷ (block ("plan" ∷ input) ++ line_feed ∷ [], Err (WrongForm 18))
     ∷ []
 
 -- every row is right
 abbrev pub InputsRight : Type 0
-InputsRight = Right (λ s. (read_plan s).read.answer) input_table
+InputsRight = Right (λ s. said (read_plan s)) input_table
 
 -- inputs, and all that is asked: the budget and the case; a refusal has neither
-abbrev pub asked_table : List (List ℕ × Asked)
+abbrev pub asked_table : List (List ℕ × Result Asked Refusal)
 asked_table =
-    (block ("plan 2" ∷ input), record { budget = 2; read = got (drawn_case (seven (3 ∷ []))) })
-    ∷ (block ("plan" ∷ input), record { budget = default_budget; read = got (drawn_case (seven (3 ∷ []))) })
-    ∷ (bytes "plan\t\n", record { budget = 0; read = refused (WrongForm 1) })
+    (block ("plan 2" ∷ input), Ok (record { budget = 2; case = drawn_case (seven (3 ∷ [])) }))
+    ∷ (block ("plan" ∷ input), Ok (record { budget = default_budget; case = drawn_case (seven (3 ∷ [])) }))
+    ∷ (bytes "plan\t\n", Err (WrongForm 1))
     ∷ []
 
 -- every row is right
@@ -131,12 +126,12 @@ abbrev pub AskedRight : Type 0
 AskedRight = Right read_plan asked_table
 
 -- the whole input counts: how many bytes `plan` and line feeds are, and what reading says; the most, and one more
-abbrev pub plan_limit_table : List (ℕ × ReadAnswer)
-plan_limit_table = (most_bytes, Refused (WrongForm 2)) ∷ (suc most_bytes, Refused TextTooLong) ∷ []
+abbrev pub plan_limit_table : List (ℕ × Result (Unit {0}) Refusal)
+plan_limit_table = (most_bytes, Err (WrongForm 2)) ∷ (suc most_bytes, Err TextTooLong) ∷ []
 
 -- every row is right
 abbrev pub PlanLimitsRight : Type 0
-PlanLimitsRight = Right (λ k. (read_plan (bytes "plan" ++ replicate (k - length (bytes "plan")) line_feed)).read.answer) plan_limit_table
+PlanLimitsRight = Right (λ k. said (read_plan (bytes "plan" ++ replicate (k - length (bytes "plan")) line_feed))) plan_limit_table
 
 -- n and the added sites, and what is printed
 abbrev pub plan_text_table : List ((ℕ × List ℕ) × String)

@@ -1,13 +1,12 @@
 -- What a C program gets: the result, and the bytes that it lent.
-use Rattle.std.specs.Prelude.{List, [], ◌∷◌, ◌++◌, ℕ, suc, ◌+◌, ◌-◌, ◌*◌, replicate}
+use Rattle.std.specs.Prelude.{List, [], ◌∷◌, ◌++◌, ℕ, suc, ◌+◌, ◌-◌, ◌*◌, replicate, Ok, Err}
 use Rattle.busset.specs.Bytes.{set_length, set_bytes}
 use Rattle.grid.specs.Limits.{most_buses, most_steps}
 use Rattle.refusals.specs.declared.Refusal.{Refusal}
 use Rattle.refusals.specs.declared.Refusal.TheVariants.{TextTooLong, WrongForm, OutOfRange, NoSuchBus, ReasonFails}
 use Rattle.refusals.specs.declared.Refusal.TheVariants.{OverBudget, NoCover, TooManySteps}
-use Rattle.estimator_reply.specs.Results.{code_of, result_of, left_by}
-use Rattle.estimator_reply.specs.declared.Answer.{Answer}
-use Rattle.estimator_reply.specs.declared.Answer.TheVariants.{Set, Refused, Unread}
+use Rattle.refusals.specs.declared.ReplayError.TheVariants as refused
+use Rattle.estimator_reply.specs.Results.{Answer, code_of, result_of, left_by}
 use Rattle.tables.specs.Starred.{word_with}
 use Rattle.tables.specs.Tables.{Right}
 
@@ -31,18 +30,18 @@ CodesRight = Right code_of code_table
 -- answers and how many bytes are lent, and the result: 50 is added in reading the step text, and 6 comes last
 abbrev pub result_table : List ((Answer × ℕ) × ℕ)
 result_table =
-    ((Set (word_with (1 ∷ 3 ∷ [])), set_length), 0)
-    ∷ ((Set (word_with (1 ∷ 3 ∷ [])), suc set_length), 0)
-    ∷ ((Set (word_with []), set_length), 0)
-    ∷ ((Set (word_with (1 ∷ 3 ∷ [])), set_length - 1), 6)
-    ∷ ((Set (word_with (1 ∷ 3 ∷ [])), 0), 6)
-    ∷ ((Refused (WrongForm 1), set_length), 102)
-    ∷ ((Refused (WrongForm 1), 0), 102)
-    ∷ ((Refused (NoSuchBus 2), set_length), 207)
-    ∷ ((Unread (WrongForm 5), set_length), 552)
-    ∷ ((Unread (OutOfRange 1), 0), 153)
-    ∷ ((Unread TextTooLong, set_length), 51)
-    ∷ ((Unread (TooManySteps (suc most_steps)), set_length), 100 * suc most_steps + 62)
+    ((Ok (word_with (1 ∷ 3 ∷ [])), set_length), 0)
+    ∷ ((Ok (word_with (1 ∷ 3 ∷ [])), suc set_length), 0)
+    ∷ ((Ok (word_with []), set_length), 0)
+    ∷ ((Ok (word_with (1 ∷ 3 ∷ [])), set_length - 1), 6)
+    ∷ ((Ok (word_with (1 ∷ 3 ∷ [])), 0), 6)
+    ∷ ((Err (refused.List (WrongForm 1)), set_length), 102)
+    ∷ ((Err (refused.List (WrongForm 1)), 0), 102)
+    ∷ ((Err (refused.List (NoSuchBus 2)), set_length), 207)
+    ∷ ((Err (refused.Text (WrongForm 5)), set_length), 552)
+    ∷ ((Err (refused.Text (OutOfRange 1)), 0), 153)
+    ∷ ((Err (refused.Text TextTooLong), set_length), 51)
+    ∷ ((Err (refused.Text (TooManySteps (suc most_steps))), set_length), 100 * suc most_steps + 62)
     ∷ []
 
 -- every row is right
@@ -69,11 +68,11 @@ SetBytesRight = Right (λ bs. set_bytes (word_with bs)) set_bytes_table
 -- answers and the bytes lent, and what these hold afterwards
 abbrev pub left_by_table : List ((Answer × List ℕ) × List ℕ)
 left_by_table =
-    ((Set (word_with (1 ∷ 2 ∷ [])), replicate set_length 9), 3 ∷ replicate (set_length - 1) 0)
-    ∷ ((Set (word_with (1 ∷ 2 ∷ [])), replicate set_length 9 ++ 5 ∷ 6 ∷ []), 3 ∷ replicate (set_length - 1) 0 ++ 5 ∷ 6 ∷ [])
-    ∷ ((Set (word_with (1 ∷ 2 ∷ [])), replicate (set_length - 1) 9), replicate (set_length - 1) 9)
-    ∷ ((Refused (ReasonFails 1), replicate set_length 9), replicate set_length 9)
-    ∷ ((Unread (WrongForm 1), replicate set_length 9), replicate set_length 9)
+    ((Ok (word_with (1 ∷ 2 ∷ [])), replicate set_length 9), 3 ∷ replicate (set_length - 1) 0)
+    ∷ ((Ok (word_with (1 ∷ 2 ∷ [])), replicate set_length 9 ++ 5 ∷ 6 ∷ []), 3 ∷ replicate (set_length - 1) 0 ++ 5 ∷ 6 ∷ [])
+    ∷ ((Ok (word_with (1 ∷ 2 ∷ [])), replicate (set_length - 1) 9), replicate (set_length - 1) 9)
+    ∷ ((Err (refused.List (ReasonFails 1)), replicate set_length 9), replicate set_length 9)
+    ∷ ((Err (refused.Text (WrongForm 1)), replicate set_length 9), replicate set_length 9)
     ∷ []
 
 -- every row is right

@@ -1,10 +1,10 @@
 -- Observation in rounds: the rounds of a grid, their list of numbers and their lines, and what the two calls answer.
-use Rattle.std.specs.Prelude.{List, [], ◌∷◌, ℕ, replicate}
+use Rattle.std.specs.Prelude.{List, [], ◌∷◌, ℕ, replicate, Ok, Err}
 use Rattle.text_field.specs.Split.{bytes}
 use Rattle.refusals.specs.declared.Refusal.TheVariants.{InvalidCase, NoRoom}
 use Rattle.rules.specs.Rounds.{RoundsOf}
-use Rattle.round_calls.specs.declared.RoundsAnswer.TheVariants.{Listed, Refused}
 use Rattle.round_calls.specs.Replies.{round_numbers, RoundsReply}
+use Rattle.round_calls.specs.declared.Listed.{Listed}
 use Rattle.report_rounds.specs.Rounds.{rounds_text, RoundsPrinted}
 use Rattle.tables.specs.Tables.{Right, Row, holds, fails, block}
 use Rattle.tables.specs.Drawings.{drawn_grid, seven_grid, onward}
@@ -66,18 +66,22 @@ RoundsTextsRight = Right rounds_text rounds_text_table
 
 -- ---- the calls
 
+-- how many numbers are written, and how many rounds
+abbrev pub numbers_listed : ℕ → ℕ → Listed
+numbers_listed numbers rounds = record { numbers = numbers; rounds = rounds }
+
 -- the room before and after, and what the call answers: 5, 6
 abbrev pub rounds_reply_table : List Row
 rounds_reply_table =
-    holds (RoundsReply (seven_case (3 ∷ [])) (replicate 8 9) (4 ∷ 2 ∷ 3 ∷ 4 ∷ 7 ∷ 1 ∷ 1 ∷ 9 ∷ []) (Listed 7 2))
+    holds (RoundsReply (seven_case (3 ∷ [])) (replicate 8 9) (4 ∷ 2 ∷ 3 ∷ 4 ∷ 7 ∷ 1 ∷ 1 ∷ 9 ∷ []) (Ok (numbers_listed 7 2)))
     -- numbers are counted, and rounds; the rest of the room stays
-    ∷ fails (RoundsReply (seven_case (3 ∷ [])) (replicate 8 9) (4 ∷ 2 ∷ 3 ∷ 4 ∷ 7 ∷ 1 ∷ 1 ∷ 9 ∷ []) (Listed 7 5))
-    ∷ fails (RoundsReply (seven_case (3 ∷ [])) (replicate 8 9) (4 ∷ 2 ∷ 3 ∷ 4 ∷ 7 ∷ 1 ∷ 1 ∷ 0 ∷ []) (Listed 7 2))
-    ∷ holds (RoundsReply (seven_case []) [] [] (Listed 0 0))
-    ∷ holds (RoundsReply bad_case [] [] (Refused InvalidCase))
-    ∷ holds (RoundsReply (seven_case (3 ∷ [])) (replicate 6 9) (replicate 6 9) (Refused NoRoom))
+    ∷ fails (RoundsReply (seven_case (3 ∷ [])) (replicate 8 9) (4 ∷ 2 ∷ 3 ∷ 4 ∷ 7 ∷ 1 ∷ 1 ∷ 9 ∷ []) (Ok (numbers_listed 7 5)))
+    ∷ fails (RoundsReply (seven_case (3 ∷ [])) (replicate 8 9) (4 ∷ 2 ∷ 3 ∷ 4 ∷ 7 ∷ 1 ∷ 1 ∷ 0 ∷ []) (Ok (numbers_listed 7 2)))
+    ∷ holds (RoundsReply (seven_case []) [] [] (Ok (numbers_listed 0 0)))
+    ∷ holds (RoundsReply bad_case [] [] (Err InvalidCase))
+    ∷ holds (RoundsReply (seven_case (3 ∷ [])) (replicate 6 9) (replicate 6 9) (Err NoRoom))
     -- nothing is written on a refusal
-    ∷ fails (RoundsReply (seven_case (3 ∷ [])) (replicate 6 9) (4 ∷ 2 ∷ 3 ∷ 4 ∷ 7 ∷ 1 ∷ []) (Refused NoRoom))
+    ∷ fails (RoundsReply (seven_case (3 ∷ [])) (replicate 6 9) (4 ∷ 2 ∷ 3 ∷ 4 ∷ 7 ∷ 1 ∷ []) (Err NoRoom))
     ∷ []
 
 -- case texts, and what the rounds report prints

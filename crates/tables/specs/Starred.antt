@@ -1,5 +1,5 @@
 -- The starred grids of document 01, as one table under one statement: each row asks a public call, and has the reply that it promises.
-use Rattle.std.specs.Prelude.{List, [], ◌∷◌, ◌++◌, ℕ, zero, suc, ◌-◌, ◌*◌, ◌≤◌, eqb, ℤ, pos, negsuc, length, drop, replicate}
+use Rattle.std.specs.Prelude.{List, [], ◌∷◌, ◌++◌, ℕ, zero, suc, ◌-◌, ◌*◌, ◌≤◌, eqb, ℤ, pos, negsuc, length, drop, replicate, Ok, Err}
 use Rattle.busset.specs.Held.{SetWord, empty_word, hold, hold_if}
 use Rattle.step.specs.declared.Reason.TheVariants.{ZeroInjection}
 use Rattle.step.specs.declared.Step.{Step}
@@ -8,12 +8,6 @@ use Rattle.grid.specs.Limits.{most_buses}
 use Rattle.grid.specs.Rows.{Rows, bus_sets}
 use Rattle.refusals.specs.declared.Refusal.TheVariants.{ReasonFails, NoCover}
 use Rattle.list_follow.specs.Replies.{ReplayReply}
-use Rattle.list_follow.specs.declared.Replayed.TheVariants as replayed
-use Rattle.observe_calls.specs.declared.Observed.TheVariants as observed
-use Rattle.observe_calls.specs.declared.Figured.TheVariants as figured
-use Rattle.place_calls.specs.declared.Verdict.TheVariants as verdict
-use Rattle.place_calls.specs.declared.Greedy.TheVariants as greedy
-use Rattle.place_calls.specs.declared.Fewest.TheVariants as fewest
 use Rattle.observe_calls.specs.Replies.{ObservedReply, FigureReply}
 use Rattle.place_calls.specs.Replies.{VerdictReply, GreedyReply, FewestReply}
 
@@ -96,15 +90,15 @@ pub data StarredRow : Type 0 where
 
 -- the row's reply is the one that the call's promise asks
 abbrev pub StarredRight : StarredRow → Type 0
-StarredRight (observes d bs) = ObservedReply (drawn_case d) (observed.Set (word_with bs))
-StarredRight (figures d bs i j z) = FigureReply (drawn_case d) (word_with bs) i j (figured.Figure z)
-StarredRight (fails d x) = ReplayReply (drawn_case d) (x ∷ []) (replayed.Refused (ReasonFails 1))
-StarredRight (unconfirmed d bs) = VerdictReply (drawn_case d) (verdict.Unconfirmed (word_with bs))
+StarredRight (observes d bs) = ObservedReply (drawn_case d) (Ok (word_with bs))
+StarredRight (figures d bs i j z) = FigureReply (drawn_case d) (word_with bs) i j (Ok z)
+StarredRight (fails d x) = ReplayReply (drawn_case d) (x ∷ []) (Err (ReasonFails 1))
+StarredRight (unconfirmed d bs) = VerdictReply (drawn_case d) (Ok (word_with bs))
 StarredRight (adds d budget xs) =
     (entry : List ℕ) → length xs ≤ length entry
-    → GreedyReply (drawn_case d) budget entry (xs ++ drop (length xs) entry) (greedy.Added (length xs))
-StarredRight (fewest_is d budget bs) = FewestReply (drawn_case d) budget (fewest.Sites (word_with bs))
-StarredRight (uncovered d budget) = FewestReply (drawn_case d) budget (fewest.Refused NoCover)
+    → GreedyReply (drawn_case d) budget entry (xs ++ drop (length xs) entry) (Ok (length xs))
+StarredRight (fewest_is d budget bs) = FewestReply (drawn_case d) budget (Ok (word_with bs))
+StarredRight (uncovered d budget) = FewestReply (drawn_case d) budget (Err NoCover)
 
 -- and so for every row
 abbrev pub AllStarredRight : List StarredRow → Type 0

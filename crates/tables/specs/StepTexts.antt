@@ -1,5 +1,6 @@
 -- Step texts: what reading one says, its steps, and the records lent for them.
-use Rattle.std.specs.Prelude.{Bool, true, false, List, [], ◌∷◌, ℕ, suc, replicate}
+use Rattle.refusals.specs.declared.Refusal.{Refusal}
+use Rattle.std.specs.Prelude.{Bool, true, false, List, [], ◌∷◌, ℕ, suc, replicate, Some, None, Result, Ok, Err}
 use Prim.Native.String.{String}
 use Rattle.grid.specs.Limits.{most_buses, most_steps, most_step_bytes}
 use Rattle.rules.specs.Steps.{Names}
@@ -9,9 +10,7 @@ use Rattle.step.specs.declared.Step.{Step}
 use Rattle.refusals.specs.declared.Refusal.TheVariants.{TextTooLong, WrongForm, OutOfRange, NoRoom, TooManySteps}
 use Rattle.step_text.specs.Steps.{step_in_range, step_lines, read_steps, steps_of}
 use Rattle.step_text.specs.Taking.{StepAt, with_room, leaves, Takes}
-use Rattle.step_text.specs.declared.taking.NextStep.TheVariants.{At, Nothing}
-use Rattle.step_text.specs.declared.StepsRead.{StepsRead}
-use Rattle.step_text.specs.declared.StepsRead.TheVariants.{Steps, Refused}
+use Rattle.step_text.specs.declared.taking.Taken.{Taken}
 use Rattle.tables.specs.Tables.{Right, Reads, Row, holds, fails, block}
 use Rattle.tables.specs.Drawings.{own, near, zero_at}
 
@@ -38,30 +37,30 @@ StepRangesRight = Right step_in_range step_range_table
 -- ---- whole texts
 
 -- texts, and how many steps each has, or its refusal
-abbrev pub read_steps_table : List (String × StepsRead)
+abbrev pub read_steps_table : List (String × Result ℕ Refusal)
 read_steps_table =
-    ("end\n", Steps 0)
-    ∷ ("step\t3\tO\nend\n", Steps 1)
-    ∷ ("step\t2\tN\t3\nstep\t3\tO\nend\n", Steps 2)
+    ("end\n", Ok 0)
+    ∷ ("step\t3\tO\nend\n", Ok 1)
+    ∷ ("step\t2\tN\t3\nstep\t3\tO\nend\n", Ok 2)
     -- no rule of observation is asked here, and no case's n
-    ∷ ("step\t42\tO\nstep\t42\tO\nend\n", Steps 2)
+    ∷ ("step\t42\tO\nstep\t42\tO\nend\n", Ok 2)
     -- 2
-    ∷ ("", Refused (WrongForm 1))
-    ∷ ("end", Refused (WrongForm 1))
-    ∷ ("step\t3\tO\n", Refused (WrongForm 2))
-    ∷ ("step\t1\tO\t2\nend\n", Refused (WrongForm 1))
-    ∷ ("step\t1\tN\nend\n", Refused (WrongForm 1))
-    ∷ ("end\n\n", Refused (WrongForm 2))
-    ∷ ("step\t3\tO\nend\nend\n", Refused (WrongForm 3))
+    ∷ ("", Err (WrongForm 1))
+    ∷ ("end", Err (WrongForm 1))
+    ∷ ("step\t3\tO\n", Err (WrongForm 2))
+    ∷ ("step\t1\tO\t2\nend\n", Err (WrongForm 1))
+    ∷ ("step\t1\tN\nend\n", Err (WrongForm 1))
+    ∷ ("end\n\n", Err (WrongForm 2))
+    ∷ ("step\t3\tO\nend\nend\n", Err (WrongForm 3))
     -- 3, and 2 before it
-    ∷ ("step\t0\tO\nend\n", Refused (OutOfRange 1))
-    ∷ ("step\t9999\tO\nend\n", Refused (OutOfRange 1))
-    ∷ ("step\t1\tN\t0\nend\n", Refused (OutOfRange 1))
-    ∷ ("step\t1\tZ\t9999\nend\n", Refused (OutOfRange 1))
-    ∷ ("step\t9999\tO\t1\nend\n", Refused (WrongForm 1))
-    ∷ ("step\t9999\tO", Refused (WrongForm 1))
+    ∷ ("step\t0\tO\nend\n", Err (OutOfRange 1))
+    ∷ ("step\t9999\tO\nend\n", Err (OutOfRange 1))
+    ∷ ("step\t1\tN\t0\nend\n", Err (OutOfRange 1))
+    ∷ ("step\t1\tZ\t9999\nend\n", Err (OutOfRange 1))
+    ∷ ("step\t9999\tO\t1\nend\n", Err (WrongForm 1))
+    ∷ ("step\t9999\tO", Err (WrongForm 1))
     -- the first bad line
-    ∷ ("step\t9999\tO\nstep\nend\n", Refused (OutOfRange 1))
+    ∷ ("step\t9999\tO\nstep\nend\n", Err (OutOfRange 1))
     ∷ []
 
 -- every row is right
@@ -69,14 +68,14 @@ abbrev pub ReadStepsRight : Type 0
 ReadStepsRight = Reads read_steps read_steps_table
 
 -- texts after the most steps: `end` is fine; a step is 12, after 2 and 3
-abbrev pub beyond_table : List (String × StepsRead)
+abbrev pub beyond_table : List (String × Result ℕ Refusal)
 beyond_table =
-    ("end\n", Steps most_steps)
-    ∷ ("", Refused (WrongForm (suc most_steps)))
-    ∷ ("step\t1\tO\nend\n", Refused (TooManySteps (suc most_steps)))
-    ∷ ("step\t9999\tO\nend\n", Refused (OutOfRange (suc most_steps)))
-    ∷ ("step\t1\nend\n", Refused (WrongForm (suc most_steps)))
-    ∷ ("step\t1\tO\nstep\n", Refused (TooManySteps (suc most_steps)))
+    ("end\n", Ok most_steps)
+    ∷ ("", Err (WrongForm (suc most_steps)))
+    ∷ ("step\t1\tO\nend\n", Err (TooManySteps (suc most_steps)))
+    ∷ ("step\t9999\tO\nend\n", Err (OutOfRange (suc most_steps)))
+    ∷ ("step\t1\nend\n", Err (WrongForm (suc most_steps)))
+    ∷ ("step\t1\tO\nstep\n", Err (TooManySteps (suc most_steps)))
     ∷ []
 
 -- every row is right
@@ -84,8 +83,8 @@ abbrev pub BeyondRight : Type 0
 BeyondRight = Reads (λ s. step_lines (suc most_steps) (split line_feed s).first (split line_feed s).rest) beyond_table
 
 -- line feeds alone: the most bytes of them are 2 at line 1, one more is 1
-abbrev pub step_limit_table : List (ℕ × StepsRead)
-step_limit_table = (most_step_bytes, Refused (WrongForm 1)) ∷ (suc most_step_bytes, Refused TextTooLong) ∷ []
+abbrev pub step_limit_table : List (ℕ × Result ℕ Refusal)
+step_limit_table = (most_step_bytes, Err (WrongForm 1)) ∷ (suc most_step_bytes, Err TextTooLong) ∷ []
 
 -- every row is right
 abbrev pub StepLimitsRight : Type 0
@@ -108,29 +107,33 @@ steps_of_table =
 abbrev pub StepsOfRight : Type 0
 StepsOfRight = Right steps_of steps_of_table
 
+-- the step that is taken, and the index of the line after it
+abbrev pub step_taken : Step → ℕ → Taken
+step_taken x next = record { step = x; next = next }
+
 -- each step names buses 1 to the most; and the step that starts at an index, with the index of the line after it
 abbrev pub step_at_table : List Row
 step_at_table =
     holds (Each (Names most_buses) (own 1 ∷ near most_buses 1 ∷ []))
     ∷ fails (Each (Names most_buses) (own 1 ∷ near most_buses (suc most_buses) ∷ []))
-    ∷ holds (StepAt (bytes "step\t3\tO\nend\n") 0 (At (own 3) 9))
-    ∷ holds (StepAt (bytes "step\t3\tO\nend\n") 9 Nothing)
-    ∷ fails (StepAt (bytes "step\t3\tO\nend\n") 0 Nothing)
-    ∷ fails (StepAt (bytes "step\t3\tO\nend\n") 0 (At (own 4) 9))
-    ∷ holds (Takes (bytes "step\t3\tO\nend\n") 0 (record { step = own 3; next = 9 }))
-    ∷ fails (Takes (bytes "step\t3\tO\nend\n") 0 (record { step = own 3; next = 0 }))
+    ∷ holds (StepAt (bytes "step\t3\tO\nend\n") 0 (Some (step_taken (own 3) 9)))
+    ∷ holds (StepAt (bytes "step\t3\tO\nend\n") 9 None)
+    ∷ fails (StepAt (bytes "step\t3\tO\nend\n") 0 None)
+    ∷ fails (StepAt (bytes "step\t3\tO\nend\n") 0 (Some (step_taken (own 4) 9)))
+    ∷ holds (Takes (bytes "step\t3\tO\nend\n") 0 (step_taken (own 3) 9))
+    ∷ fails (Takes (bytes "step\t3\tO\nend\n") 0 (step_taken (own 3) 0))
     ∷ []
 
 -- ---- the records lent
 
 -- how many records are lent, what reading says, and what is said then: 6 comes last
-abbrev pub room_table : List ((ℕ × StepsRead) × StepsRead)
+abbrev pub room_table : List ((ℕ × Result ℕ Refusal) × Result ℕ Refusal)
 room_table =
-    ((5, Steps 5), Steps 5)
-    ∷ ((6, Steps 5), Steps 5)
-    ∷ ((4, Steps 5), Refused NoRoom)
-    ∷ ((0, Steps 0), Steps 0)
-    ∷ ((0, Refused (WrongForm 3)), Refused (WrongForm 3))
+    ((5, Ok 5), Ok 5)
+    ∷ ((6, Ok 5), Ok 5)
+    ∷ ((4, Ok 5), Err NoRoom)
+    ∷ ((0, Ok 0), Ok 0)
+    ∷ ((0, Err (WrongForm 3)), Err (WrongForm 3))
     ∷ []
 
 -- every row is right
@@ -138,11 +141,11 @@ abbrev pub RoomsRight : Type 0
 RoomsRight = Right (λ q. with_room q.0 q.1) room_table
 
 -- what three records hold after the steps 2 N 3, 3 O were read into them, and after a refusal
-abbrev pub leaves_table : List (StepsRead × List Step)
+abbrev pub leaves_table : List (Result ℕ Refusal × List Step)
 leaves_table =
-    (Steps 2, near 2 3 ∷ own 3 ∷ own 9 ∷ [])
-    ∷ (Refused NoRoom, own 7 ∷ own 8 ∷ own 9 ∷ [])
-    ∷ (Refused (WrongForm 3), own 7 ∷ own 8 ∷ own 9 ∷ [])
+    (Ok 2, near 2 3 ∷ own 3 ∷ own 9 ∷ [])
+    ∷ (Err NoRoom, own 7 ∷ own 8 ∷ own 9 ∷ [])
+    ∷ (Err (WrongForm 3), own 7 ∷ own 8 ∷ own 9 ∷ [])
     ∷ []
 
 -- every row is right

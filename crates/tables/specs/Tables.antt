@@ -1,7 +1,9 @@
 -- The form of the tables: a row has what is asked, and the answer that document 01 gives.
-use Rattle.std.specs.Prelude.{◌≡◌, cond, List, [], ◌∷◌, ◌++◌, map, ℕ, eqb}
+use Rattle.std.specs.Prelude.{◌≡◌, cond, List, [], ◌∷◌, ◌++◌, map, ℕ, eqb, Result, Ok}
+use Rattle.std.specs.Result.{result_and}
 use Prim.Native.String.{String}
 use Rattle.text_field.specs.Split.{bytes, tab, line_feed}
+use Rattle.refusals.specs.declared.Refusal.{Refusal}
 
 -- ---- rows that are computed
 
@@ -16,6 +18,10 @@ Reads f rows = Right (λ s. f (bytes s)) rows
 -- the same, where the answer is a text
 abbrev pub Writes : {A : Type 0} → (A → List ℕ) → List (A × String) → Type 0
 Writes f rows = map (λ r. f r.0) rows ≡ map (λ r. bytes r.1) rows
+
+-- whether there is an answer: nothing more, or the refusal
+abbrev pub said : {A : Type 0} → Result A Refusal → Result (Unit {0}) Refusal
+said r = result_and r (Ok tt)
 
 -- ---- rows that are proved
 

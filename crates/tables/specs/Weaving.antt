@@ -1,16 +1,16 @@
 -- Weaving a received list, and shuffles of the desks' lists.
-use Rattle.std.specs.Prelude.{List, [], ◌∷◌, ℕ, ◌≤◌}
+use Rattle.refusals.specs.declared.Refusal.{Refusal}
+use Rattle.std.specs.Prelude.{List, [], ◌∷◌, ℕ, ◌≤◌, Result, Ok, Err}
 use Rattle.step.specs.declared.Step.{Step}
 use Rattle.basics.specs.Lists.{Each, Some}
 use Rattle.rules.specs.Weaving.{woven, woven_from, WeavableFrom, Weavable, TakenFromOne, Shuffle}
 use Rattle.rules.proofs.Shuffles.{Woven}
 use Rattle.refusals.specs.declared.Refusal.TheVariants.{NoRoom}
 use Rattle.list_follow.specs.declared.Wove.{Wove}
-use Rattle.list_follow.specs.declared.Wove.TheVariants as wove
 use Rattle.demands.specs.Demand3.{Weaves}
-use Rattle.tables.specs.Starred.{word_with, drawn_case, seven}
+use Rattle.tables.specs.Starred.{drawn_case, seven}
 use Rattle.tables.specs.Tables.{Right, Row, holds, fails}
-use Rattle.tables.specs.Drawings.{set, own, near, zero_at, seven_grid}
+use Rattle.tables.specs.Drawings.{set, own, near, zero_at, count_wove, seven_grid}
 use Rattle.tables.specs.Steps.{derivation_steps}
 
 -- ---- weaving
@@ -96,18 +96,18 @@ abbrev pub sent : List Step
 sent = own 3 ∷ near 2 3 ∷ own 3 ∷ []
 
 -- what is said of weaving it, with the records before and after, and the answer
-abbrev pub WeavesSent : List Step → List Step → Wove → Type 0
+abbrev pub WeavesSent : List Step → List Step → Result Wove Refusal → Type 0
 WeavesSent = Weaves (drawn_case (seven (3 ∷ []))) desks sent
 
 -- the same of the call
 abbrev pub demand3_table : List Row
 demand3_table =
-    holds (WeavesSent (own 7 ∷ own 8 ∷ own 9 ∷ []) (own 3 ∷ near 2 3 ∷ own 9 ∷ []) (wove.Written 2 (word_with (2 ∷ 3 ∷ []))))
+    holds (WeavesSent (own 7 ∷ own 8 ∷ own 9 ∷ []) (own 3 ∷ near 2 3 ∷ own 9 ∷ []) (Ok (count_wove 2 (2 ∷ 3 ∷ []))))
     -- it never refuses
-    ∷ fails (WeavesSent [] [] (wove.Refused NoRoom))
+    ∷ fails (WeavesSent [] [] (Err NoRoom))
     -- nothing is woven
-    ∷ fails (WeavesSent (own 7 ∷ own 8 ∷ []) (own 7 ∷ own 8 ∷ []) (wove.Written 0 (word_with [])))
+    ∷ fails (WeavesSent (own 7 ∷ own 8 ∷ []) (own 7 ∷ own 8 ∷ []) (Ok (count_wove 0 [])))
     -- the count is made up, or the set
-    ∷ fails (WeavesSent (own 7 ∷ own 8 ∷ own 9 ∷ []) (own 3 ∷ near 2 3 ∷ own 9 ∷ []) (wove.Written 3 (word_with (2 ∷ 3 ∷ []))))
-    ∷ fails (WeavesSent (own 7 ∷ own 8 ∷ own 9 ∷ []) (own 3 ∷ near 2 3 ∷ own 9 ∷ []) (wove.Written 2 (word_with (3 ∷ []))))
+    ∷ fails (WeavesSent (own 7 ∷ own 8 ∷ own 9 ∷ []) (own 3 ∷ near 2 3 ∷ own 9 ∷ []) (Ok (count_wove 3 (2 ∷ 3 ∷ []))))
+    ∷ fails (WeavesSent (own 7 ∷ own 8 ∷ own 9 ∷ []) (own 3 ∷ near 2 3 ∷ own 9 ∷ []) (Ok (count_wove 2 (3 ∷ []))))
     ∷ []

@@ -1,24 +1,20 @@
 -- What each call on texts promises. That of `read_steps` is `StepsReadReply` (step_text), of `replay_text` `TextReplayReply` (step_replay).
-use Rattle.std.specs.Prelude.{◌≡◌, List, [], ◌∷◌, ◌++◌, ℕ, ◌≤◌, length, drop}
+use Rattle.refusals.specs.declared.Refusal.{Refusal}
+use Rattle.std.specs.Prelude.{◌≡◌, List, [], ◌∷◌, ◌++◌, ℕ, ◌≤◌, length, drop, Result, Ok, Err}
 use Rattle.grid.specs.declared.Case.{Case}
 use Rattle.grid.specs.Cases.{Valid}
 use Rattle.refusals.specs.Refusals.{Check, check_that, Passed, Failed}
 use Rattle.refusals.specs.Calls.{Call, Refuses}
-use Rattle.case_read.specs.Reading.{refused, read_case}
+use Rattle.case_read.specs.Reading.{read_case}
 use Rattle.case_read.specs.Checks.{case_checks}
 use Rattle.case_line.specs.CaseText.{case_text}
-use Rattle.case_read.specs.declared.CaseRead.{CaseRead}
 use Rattle.step_text.specs.Steps.{read_steps}
 use Rattle.step_text.specs.Checks.{step_text_checks}
-use Rattle.step_text.specs.declared.StepsRead.{StepsRead}
-use Rattle.step_text.specs.declared.StepsRead.TheVariants as steps
-use Rattle.refusals.specs.declared.Written.{Written}
-use Rattle.refusals.specs.declared.Written.TheVariants as written
 
 -- ---- a case text read: 1, then the first bad line, in it 2, 3, 4
 
 -- the case that the text says, or its refusal
-abbrev pub CaseReadReply : List ℕ → CaseRead → Type 0
+abbrev pub CaseReadReply : List ℕ → Result Case Refusal → Type 0
 CaseReadReply text r = r ≡ read_case text
 
 -- `read_case`
@@ -26,10 +22,10 @@ abbrev pub read_case_call : Call
 read_case_call = record {
   Input = List ℕ;
   Lent = Unit {0};
-  Reply = CaseRead;
+  Reply = Result Case Refusal;
   promise = λ text before after r. CaseReadReply text r;
   checks = λ text lent. case_checks text;
-  refuses = Refuses refused;
+  refuses = Refuses Err;
 }
 
 -- ---- a case text written into the bytes lent
@@ -39,26 +35,26 @@ abbrev pub write_checks : Case → List ℕ → List Check
 write_checks c lent = check_that (Valid c) 5 0 ∷ check_that (length (case_text c) ≤ length lent) 6 0 ∷ []
 
 -- the bytes after the text stay as they were; a refusal leaves every byte
-abbrev pub CaseWrittenReply : Case → List ℕ → Written → List ℕ → Type 0
-CaseWrittenReply c lent (written.Bytes k) left =
+abbrev pub CaseWrittenReply : Case → List ℕ → Result ℕ Refusal → List ℕ → Type 0
+CaseWrittenReply c lent (Ok k) left =
     Passed (write_checks c lent) × (k ≡ length (case_text c)) × (left ≡ case_text c ++ drop (length (case_text c)) lent)
-CaseWrittenReply c lent (written.Refused r) left = Failed (write_checks c lent) r × (left ≡ lent)
+CaseWrittenReply c lent (Err r) left = Failed (write_checks c lent) r × (left ≡ lent)
 
 -- `write_case`
 abbrev pub write_case_call : Call
 write_case_call = record {
   Input = Case;
   Lent = List ℕ;
-  Reply = Written;
+  Reply = Result ℕ Refusal;
   promise = λ c lent left r. CaseWrittenReply c lent r left;
   checks = λ c lent. write_checks c lent;
-  refuses = Refuses written.Refused;
+  refuses = Refuses Err;
 }
 
 -- ---- a step text checked: 1, then the first bad line, in it 2, 3, 12
 
 -- how many steps the text has, or its refusal
-abbrev pub StepsCheckedReply : List ℕ → StepsRead → Type 0
+abbrev pub StepsCheckedReply : List ℕ → Result ℕ Refusal → Type 0
 StepsCheckedReply text r = r ≡ read_steps text
 
 -- `check_steps`
@@ -66,8 +62,8 @@ abbrev pub check_steps_call : Call
 check_steps_call = record {
   Input = List ℕ;
   Lent = Unit {0};
-  Reply = StepsRead;
+  Reply = Result ℕ Refusal;
   promise = λ text before after r. StepsCheckedReply text r;
   checks = λ text lent. step_text_checks text;
-  refuses = Refuses steps.Refused;
+  refuses = Refuses Err;
 }

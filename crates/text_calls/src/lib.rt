@@ -5,7 +5,7 @@ ghost use Rattle.text_calls.specs.Replies.{CaseWrittenReply};
 
 use case_write::cases::{count_bytes, put_case};
 use grid::Case;
-use refusals::{Refusal, Written};
+use refusals::Refusal;
 
 // passed on from the crates of their subjects
 pub use case_read::read_case;
@@ -14,15 +14,12 @@ pub use step_replay::replay_text;
 pub use step_text::check_steps;
 
 // The text of a case, written into the bytes lent.
-pub fn write_case(case: Case, out: &mut [u8]) -> Written
+pub fn write_case(case: Case, out: &mut [u8]) -> Result<usize, Refusal>
     ensures { CaseWrittenReply case out.old result out.new }
 {
-    if !grid::validity::is_valid(case.n, &case.nbr, case.zero, case.site, case.units) {
-        return Written::Refused(Refusal::InvalidCase);
+    case.check()?;
+    if out.len() < count_bytes(&case) {
+        return Err(Refusal::NoRoom);
     }
-    if out.len() < count_bytes(case.n, &case.nbr, case.zero, case.site, case.units) {
-        return Written::Refused(Refusal::NoRoom);
-    }
-    let k = put_case(out, case.n, &case.nbr, case.zero, case.site, case.units);
-    Written::Bytes(k)
+    Ok(put_case(out, &case))
 }

@@ -5,13 +5,15 @@ use mathlib.Core.List.{List, [], ◌∷◌, ◌++◌}
 use Prim.Native.Nat.{ℕ, suc, ◌+◌, ◌-◌, ◌≤◌, ◌<◌}
 use native.Mathlib.Numerals.{add-one}
 use native.Mathlib.Omega.{arith}
-use borrow.Author.Tests.{eq-eqb, ne_eqb, eqb-true, lt-ltb, le-ltb}
-use lib.Dec.{eqb}
-use native.Mathlib.Nat.{sub_self}
-use lib.ListN.{length, get_or, take, drop, length-drop, take-append-drop, drop_of_length-le}
-use lib.Seq.{drop-cons, drop-drop, take-suc, take_all, get_or-drop}
+use borrow.Author.Tests.{eq-eqb, ne_eqb, eqb-true, lt-ltb, le-ltb, ltb-true, ltb-false}
+use lib.Dec.{eqb, ltb}
+use lib.ListN.{length, take, drop, length-drop}
+use lib.Seq.{drop-drop}
+use Rattle.std.specs.Prelude.{Option, Some, None, not, ◌==◌, unwrap_or, position}
+use Rattle.std.specs.List.{position_or_len}
+use Rattle.std.proofs.lemmas.List.Sums.{prefix_len-le-length}
+use Rattle.std.proofs.lemmas.Slice.Eq.{bytes_eq-Decides}
 use Rattle.text_field.specs.Split.{Pieces, all_pieces, split, part, after, PieceEnd, same, join}
-use Rattle.text_field.proofs.Tested.{both}
 
 -- c does not stand in s
 abbrev pub FreeOf : ℕ → List ℕ → Type 0
@@ -32,59 +34,55 @@ unfolding split
 split-last c [] f = refl
 split-last c (x ∷ s) f = rw (ne_eqb x c f.0, split-last c s f.1)
 
-part-more : (s : List ℕ) (a i : ℕ) → a ≤ i → i < length s → part s a (i + 1) ≡ part s a i ++ get_or s i 0 ∷ []
-part-more s a i h k =
-    let e : (i + 1) - a ≡ suc (i - a) = omega arith in
-    let l : i - a < length (drop a s) = simp length-drop (omega arith) in
-    let j : a + (i - a) ≡ i = omega arith in
-    let g : get_or (drop a s) (i - a) 0 ≡ get_or s i 0 = get_or-drop a s (i - a) 0 ∙ ap (λ (j : ℕ). get_or s j 0) j in
-    ap (λ (j : ℕ). take j (drop a s)) e ∙ take-suc (drop a s) (i - a) 0 l ∙ ap (λ (x : ℕ). part s a i ++ x ∷ []) g
+-- how many bytes stand before the first c: all of them where there is none
+abbrev before : ℕ → List ℕ → ℕ
+before c s = position_or_len (λ x. x == c) s
 
-parted : (s : List ℕ) (a e : ℕ) → a ≤ e → drop a s ≡ part s a e ++ drop e s
-parted s a e h =
-    let j : a + (e - a) ≡ e = omega arith in
-    sym (take-append-drop (e - a) (drop a s)) ∙ ap (λ (t : List ℕ). part s a e ++ t) (drop-drop (e - a) a s ∙ ap (λ (k : ℕ). drop k s) j)
+before-le : (c : ℕ) (s : List ℕ) → before c s ≤ length s
+before-le c s = prefix_len-le-length (λ x. not (x == c)) s
 
--- no c stands in s from index a up to index i
-pub record FreeUpTo (c : ℕ) (s : List ℕ) (a i : ℕ) : Type 0 where
-  pub low : a ≤ i
-  pub high : i ≤ length s
-  pub free : FreeOf c (part s a i)
+before_unwrapped : (c : ℕ) (s : List ℕ) → unwrap_or (position (λ x. x == c) s) (length s) ≡ before c s
+before_unwrapped c s = go (ltb (before c s) (length s)) refl
+  where
+    go : (b : Bool) → ltb (before c s) (length s) ≡ b → unwrap_or (cond b (Some (before c s)) None) (length s) ≡ before c s
+    go true e = refl
+    go false e = omega (arith, ltb-false _ _ e, before-le c s)
 
-pub passed_none : {c : ℕ} {s : List ℕ} {a : ℕ} → a ≤ length s → FreeUpTo c s a a
-passed_none h = record { low = omega arith; high = h; free = rw sub_self tt }
+after_dropped : (c : ℕ) (s : List ℕ) (a i : ℕ) → a ≤ length s → after c (drop a s) i ≡ after c s (a + i)
+unfolding after
+after_dropped c s a i h = go (ltb (a + i) (length s)) refl
+  where
+    go : (b : Bool) → ltb (a + i) (length s) ≡ b → after c (drop a s) i ≡ after c s (a + i)
+    go true e =
+        let k = ltb-true _ _ e in
+        let j : a + suc i ≡ suc (a + i) = omega arith in
+        rw (e, lt-ltb i (length (drop a s)) (simp length-drop (omega arith)), drop-drop (suc i) a s, j) refl
+    go false e =
+        let k = ltb-false _ _ e in
+        rw (e, le-ltb i (length (drop a s)) (simp length-drop (omega arith))) refl
 
-pub passed-more : {c : ℕ} {s : List ℕ} {a i : ℕ} → FreeUpTo c s a i → i < length s → (get_or s i 0 ≡ c → ⊥) → FreeUpTo c s a (i + 1)
-passed-more {c} {s} {a} {i} p k n =
-    record {
+split-before : (c : ℕ) (s : List ℕ) → split c s ≡ record { first = take (before c s) s; rest = after c s (before c s) }
+unfolding split after
+split-before c [] = refl
+split-before c (x ∷ s) = go (eqb x c) refl (split-before c s)
+  where
+    go : (b : Bool) → eqb x c ≡ b → split c s ≡ record { first = take (before c s) s; rest = after c s (before c s) }
+        → split c (x ∷ s) ≡ record { first = take (before c (x ∷ s)) (x ∷ s); rest = after c (x ∷ s) (before c (x ∷ s)) }
+    go true e h = rw (e, lt-ltb 0 (suc (length s)) (omega arith)) refl
+    go false e h =
+        let j : 1 + before c s ≡ suc (before c s) = omega arith in
+        rw (e, h, after_dropped c (x ∷ s) 1 (before c s) (omega arith), j) refl
+
+-- the piece ends at the first c
+pub piece-found : {c : ℕ} {s rest : List ℕ} {a r : ℕ} {o : Option ℕ} → a ≤ length s → rest ≡ drop a s → o ≡ position (λ x. x == c) rest
+    → r ≡ unwrap_or o (length rest) → PieceEnd c s a (a + r)
+piece-found {c} {s} {rest} {a} {r} {o} h d e f =
+    let i : r ≡ before c (drop a s) = f ∙ rw (e, d) (before_unwrapped c (drop a s)) in
+    let j : (a + before c (drop a s)) - a ≡ before c (drop a s) = omega arith in
+    rw i record {
       low = omega arith;
-      high = omega arith;
-      free = rw (part-more s a i p.low k) (free_append c (part s a i) (get_or s i 0 ∷ []) p.free (n, tt));
-    }
-
-pub passed-at : {c : ℕ} {s : List ℕ} {a e : ℕ} → FreeUpTo c s a e → e < length s → get_or s e 0 ≡ c → PieceEnd c s a e
-unfolding after
-passed-at {c} {s} {a} {e} p k g =
-    record {
-      low = p.low;
-      high = p.high;
-      cut =
-          ap (split c) (parted s a e p.low ∙ ap (λ (t : List ℕ). part s a e ++ t)
-          (drop-cons s e 0 k ∙ ap (λ (x : ℕ). x ∷ drop (suc e) s) g))
-          ∙ split-cut c (part s a e) (drop (suc e) s) p.free
-          ∙ rw (lt-ltb e (length s) k);
-    }
-
-pub passed-all : {c : ℕ} {s : List ℕ} {a e : ℕ} → FreeUpTo c s a e → length s ≤ e → PieceEnd c s a e
-unfolding after
-passed-all {c} {s} {a} {e} p l =
-    record {
-      low = p.low;
-      high = p.high;
-      cut =
-          ap (split c) (sym (take_all (e - a) (drop a s) (simp length-drop (omega arith))))
-          ∙ split-last c (part s a e) p.free
-          ∙ rw (le-ltb e (length s) l);
+      high = omega (arith, before-le c (drop a s), length-drop a s);
+      cut = rw (split-before c (drop a s), after_dropped c s a (before c (drop a s)) h, j) refl;
     }
 
 -- ---- how many pieces
@@ -103,66 +101,10 @@ rest-few c (x ∷ s) = go (eqb x c) (split c s) (rest-few c s)
 
 -- ---- the pieces after index e
 
-pub after_none : (c : ℕ) (s : List ℕ) (e : ℕ) → length s ≤ e → after c s e ≡ []
-unfolding after
-after_none c s e h = rw (le-ltb e (length s) h)
-
-pub after-some : (c : ℕ) (s : List ℕ) (e : ℕ) → e < length s → after c s e ≡ all_pieces (split c (drop (suc e) s))
-unfolding after
-after-some c s e h = rw (lt-ltb e (length s) h)
-
-pub after_next : {c : ℕ} {s : List ℕ} {a e : ℕ} → a < length s → PieceEnd c s (a + 1) e → after c s a ≡ part s (a + 1) e ∷ after c s e
-unfolding after
-after_next {c} {s} {a} {e} h p =
-    let g : split c (drop (suc a) s) ≡ record { first = part s (a + 1) e; rest = after c s e } =
-    ap (λ (j : ℕ). split c (drop j s)) (sym (add-one a)) ∙ p.cut in
-    rw (lt-ltb a (length s) h, g)
-
 -- ---- two texts compared
 
-pub same_refl : (s : List ℕ) → same s s ≡ true
-unfolding same
-same_refl [] = refl
-same_refl (x ∷ s) = rw (eq-eqb x x refl, same_refl s)
-
 pub same-is : (s t : List ℕ) → same s t ≡ true → s ≡ t
-unfolding same
-same-is [] [] e = refl
-same-is [] (y ∷ t) e = let z : ◌≡◌ {A = ℕ} 0 1 = cc in absurd (omega arith)
-same-is (x ∷ s) [] e = let z : ◌≡◌ {A = ℕ} 0 1 = cc in absurd (omega arith)
-same-is (x ∷ s) (y ∷ t) e = let h = both _ _ e in ap₂ ◌∷◌ (eqb-true x y h.0) (same-is s t h.1)
-
-same_length : (s t : List ℕ) → same s t ≡ true → length s ≡ length t
-same_length s t e = ap length (same-is s t e)
-
-pub same-no : (s t : List ℕ) → (length s ≡ length t → ⊥) → false ≡ same s t
-same-no s t n = go (same s t) refl
-  where
-    go : (b : Bool) → same s t ≡ b → false ≡ b
-    go true e = absurd (n (same_length s t e))
-    go false e = refl
-
--- s and t are the same as far as index i
-pub record Alike (s t : List ℕ) (i : ℕ) : Type 0 where
-  pub long : length s ≡ length t
-  pub is : same s t ≡ same (drop i s) (drop i t)
-
-pub alike-none : {s t : List ℕ} → length s ≡ length t → Alike s t 0
-alike-none l = record { long = l; is = refl }
-
-pub alike-more : {s t : List ℕ} {i : ℕ} → Alike s t i → i < length s → get_or s i 0 ≡ get_or t i 0 → Alike s t (i + 1)
-unfolding same
-alike-more {s} {t} {i} p h e =
-    record { long = p.long; is = p.is ∙ rw (add-one, drop-cons s i 0, drop-cons t i 0 (omega arith), eq-eqb _ _ e) }
-
-pub alike_not : {s t : List ℕ} {i : ℕ} → Alike s t i → i < length s → (get_or s i 0 ≡ get_or t i 0 → ⊥) → false ≡ same s t
-unfolding same
-alike_not {s} {t} {i} p h n = sym (p.is ∙ rw (drop-cons s i 0, drop-cons t i 0 (omega arith), ne_eqb _ _ n))
-
-pub alike_all : {s t : List ℕ} {i : ℕ} → Alike s t i → length s ≤ i → true ≡ same s t
-alike_all {s} {t} {i} p h =
-    let k : length t ≤ i = omega arith in
-    sym (p.is ∙ rw (drop_of_length-le s h, drop_of_length-le t k) (same_refl []))
+same-is s t = (bytes_eq-Decides s t).0
 
 -- ---- cut and put together
 

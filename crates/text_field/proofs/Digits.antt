@@ -1,4 +1,5 @@
 -- A number's text is read as the number, and a text that is read as a number is that number's text.
+use Rattle.std.specs.Prelude.{Option, Some, None}
 use mathlib.Core.Path.{◌≡◌, refl, sym, ap, ap₂, ◌∙◌}
 use mathlib.Core.Bool.{Bool, true, false, cond}
 use mathlib.Core.List.{List, [], ◌∷◌, ◌++◌, append_assoc, append-nil}
@@ -10,17 +11,13 @@ use lib.Dec.{ltb}
 use lib.ListN.{length, length-append}
 use Rattle.text_field.specs.Number.{most_read, is_digit, takes_digit, number_from}
 use Rattle.text_field.specs.Number.{numeral_of, most_digits, most_printed, digits, number_text}
-use Rattle.text_field.specs.declared.Numeral.{Numeral}
-use Rattle.text_field.specs.declared.Numeral.TheVariants.{Is, Wrong}
 use Rattle.text_field.proofs.Numbers.{Digit, DigitTaken, digit-of, taken_of}
 use Rattle.text_field.proofs.Cutting.{FreeOf, free_append}
 
 digit-is : {d : ℕ} → Digit d → is_digit d ≡ true
-unfolding is_digit
 digit-is {d} h = rw (le-leb 48 d h.low, le-leb d 57 h.high)
 
 takes-is : {v d : ℕ} → DigitTaken v d → takes_digit v d ≡ true
-unfolding takes_digit
 takes-is {v} {d} h = rw (digit-is h.digit, lt-ltb 0 v h.some, lt-ltb v (most_read / 10) h.small)
 
 -- the two ways a number's text is made
@@ -69,51 +66,52 @@ text-many n h l =
 
 -- ---- a number that was read passed its tests
 
-tested : (b : Bool) (x : Numeral) (n : ℕ) → cond b x Wrong ≡ Is n → (b ≡ true) × (x ≡ Is n)
+tested : (b : Bool) (x : Option ℕ) (n : ℕ) → cond b x None ≡ Some n → (b ≡ true) × (x ≡ Some n)
 tested true x n e = (refl, e)
 tested false x n e = let z : ◌≡◌ {A = ℕ} 0 1 = cc in absurd (omega arith)
 
-from_cons : (v d n : ℕ) (s : List ℕ) → number_from v (d ∷ s) ≡ Is n → (takes_digit v d ≡ true) × (number_from (v * 10 + (d - 48)) s ≡ Is n)
+from_cons : (v d n : ℕ) (s : List ℕ) → number_from v (d ∷ s) ≡ Some n
+    → (takes_digit v d ≡ true) × (number_from (v * 10 + (d - 48)) s ≡ Some n)
 unfolding number_from
 from_cons v d n s e = tested (takes_digit v d) _ n e
 
-of_cons : (d n : ℕ) (s : List ℕ) → numeral_of (d ∷ s) ≡ Is n → (is_digit d ≡ true) × (number_from (d - 48) s ≡ Is n)
+of_cons : (d n : ℕ) (s : List ℕ) → numeral_of (d ∷ s) ≡ Some n → (is_digit d ≡ true) × (number_from (d - 48) s ≡ Some n)
 unfolding numeral_of
 of_cons d n s e = tested (is_digit d) _ n e
 
-of_nil : (n : ℕ) → numeral_of [] ≡ Is n → ⊥
+of_nil : (n : ℕ) → numeral_of [] ≡ Some n → ⊥
 unfolding numeral_of
 of_nil n e = let z : ◌≡◌ {A = ℕ} 0 1 = cc in omega arith
 
 -- ---- written, then read
 
-from_snoc : (v w d : ℕ) (s : List ℕ) → number_from v s ≡ Is w → DigitTaken w d → number_from v (s ++ d ∷ []) ≡ Is (w * 10 + (d - 48))
+from_snoc : (v w d : ℕ) (s : List ℕ) → number_from v s ≡ Some w → DigitTaken w d → number_from v (s ++ d ∷ []) ≡ Some (w * 10 + (d - 48))
 unfolding number_from
 from_snoc v w d [] e t = let f : v ≡ w = cc in rw (f, takes-is t)
 from_snoc v w d (x ∷ s) e t = let p = from_cons v x w s e in rw p.0 (from_snoc (v * 10 + (x - 48)) w d s p.1 t)
 
-of_snoc : (w d : ℕ) (s : List ℕ) → numeral_of s ≡ Is w → DigitTaken w d → numeral_of (s ++ d ∷ []) ≡ Is (w * 10 + (d - 48))
+of_snoc : (w d : ℕ) (s : List ℕ) → numeral_of s ≡ Some w → DigitTaken w d → numeral_of (s ++ d ∷ []) ≡ Some (w * 10 + (d - 48))
 unfolding numeral_of
 of_snoc w d [] e t = absurd (of_nil w e)
 of_snoc w d (x ∷ s) e t = let p = of_cons x w s e in rw p.0 (from_snoc (x - 48) w d s p.1 t)
 
-read-digit : (n : ℕ) → n < 10 → numeral_of (number_text n) ≡ Is n
+read-digit : (n : ℕ) → n < 10 → numeral_of (number_text n) ≡ Some n
 unfolding numeral_of number_from
 read-digit n h =
     let e : (48 + n) - 48 ≡ n = omega arith in
     let d : Digit (48 + n) = record { low = omega arith; high = omega arith } in
     rw (text-few n h, digit-is d, e)
 
-pub read_number : (n : ℕ) → n < most_read → numeral_of (number_text n) ≡ Is n
-read_number n h = by_digits (λ n. n < most_read → numeral_of (number_text n) ≡ Is n) (λ n l i. read-digit n l) more n (omega arith) h
+pub read_number : (n : ℕ) → n < most_read → numeral_of (number_text n) ≡ Some n
+read_number n h = by_digits (λ n. n < most_read → numeral_of (number_text n) ≡ Some n) (λ n l i. read-digit n l) more n (omega arith) h
   where
-    more : (n : ℕ) → 10 ≤ n → n < most_printed → (n / 10 < most_read → numeral_of (number_text (n / 10)) ≡ Is (n / 10)) → n < most_read
-        → numeral_of (number_text n) ≡ Is n
+    more : (n : ℕ) → 10 ≤ n → n < most_printed → (n / 10 < most_read → numeral_of (number_text (n / 10)) ≡ Some (n / 10)) → n < most_read
+        → numeral_of (number_text n) ≡ Some n
     more n h l p i =
         let t : DigitTaken (n / 10) (48 + n % 10) =
         record { digit = record { low = omega arith; high = omega arith }; some = omega arith; small = omega arith } in
         let e : n / 10 * 10 + ((48 + n % 10) - 48) ≡ n = omega arith in
-        rw (text-many n h l) (of_snoc (n / 10) (48 + n % 10) (number_text (n / 10)) (p (omega arith)) t ∙ ap Is e)
+        rw (text-many n h l) (of_snoc (n / 10) (48 + n % 10) (number_text (n / 10)) (p (omega arith)) t ∙ ap Some e)
 
 -- ---- read, then written
 
@@ -127,7 +125,7 @@ pub record NumberWritten (n : ℕ) (s : List ℕ) : Type 0 where
   pub small : n < most_read
   pub text : number_text n ≡ s
 
-from-written : (v n : ℕ) (s : List ℕ) → v < most_read → number_from v s ≡ Is n → NumberWritten n (number_text v ++ s)
+from-written : (v n : ℕ) (s : List ℕ) → v < most_read → number_from v s ≡ Some n → NumberWritten n (number_text v ++ s)
 unfolding number_from
 from-written v n [] h e =
     let f : v ≡ n = cc in
@@ -138,7 +136,7 @@ from-written v n (d ∷ s) h e =
     let w = from-written (v * 10 + (d - 48)) n s (omega (arith, t)) p.1 in
     record { small = w.small; text = w.text ∙ ap (λ (x : List ℕ). x ++ s) (text_snoc v d t) ∙ append_assoc (number_text v) (d ∷ []) s }
 
-pub written-number : (s : List ℕ) (n : ℕ) → numeral_of s ≡ Is n → NumberWritten n s
+pub written-number : (s : List ℕ) (n : ℕ) → numeral_of s ≡ Some n → NumberWritten n s
 written-number [] n e = absurd (of_nil n e)
 written-number (d ∷ s) n e =
     let p = of_cons d n s e in

@@ -1,7 +1,6 @@
 -- Numbers, with no leading zero except 0 itself: 1 to 4 digits where they are read, and 1 to 5 where they are written.
+use Rattle.std.specs.Prelude.{Option, Some, None}
 use Rattle.std.specs.Prelude.{Bool, cond, ◌&&◌, List, [], ◌∷◌, ◌++◌, ℕ, zero, suc, ◌+◌, ◌-◌, ◌*◌, ◌/◌, ◌%◌, ◌^◌, ltb, leb}
-use Rattle.text_field.specs.declared.Numeral.{Numeral}
-use Rattle.text_field.specs.declared.Numeral.TheVariants.{Is, Wrong}
 
 -- ---- read
 
@@ -10,22 +9,22 @@ abbrev pub most_read : ℕ
 most_read = 10 ^ 4
 
 -- the byte is a digit
-unfoldable pub is_digit : ℕ → Bool
+abbrev pub is_digit : ℕ → Bool
 is_digit d = leb 48 d && leb d 57
 
 -- a number so far takes one more digit when it is neither 0 nor of 4 digits
-unfoldable pub takes_digit : ℕ → ℕ → Bool
+abbrev pub takes_digit : ℕ → ℕ → Bool
 takes_digit v d = is_digit d && (ltb 0 v && ltb v (most_read / 10))
 
 -- the number v so far, and the digits after it
-unfoldable pub number_from : ℕ → List ℕ → Numeral
-number_from v [] = Is v
-number_from v (d ∷ s) = cond (takes_digit v d) (number_from (v * 10 + (d - 48)) s) Wrong
+unfoldable pub number_from : ℕ → List ℕ → Option ℕ
+number_from v [] = Some v
+number_from v (d ∷ s) = cond (takes_digit v d) (number_from (v * 10 + (d - 48)) s) None
 
 -- the number that a field is: a digit, and those after it
-unfoldable pub numeral_of : List ℕ → Numeral
-numeral_of [] = Wrong
-numeral_of (d ∷ s) = cond (is_digit d) (number_from (d - 48) s) Wrong
+unfoldable pub numeral_of : List ℕ → Option ℕ
+numeral_of [] = None
+numeral_of (d ∷ s) = cond (is_digit d) (number_from (d - 48) s) None
 
 -- ---- written
 

@@ -1,5 +1,6 @@
 -- A text cut at each byte c: fields are cut at tabs, lines at line feeds.
-use Rattle.std.specs.Prelude.{◌≡◌, Bool, true, false, cond, ◌&&◌, List, [], ◌∷◌, ◌++◌, ℕ, suc, ◌-◌, ◌≤◌, length, take, drop, eqb, ltb}
+use Rattle.std.specs.Prelude.{◌≡◌, Bool, cond, List, [], ◌∷◌, ◌++◌, ℕ, suc, ◌-◌, ◌≤◌, length, take, drop, eqb, ltb}
+use Rattle.std.specs.Str.{bytes_eq}
 use Prim.Native.Char.{code}
 use Prim.Native.String.{String}
 
@@ -53,11 +54,8 @@ pub record PieceEnd (c : ℕ) (s : List ℕ) (a e : ℕ) : Type 0 where
 -- ---- bytes
 
 -- whether two texts are the same
-unfoldable pub same : List ℕ → List ℕ → Bool
-same [] [] = true
-same [] (y ∷ t) = false
-same (x ∷ s) [] = false
-same (x ∷ s) (y ∷ t) = eqb x y && same s t
+abbrev pub same : List ℕ → List ℕ → Bool
+same = bytes_eq
 
 -- a quoted text's bytes
 abbrev pub bytes : String → List ℕ

@@ -1,96 +1,76 @@
 // The pieces of a text: lines separated by line feeds, fields separated by tabs, and the numbers that stand in fields.
 #![tactic(auto)]
 
-ghost use Rattle.std.specs.Prelude.{◌≡◌, ◌-◌, ◌<◌, ◌≤◌, length};
-ghost use Rattle.text_field.specs.Split.{PieceEnd, same};
-ghost use Rattle.text_field.specs.Number.{is_digit, takes_digit, numeral_of};
+ghost use Rattle.std.specs.Prelude.{◌≡◌, ◌<◌, ◌≤◌, [], ◌∷◌, length, drop, MatchOption};
+ghost use Rattle.text_field.specs.Split.{PieceEnd, split, all_pieces, after, tab, line_feed};
+ghost use Rattle.text_field.specs.Number.{takes_digit, numeral_of};
 
 // A number that is read is below this: it has at most 4 digits.
 const MOST_READ: usize = 10000;
-
-// A field read as a number.
-#[derive(Clone, Copy)]
-pub enum Numeral {
-    Is(usize),
-    Wrong,
-}
 
 // Where the piece of s that starts at `from` ends: at the next byte c, or at the end of s.
 pub fn piece_end(s: &[u8], from: usize, c: u8) -> usize
     requires { from ≤ length s.now }
     ensures { PieceEnd c s.now from result }
 {
-    let mut i = from;
-    while i < s.len() {
-        if s[i] == c {
-            return i;
-        }
-        i += 1;
-    }
-    i
+    let rest = &s[from..];
+    from + rest.iter().position(|&b| b == c).unwrap_or(rest.len())
 }
 
-// Whether d is a digit.
-fn is_digit(d: u8) -> bool
-    ensures { result ≡ is_digit d }
+// The line that starts at `at`, and where the next one starts: none where no line feed ends it.
+#[tactic(auto, unfolding(crate::specs::Split::after))]
+pub fn next_line(text: &[u8], at: usize) -> Option<(&[u8], usize)>
+    requires { at ≤ length text.now }
+    ensures { MatchOption result
+        ((split line_feed (drop at text.now)).rest ≡ [])
+        (λ x. (at < x.1) × (x.1 ≤ length text.now)
+        × (split line_feed (drop at text.now)
+        ≡ record { first = x.0.now; rest = all_pieces (split line_feed (drop x.1 text.now)) })) }
 {
-    48 <= d && d <= 57
+    let end = piece_end(text, at, b'\n');
+    if end == text.len() {
+        return None;
+    }
+    Some((&text[at..end], end + 1))
+}
+
+// The field after the one that ends at `at`, and where it ends.
+#[tactic(auto, unfolding(crate::specs::Split::after))]
+pub fn next_field(line: &[u8], at: usize) -> Option<(&[u8], usize)>
+    ensures { MatchOption result
+        (after tab line.now at ≡ [])
+        (λ x. (x.1 ≤ length line.now) × (after tab line.now at ≡ x.0.now ∷ after tab line.now x.1)) }
+{
+    if line.len() <= at {
+        return None;
+    }
+    let start = at + 1;
+    let end = piece_end(line, start, b'\t');
+    Some((&line[start..end], end))
 }
 
 // Whether the number v may go on with the byte d.
 fn goes_on(v: usize, d: u8) -> bool
     ensures { result ≡ takes_digit v d }
 {
-    if !is_digit(d) {
-        return false;
-    }
-    0 < v && v < MOST_READ / 10
-}
-
-// The byte as a number.
-fn wide(d: u8) -> usize
-    ensures { result ≡ d }
-{
-    d as usize
+    d.is_ascii_digit() && 0 < v && v < MOST_READ / 10
 }
 
 // The number that a field is.
-pub fn number_of(s: &[u8]) -> Numeral
+#[tactic(auto, unfolding(crate::specs::Number::numeral_of, crate::specs::Number::number_from))]
+pub fn number_of(s: &[u8]) -> Option<usize>
     ensures { result ≡ numeral_of s.now }
 {
-    if s.len() == 0 {
-        return Numeral::Wrong;
+    let (&first, rest) = s.split_first()?;
+    if !first.is_ascii_digit() {
+        return None;
     }
-    let first = s[0];
-    if !is_digit(first) {
-        return Numeral::Wrong;
-    }
-    let mut v = wide(first) - 48;
-    let mut i = 1;
-    while i < s.len() {
-        let d = s[i];
+    let mut v = usize::from(first - b'0');
+    for &d in rest {
         if !goes_on(v, d) {
-            return Numeral::Wrong;
+            return None;
         }
-        v = v * 10 + (wide(d) - 48);
-        i += 1;
+        v = 10 * v + usize::from(d - b'0');
     }
-    Numeral::Is(v)
-}
-
-// Whether two texts are the same.
-pub fn is_same(a: &[u8], b: &[u8]) -> bool
-    ensures { result ≡ same a.now b.now }
-{
-    if a.len() != b.len() {
-        return false;
-    }
-    let mut i = 0;
-    while i < a.len() {
-        if a[i] != b[i] {
-            return false;
-        }
-        i += 1;
-    }
-    true
+    Some(v)
 }

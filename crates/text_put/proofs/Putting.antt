@@ -6,7 +6,7 @@ use native.Mathlib.Nat.{add-zero}
 use native.Mathlib.Numerals.{add-one}
 use native.Mathlib.Omega.{arith}
 use lib.ListN.{length, set, get_or, take, length-append}
-use lib.Seq.{sets, set_out, take-suc, take_all, length-sets}
+use lib.Seq.{sets, take-suc, length-sets}
 use Rattle.text_field.specs.Number.{most_digits, most_printed, number_text}
 use Rattle.text_field.proofs.Digits.{text-few, text-many, text_length}
 use Rattle.text_put.specs.Put.{Put}
@@ -19,9 +19,6 @@ sets_append l (x ∷ t) u i =
 
 pub put-none : {l : List ℕ} {at : ℕ} → Put l at [] l at
 put-none {l} {at} = record { put = refl; next = omega arith }
-
-pub put-out : {l : List ℕ} {at : ℕ} (b : ℕ) → length l ≤ at → Put l at (b ∷ []) l (at + 1)
-put-out {l} {at} b h = record { put = sym (set_out l at b h); next = omega arith }
 
 pub put_then : {l t m u n : List ℕ} {at r q : ℕ} → Put l at t m r → Put m r u n q → Put l at (t ++ u) n q
 put_then {l} {t} {m} {u} {n} {at} {r} {q} p o =
@@ -40,34 +37,13 @@ put-near p h = omega (arith, p.next)
 pub tagged_near : {l m : List ℕ} {at r : ℕ} (w : List ℕ) (n : ℕ) → Put l at (w ++ number_text n) m r → r ≤ at + length w + most_digits
 tagged_near w n p = omega (arith, p.next, length-append w (number_text n), text_length n)
 
--- the text of r, in the arm k of a match on r
-module _ {A : Type 0} (f : A → List ℕ) where
-  pub put_arm : {r k : A} {l m : List ℕ} {at q : ℕ} → r ≡ k → Put l at (f k) m q → Put l at (f r) m q
-  put_arm e p = rw e p
-
 pub put_length : {l t m : List ℕ} {at r : ℕ} → Put l at t m r → length m ≡ length l
 put_length {l} {t} {m} {at} p = ap length p.put ∙ length-sets l at t
 
--- the first i bytes of s are put
-pub record Filled (l : List ℕ) (at : ℕ) (s m : List ℕ) (r i : ℕ) : Type 0 where
-  pub some : Put l at (take i s) m r
-  pub high : i ≤ length s
-  pub here : r ≡ at + i
-
-pub filled_none : {l s : List ℕ} {at : ℕ} → Filled l at s l at 0
-filled_none = record { some = put-none; high = omega arith; here = omega arith }
-
-pub filled_more : {l s m n : List ℕ} {at r q i : ℕ} → Filled l at s m r i → i < length s → Put m r (get_or s i 0 ∷ []) n q
-    → Filled l at s n q (i + 1)
-filled_more {l} {s} {m} {n} {at} {r} {q} {i} f h p =
-    record {
-      some = put_same (sym (rw add-one (take-suc s i 0 h))) (put_then f.some p);
-      high = omega arith;
-      here = omega arith;
-    }
-
-pub filled-all : {l s m : List ℕ} {at r i : ℕ} → Filled l at s m r i → length s ≤ i → Put l at s m r
-filled-all {l} {s} {m} {at} {r} {i} f h = put_same (take_all i s h) f.some
+-- the first i bytes of s are put, and then one byte more
+pub put_more : {l m n : List ℕ} {at r q i : ℕ} (s : List ℕ) → Put l at (take i s) m r → i < length s → Put m r (get_or s i 0 ∷ []) n q
+    → Put l at (take (i + 1) s) n q
+put_more {i = i} s p h o = put_same (sym (rw add-one (take-suc s i 0 h))) (put_then p o)
 
 pub put-digit : {l m : List ℕ} {at d r : ℕ} (n : ℕ) → n < 10 → d ≡ 48 + n → Put l at (d ∷ []) m r → Put l at (number_text n) m r
 put-digit n h e p = put_same (ap (λ (x : ℕ). x ∷ []) e ∙ sym (text-few n h)) p

@@ -4,30 +4,24 @@
 // what is asked with, and why it is refused
 pub use busset::BusSet;
 pub use grid::Case;
-pub use refusals::Refusal;
+pub use refusals::{Refusal, ReplayError};
 pub use step::{Reason, Step};
 
 // one case: the observed set, a firing figure, the test of one step
-pub use observe::test::Tested;
-pub use observe_calls::{Figured, Observed, firing_figure, observed_set, test_step};
+pub use observe_calls::{firing_figure, observed_set, test_step};
 
 // the trainer: observation in rounds
-pub use round_calls::{RoundsAnswer, observed_rounds};
+pub use round_calls::{Listed, observed_rounds};
 
 // lists: the derivation, replay and weaving
 pub use list_calls::{derivation, replay, weave};
-pub use list_derive::{DerivationAnswer, Derived};
 pub use list_follow::{Replayed, Wove};
 pub use list_value::StepList;
 
 // the siting group: cross-validation, greedy placement and the fewest units
-pub use place_calls::{Fewest, Greedy, Verdict, cross_validate, place_fewest, place_greedy};
+pub use place_calls::{cross_validate, place_fewest, place_greedy};
 
 // texts: a case text read and written, a step text checked, read and replayed
-pub use case_read::{CaseRead, ReadAnswer};
-pub use refusals::Written;
-pub use step_replay::TextReplayed;
-pub use step_text::StepsRead;
 pub use text_calls::{check_steps, read_case, read_steps, replay_text, write_case};
 
 // what the programs print

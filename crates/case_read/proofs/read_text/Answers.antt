@@ -1,35 +1,23 @@
--- Only the judgement `Next` goes on, and it gives the `Fit` that building needs. Any other exit says what is read from this line on.
-use Rattle.case_line.proofs.Answers.{told}
+-- Only `Next` goes on, and it gives the `Fit` that building needs. `Last` ends where no byte follows its line feed.
 use Rattle.case_judge.proofs.Judged.{fit_of}
-use Rattle.case_read.proofs.Lines.{going-first, no_feed, line-said, going_on}
+use Rattle.case_read.proofs.Lines.{goes-on, ends, ends-early}
 use Rattle.case_read.proofs.read_text.Goals as goal
 
-pub loop-s-init : goal.loop-s-init
-loop-s-init c = search going-first
+pub take-requires : goal.take-requires
+take-requires c = fit_of c.loop-line.reader.place c.record_of-record.result c.loop-line.invariant.small (cc)
 
-pub returns-then-text-e : goal.returns-then-text-e
-returns-then-text-e c = search no_feed
+pub returns-in-Ok-Last : goal.returns-in-Ok-Last
+returns-in-Ok-Last c =
+    let h = c.in-Some.ensures in
+    ends c.in-Some.next c.loop-line.invariant h.0 h.1 h.2 c.record_of-record.ensures c.judge.ensures (cc) c.if-next-text.true
+    c.case.ensures
 
-pub build_rows-requires : goal.build_rows-requires
-build_rows-requires c = search (fit_of, told)
+pub returns-in-Ok-Last-2 : goal.returns-in-Ok-Last-2
+returns-in-Ok-Last-2 c =
+    let h = c.in-Some.ensures in
+    ends-early c.in-Some.next c.loop-line.invariant h.0 h.1 h.2 c.record_of-record.ensures c.judge.ensures (cc) c.if-next-text.false
 
-pub build_marks-m-requires : goal.build_marks-m-requires
-build_marks-m-requires c = search (fit_of, told)
-
-pub next_place-s-requires : goal.next_place-s-requires
-next_place-s-requires c = search (fit_of, told)
-
-pub returns-in-Last : goal.returns-in-Last
-returns-in-Last c = search line-said
-
-pub returns-in-Form : goal.returns-in-Form
-returns-in-Form c = search line-said
-
-pub returns-in-Range : goal.returns-in-Range
-returns-in-Range c = search line-said
-
-pub returns-in-Order : goal.returns-in-Order
-returns-in-Order c = search line-said
-
-pub loop-s-preserved : goal.loop-s-preserved
-loop-s-preserved c = search going_on
+pub loop-line-preserved : goal.loop-line-preserved
+loop-line-preserved c =
+    let h = c.in-Some.ensures in
+    goes-on c.in-Some.next c.loop-line.invariant h.0 h.1 h.2 c.record_of-record.ensures c.judge.ensures (cc) c.take.ensures

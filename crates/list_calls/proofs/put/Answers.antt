@@ -1,35 +1,25 @@
--- While fewer than m are written there is a step to come and room for it.
-use Prim.Native.Nat.{◌<◌}
-use lib.ListN.{length}
-use native.Mathlib.Omega.{arith}
-use borrow.Author.Rules.{rules}
+-- Each turn writes its step if the bus is new, after those written before it.
+use Rattle.basics.proofs.Tests.{refutes}
+use Rattle.busset.specs.Sets.{set_of}
 use Rattle.busset.proofs.Words.{empty-set}
-use Rattle.list_follow.proofs.Putting.{put-none, step_comes, bus_comes, put_more, put_all}
+use Rattle.busset.proofs.Members.{out_of}
+use Rattle.list_follow.proofs.Putting.{put-none, put_seen, put_new, room_comes}
 use Rattle.list_calls.proofs.put.Goals as goal
+use Rattle.list_calls.proofs.put.Goals.{then-not-has, else-not-has}
 
-pub loop-k-init : goal.loop-k-init
-loop-k-init c = put-none c.args.m c.args.steps.now c.args.out.now (empty-set c.none-s.ensures)
+pub loop-x-init : goal.loop-x-init
+loop-x-init c = put-none c.args.steps.now c.args.out.now (empty-set c.none-s.ensures)
 
-pub offset_bounds-steps-i : goal.offset_bounds-steps-i
-offset_bounds-steps-i c =
-    let comes : c.loop-k.i < length c.args.steps.now = step_comes c.requires c.loop-k.invariant c.loop-k-test.true in search rules
+pub bounds-out-count : goal.bounds-out-count
+bounds-out-count c =
+    let new = out_of (set_of c.loop-x.s) _ (refutes c.has.ensures c.if-not-has.true) in
+    room_comes c.requires c.loop-x.invariant c.loop-x-test.true new c.count.ensures
 
-pub bounds-steps-i : goal.bounds-steps-i
-bounds-steps-i c = step_comes c.requires c.loop-k.invariant c.loop-k-test.true
-
-pub with-s-requires : goal.with-s-requires
-with-s-requires c = bus_comes c.requires c.loop-k.invariant c.loop-k-test.true
-
-pub overflow_add-i : goal.overflow_add-i
-overflow_add-i c =
-    let comes : c.loop-k.i < length c.args.steps.now = step_comes c.requires c.loop-k.invariant c.loop-k-test.true in search rules
-
-pub loop-k-smaller : goal.loop-k-smaller
-loop-k-smaller c = omega (arith, step_comes c.requires c.loop-k.invariant c.loop-k-test.true)
-
-pub loop-k-preserved : goal.loop-k-preserved
-loop-k-preserved c =
-    put_more c.requires c.loop-k.invariant c.loop-k-test.true c.with-s.result c.with-s.ensures c.count-k.ensures
-
-pub returns : goal.returns
-returns c = put_all c.loop-k.invariant c.loop-k-test.false
+pub loop-x-preserved : goal.loop-x-preserved
+loop-x-preserved c = elim c.if-not-has.branch [
+  | then-not-has w ↦
+      let new = out_of (set_of c.loop-x.s) _ (refutes c.has.ensures w.if-not-has.true) in
+      rw (w.s-is, w.out-is) (put_new c.requires c.loop-x.invariant c.loop-x-test.true new w.count.ensures w.with-s.ensures)
+  | else-not-has w ↦
+      rw (w.s-is, w.out-is) (put_seen c.requires c.loop-x.invariant c.loop-x-test.true (c.has.ensures.yes w.if-not-has.false))
+]

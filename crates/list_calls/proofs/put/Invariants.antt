@@ -1,12 +1,7 @@
--- What the first i steps write is written, but that the record after it may hold anything until m are written.
--- What is left of the steps falls: there is one to come while fewer than m are written.
-use Prim.Native.Nat.{◌-◌}
-use lib.ListN.{length}
+-- What weaving writes of the first steps, up to the next, is written.
+use Rattle.busset.specs.Sets.{set_of}
 use Rattle.list_follow.proofs.Putting.{PutSoFar}
 use Rattle.list_calls.proofs.put.Given as goal
 
-abbrev pub invariant-loop-k : goal.invariant-loop-k
-invariant-loop-k l = PutSoFar l.m l.steps l.fn.out l.i l.s l.k l.out
-
-abbrev pub decreases-loop-k : goal.decreases-loop-k
-decreases-loop-k l = length l.steps - l.i
+abbrev pub invariant-loop-x : goal.invariant-loop-x
+invariant-loop-x l = PutSoFar l.steps l.fn.out l.x-index (set_of l.s) l.out

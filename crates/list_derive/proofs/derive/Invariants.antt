@@ -1,14 +1,14 @@
--- Invariant: the list so far reaches s, and any derivation of the rest from s completes it. 64 less the size of s falls.
+-- Invariant: the list so far reaches s, and any derivation of the rest from s completes it. What the list lacks of 64 steps falls.
 use Prim.Native.Nat.{◌-◌}
+use lib.ListN.{length}
 use Rattle.grid.specs.Limits.{most_buses}
-use Rattle.busset.specs.Sets.{size, set_of}
-use Rattle.busset.specs.Held.{empty_word}
-use Rattle.grid.specs.Cases.{grid_with}
+use Rattle.busset.specs.Sets.{set_of}
+use Rattle.grid.specs.Cases.{grid_of}
 use Rattle.list_derive.proofs.Extending.{Extends}
 use Rattle.list_derive.proofs.derive.Given as goal
 
 abbrev pub invariant-loop-x : goal.invariant-loop-x
-invariant-loop-x l = Extends (grid_with l.n l.nbr l.zero empty_word l.units) (set_of l.s) l.list
+invariant-loop-x l = Extends (grid_of l.case) (set_of l.s) l.list.items
 
 abbrev pub decreases-loop-x : goal.decreases-loop-x
-decreases-loop-x l = most_buses - size (set_of l.s)
+decreases-loop-x l = most_buses - length l.list.items

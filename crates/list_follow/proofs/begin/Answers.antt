@@ -6,6 +6,6 @@ use Rattle.list_follow.proofs.begin.Goals as goal
 pub returns : goal.returns
 returns c = record {
   is_task = refl;
-  standing = c.opening-standing.ensures;
+  standing = c.opening.ensures;
   carries = λ e. record { set = empty-set c.none.ensures; read = refl };
 }

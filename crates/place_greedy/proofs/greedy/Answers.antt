@@ -1,41 +1,40 @@
--- Invariant: s is observed with the units placed, and what greedy still adds to them completes what it adds in all. budget - count falls.
 -- The site that `best` chose is a bus, and lighting it where s is observed gives the next observed set.
-use mathlib.Core.Path.{refl}
 use native.Mathlib.Omega.{arith}
 use borrow.Author.Rules.{rules}
-use Rattle.busset.specs.Sets.{set_of, width}
+use Rattle.busset.specs.Sets.{Bus, set_of, width}
 use Rattle.busset.proofs.Words.{set-bus}
 use Rattle.busset.proofs.Members.{with-add}
+use Rattle.rules.specs.Choosing.{Best}
 use Rattle.rules.specs.Placing.{with_units}
-use Rattle.grid.specs.Cases.{grid_with}
+use Rattle.grid.specs.Cases.{grid_of}
 use Rattle.place_light.proofs.Lighting.{lit-least}
-use Rattle.place_greedy.proofs.Comparing.{adding-none, adding-more, adding-stop, adding-all, chosen-site}
+use Rattle.place_greedy.proofs.Comparing.{adding-more, adding-stop, adding-all, best-free}
 use Rattle.place_greedy.proofs.greedy.Goals as goal
+use Rattle.place_greedy.proofs.greedy.Goals.{In-Some}
 
-pub loop-count-init : goal.loop-count-init
-loop-count-init c = λ n. adding-none _ refl (c.observed-s.ensures _ _)
+-- the site chosen is the best beside the units placed
+chosen : (c : In-Some) → Best (with_units (grid_of c.args.case.now) (set_of c.loop.placed)) c.in-Some.x
+chosen c = c.in-Some.ensures (set_of c.args.case.now.site) (set_of c.loop.placed) c.minus.ensures c.loop.invariant.1.least
 
-pub returns-then-x-eq0 : goal.returns-then-x-eq0
-returns-then-x-eq0 c = λ n. adding-stop _ (c.loop-count.invariant n) (search rules) c.if-x-eq0.true
-    (c.best-x.ensures n (set_of c.args.site) (set_of c.loop-count.placed) c.minus.ensures (c.loop-count.invariant n).least)
+chosen-bus : (c : In-Some) → Bus width c.in-Some.x
+chosen-bus c = set-bus width _ (search rules) (best-free c.minus.ensures (chosen c))
+
+pub returns-in_default : goal.returns-in_default
+returns-in_default c = adding-stop c.loop.invariant.1 (omega (arith, c.loop.invariant.0))
+    (c.in_default.ensures (set_of c.args.case.now.site) (set_of c.loop.placed) c.minus.ensures c.loop.invariant.1.least)
 
 pub with-placed-requires : goal.with-placed-requires
-with-placed-requires c = set-bus width _ (search rules)
-    (chosen-site (with_units (grid_with 0 c.args.nbr.now c.args.zero c.args.site c.args.units) (set_of c.loop-count.placed)) _
-    (c.best-x.ensures 0 (set_of c.args.site) (set_of c.loop-count.placed) c.minus.ensures (c.loop-count.invariant 0).least)
-    (λ e. omega arith))
+with-placed-requires c = chosen-bus (goal.at.with-placed-requires c).In-Some
 
 pub lit-s-requires : goal.lit-s-requires
-lit-s-requires c = set-bus width _ (search rules)
-    (chosen-site (with_units (grid_with 0 c.args.nbr.now c.args.zero c.args.site c.args.units) (set_of c.loop-count.placed)) _
-    (c.best-x.ensures 0 (set_of c.args.site) (set_of c.loop-count.placed) c.minus.ensures (c.loop-count.invariant 0).least)
-    (λ e. omega arith))
+lit-s-requires c = chosen-bus (goal.at.lit-s-requires c).In-Some
 
-pub loop-count-preserved : goal.loop-count-preserved
-loop-count-preserved c = λ n. adding-more _ (c.loop-count.invariant n) (search rules) (search rules) c.if-x-eq0.false
-    (c.best-x.ensures n (set_of c.args.site) (set_of c.loop-count.placed) c.minus.ensures (c.loop-count.invariant n).least)
-    (with-add c.with-placed.ensures)
-    (lit-least (c.loop-count.invariant n).least c.lit-s.ensures)
+pub loop-preserved : goal.loop-preserved
+loop-preserved c = (
+  omega (arith, c.loop.invariant.0, c.push.ensures.len),
+  adding-more c.loop.invariant.1 (omega (arith, c.loop.invariant.0)) (chosen (goal.at.loop-preserved c).In-Some) c.push.ensures.items
+      (with-add c.with-placed.ensures) (lit-least c.loop.invariant.1.least c.lit-s.ensures),
+)
 
 pub returns : goal.returns
-returns c = λ n. adding-all (c.loop-count.invariant n) (search rules)
+returns c = adding-all c.loop.invariant.1 (omega (arith, c.loop.invariant.0))

@@ -1,13 +1,11 @@
--- Invariant: s is observed with the units placed, and what greedy still adds to them completes what it adds in all. budget - count falls.
--- The site that `best` chose is a bus, and lighting it where s is observed gives the next observed set.
-use Prim.Native.Nat.{ℕ, ◌-◌}
+-- The set s is observed with the units placed, and what greedy still adds to them completes what it adds in all.
+use mathlib.Core.Path.{◌≡◌}
+use lib.ListN.{length}
 use Rattle.busset.specs.Sets.{set_of}
-use Rattle.grid.specs.Cases.{grid_with}
+use Rattle.grid.specs.Cases.{grid_of}
 use Rattle.place_greedy.proofs.Comparing.{Adding}
 use Rattle.place_greedy.proofs.greedy.Given as goal
 
-abbrev pub invariant-loop-count : goal.invariant-loop-count
-invariant-loop-count l = (n : ℕ) → Adding (grid_with n l.nbr l.zero l.site l.units) l.budget l.count (set_of l.placed) (set_of l.s) l.sites
-
-abbrev pub decreases-loop-count : goal.decreases-loop-count
-decreases-loop-count l = l.budget - l.count
+abbrev pub invariant-loop : goal.invariant-loop
+invariant-loop l = (length l.sites.items ≡ l.counter)
+    × Adding (grid_of l.case) l.budget (set_of l.placed) (set_of l.s) l.sites.items

@@ -3,4 +3,4 @@ use Rattle.place_light.proofs.Lighting.{lit-by}
 use Rattle.place_light.proofs.lit.Goals as goal
 
 pub returns : goal.returns
-returns c = lit-by c.row.ensures c.with-here.ensures c.union.ensures c.spread.ensures
+returns c = lit-by c.neighbours.ensures c.with-here.ensures c.union.ensures c.spread.ensures

@@ -6,8 +6,8 @@ use Rattle.place_pool.proofs.Saying.{apart_more}
 use borrow.Author.Rules.{rules}
 use Rattle.place_pool.proofs.apart.Goals as goal
 
-pub returns-then-count-k : goal.returns-then-count-k
-returns-then-count-k c = record {
+pub returns-then-apart-k : goal.returns-then-apart-k
+returns-then-apart-k c = record {
   most = search rules;
   says = λ v few s t m.
       let more = apart_more _ c.union-used.ensures c.requires.2 m s.apart in

@@ -1,6 +1,18 @@
--- The words that stay were there, and the group is put.
-use Rattle.place_pool.proofs.Keeping.{kept_then}
+-- The words that stay were there, and the group is put last.
+use mathlib.Core.Path.{subst⁻¹}
+use mathlib.Core.Logic.{inl, inr}
+use Rattle.busset.specs.Sets.{set_of}
+use Rattle.place_pool.specs.Pool.{KeptWith}
+use Rattle.place_pool.proofs.Keeping.{kept-pushed}
+use borrow.Author.Rules.{rules}
 use Rattle.place_pool.proofs.keep.Goals as goal
+use Rattle.place_pool.proofs.keep.Goals.{then-is_full, else-is_full}
 
 pub returns : goal.returns
-returns c = kept_then c.drop_oldest.ensures c.put_group-2.ensures
+returns c =
+    subst⁻¹ (KeptWith c.args.pool.now.items (set_of c.args.group)) c.push.ensures.items
+    (kept-pushed _ _ _
+    (elim c.if-is_full.branch [
+      | then-is_full w ↦ inr (search rules, cc)
+      | else-is_full w ↦ inl cc
+    ]))

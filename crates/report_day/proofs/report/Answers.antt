@@ -1,10 +1,17 @@
--- Each step of a derivation names buses 1 to n, which is what printing the list requires.
+-- Each step of a derivation names buses 1 to n, which is what putting the list requires; and the text put is the report.
+use borrow.Author.Rules.{rules}
+use lib.ListN.{length}
 use Rattle.report_lines.proofs.Printed.{printed-by}
+use Rattle.report_day.specs.Day.{day_text}
+use Rattle.report_day.specs.Listing.{Named}
 use Rattle.report_day.proofs.Reports.{derived-named, reported}
 use Rattle.report_day.proofs.report.Goals as goal
 
-pub print_day-requires : goal.print_day-requires
-print_day-requires c = (c.requires.buses.most, derived-named c.requires (c.derive-list.ensures _), c.count.ensures.most)
+pub print-requires : goal.print-requires
+print-requires c = let named : Named c.derive-steps.result.items = derived-named c.requires c.derive-steps.ensures in search rules
 
 pub returns : goal.returns
-returns c = search (printed-by, reported, c.derive-list.ensures)
+returns c =
+    let steps = c.derive-steps.result.items in
+    printed-by (reported c.derive-steps.ensures c.unconfirmed.ensures c.count-alone.ensures) _ _ _
+    (c.print.ensures (day_text (length steps) c.args.case.now.n steps c.count-alone.result) (λ lent left k told. search rules))

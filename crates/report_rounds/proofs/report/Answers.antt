@@ -1,14 +1,10 @@
--- The engine's list holds the rounds. What counts is what writes, so refusal 6 is decided before the report is put.
-use Rattle.report_lines.proofs.Printed.{put-printed, not_printed}
-use Rattle.report_rounds.proofs.Reports.{reported}
+-- The engine's sets hold the rounds, and the text put is their report.
 use borrow.Author.Rules.{rules}
+use Rattle.report_lines.proofs.Printed.{printed-by}
+use Rattle.report_rounds.specs.Rounds.{rounds_text}
 use Rattle.report_rounds.proofs.report.Goals as goal
 
-pub returns-then-out-put_report : goal.returns-then-out-put_report
-returns-then-out-put_report c = let has = c.rounds-list.ensures in
-    not_printed (reported has) (c.put_report.ensures has.rounds has.held) (search rules)
-
 pub returns : goal.returns
-returns c = let has = c.rounds-list.ensures in
-    put-printed (reported has) (c.put_report.ensures has.rounds has.held) (search rules)
-    (c.put_report-k.ensures has.rounds has.held)
+returns c = let has = c.rounds-sets.ensures in
+    printed-by (λ t e. record { rounds = has.rounds; are = has.are; is = e }) _ _ _
+    (c.print.ensures (rounds_text has.rounds) (λ lent left k told. search rules))

@@ -1,4 +1,4 @@
--- Invariant: the numbers of the rounds from i on are left to put, and those before are at most a round of all buses each.
+-- Invariant: the numbers of the rounds that are still to come are left to put, and those before are at most a round of all buses each.
 use Prim.Native.Nat.{ℕ, suc, ◌*◌, ◌≤◌}
 use mathlib.Core.List.{List}
 use Rattle.busset.specs.Sets.{width}
@@ -8,7 +8,7 @@ use Rattle.round_calls.specs.Replies.{round_numbers}
 use Rattle.round_calls.proofs.Writing.{rest_numbers}
 use Rattle.round_calls.proofs.put_rounds.Given as goal
 
-abbrev pub invariant-loop-i : goal.invariant-loop-i
-invariant-loop-i l = (l.k ≤ l.i * suc width)
-    × ((rounds : List (List ℕ)) → HeldRounds l.fn.list rounds
-    → Left l.initial.out 0 (round_numbers rounds) l.out l.k (rest_numbers rounds l.i))
+abbrev pub invariant-loop-r : goal.invariant-loop-r
+invariant-loop-r l = (l.k ≤ l.r-index * suc width)
+    × ((rounds : List (List ℕ)) → HeldRounds l.sets rounds
+    → Left l.initial.out 0 (round_numbers rounds) l.out l.k (rest_numbers rounds l.r-index))

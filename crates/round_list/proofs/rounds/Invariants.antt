@@ -7,8 +7,8 @@ use Rattle.grid.specs.Cases.{grid_of}
 use Rattle.round_list.proofs.Gathering.{RoundsSoFar}
 use Rattle.round_list.proofs.rounds.Given as goal
 
-abbrev pub invariant-loop-case : goal.invariant-loop-case
-invariant-loop-case l = RoundsSoFar (grid_of l.case) (set_of l.s) l.sets l.count
+abbrev pub invariant-loop-s : goal.invariant-loop-s
+invariant-loop-s l = RoundsSoFar (grid_of l.case) (set_of l.s) l.sets.items
 
-abbrev pub decreases-loop-case : goal.decreases-loop-case
-decreases-loop-case l = most_buses - size (set_of l.s)
+abbrev pub decreases-loop-s : goal.decreases-loop-s
+decreases-loop-s l = most_buses - size (set_of l.s)

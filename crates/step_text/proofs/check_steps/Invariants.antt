@@ -5,8 +5,8 @@ use lib.ListN.{length}
 use Rattle.step_text.proofs.Stepping.{Going}
 use Rattle.step_text.proofs.check_steps.Given as goal
 
-abbrev pub invariant-loop-k : goal.invariant-loop-k
-invariant-loop-k l = Going l.text l.k l.at
+abbrev pub invariant-loop-line : goal.invariant-loop-line
+invariant-loop-line l = Going l.text l.k l.at
 
-abbrev pub decreases-loop-k : goal.decreases-loop-k
-decreases-loop-k l = length l.text - l.at
+abbrev pub decreases-loop-line : goal.decreases-loop-line
+decreases-loop-line l = length l.text - l.at

@@ -1,16 +1,16 @@
--- Invariant: no byte from `from` up to i is c. length s - i falls. At a c, or at the end of s, that is the whole piece.
-use borrow.Author.Rules.{rules}
-use Rattle.text_field.proofs.Cutting.{passed_none, passed-more, passed-at, passed-all}
+-- The first c from `from` on ends the piece. Where there is none, the end of s does.
+use Rattle.std.proofs.Common.{◌-◌, ◌==◌, arith, rules, take, drop, length, length-drop}
+use lib.Seq.{take_all}
+use Rattle.std.proofs.lemmas.Iterator.{YieldsList-from_slice}
+use Rattle.std.proofs.lemmas.Iterator.Search.{position_from_yields_List}
+use Rattle.text_field.proofs.Cutting.{piece-found}
 use Rattle.text_field.proofs.piece_end.Goals as goal
 
-pub loop-i-init : goal.loop-i-init
-loop-i-init c = passed_none (search rules)
-
-pub returns-then-s-i : goal.returns-then-s-i
-returns-then-s-i c = passed-at c.loop-i.invariant c.loop-i-test.true c.if-s-i.true
-
-pub loop-i-preserved : goal.loop-i-preserved
-loop-i-preserved c = passed-more c.loop-i.invariant c.loop-i-test.true c.if-s-i.false
-
 pub returns : goal.returns
-returns c = passed-all c.loop-i.invariant c.loop-i-test.false
+returns c =
+    let rest = take (length c.args.s.now - c.args.from) (drop c.args.from c.args.s.now) in
+    let found =
+    position_from_yields_List (λ x. x == c.args.c) _ _ c.position.result c.position.ensures.ran
+    (YieldsList-from_slice rest cc) (λ x b q k. search rules)
+    in
+    piece-found c.requires (take_all _ _ (omega (arith, length-drop c.args.from c.args.s.now))) found c.unwrap_or.ensures

@@ -1,16 +1,6 @@
--- Invariant: the first i bytes of s are put, and k is at + i. length s - i falls.
-use borrow.Author.Rules.{rules}
-use Rattle.text_put.proofs.Putting.{filled_none, filled_more, filled-all, put_length}
+-- Invariant: the bytes of s before b-index are put, and k is the place after them.
+use Rattle.text_put.proofs.Putting.{put_more}
 use Rattle.text_put.proofs.put_all.Goals as goal
 
-pub loop-i-init : goal.loop-i-init
-loop-i-init c = filled_none
-
-pub loop-i-preserved : goal.loop-i-preserved
-loop-i-preserved c = filled_more c.loop-i.invariant (search rules) c.put_byte-k.ensures
-
-pub shape_of-out : goal.shape_of-out
-shape_of-out c = put_length c.loop-i.invariant.some
-
-pub returns : goal.returns
-returns c = filled-all c.loop-i.invariant (search rules)
+pub loop-b-preserved : goal.loop-b-preserved
+loop-b-preserved c = search put_more

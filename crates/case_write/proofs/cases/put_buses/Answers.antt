@@ -2,19 +2,13 @@
 use mathlib.Core.Path.{refl}
 use native.Mathlib.Omega.{arith}
 use Rattle.case_line.specs.CaseText.{bus_records}
-use Rattle.case_write.proofs.Turns.{turn_first, turn_bus, turn_all}
+use Rattle.case_write.proofs.Turns.{turn_bus, turn_all}
 use borrow.Author.Rules.{rules}
 use Rattle.case_write.proofs.cases.put_buses.Goals as goal
-
-pub loop-b-init : goal.loop-b-init
-loop-b-init c = turn_first (omega arith) (omega arith)
 
 pub loop-b-preserved : goal.loop-b-preserved
 loop-b-preserved c = search turn_bus
 
-pub shape_of-out : goal.shape_of-out
-shape_of-out c = c.loop-b.invariant.left.size
-
 pub returns : goal.returns
 unfolding bus_records
-returns c = turn_all c.loop-b.invariant (search rules) refl
+returns c = turn_all _ c.loop-b.invariant (search rules) (omega arith) refl

@@ -2,14 +2,11 @@
 use mathlib.Core.Path.{refl}
 use native.Mathlib.Omega.{arith}
 use Rattle.case_line.specs.CaseText.{members}
-use Rattle.case_write.proofs.Turns.{line-formed, turn_first, turn_member, turn_all}
+use Rattle.case_write.proofs.Turns.{line-formed, turn_member, turn_all}
 use Rattle.text_put.proofs.Putting.{put-none}
 use borrow.Author.Rules.{rules}
 use Rattle.case_write.proofs.cases.put_row.Goals as goal
 use Rattle.case_write.proofs.cases.put_row.Goals.{then-has, else-has}
-
-pub loop-b-init : goal.loop-b-init
-loop-b-init c = turn_first (omega arith) (omega arith)
 
 pub put_line-k-requires : goal.put_line-k-requires
 put_line-k-requires c = (omega arith, rw c.line_record.ensures (line-formed _ (omega arith) (omega arith)))
@@ -20,9 +17,6 @@ loop-b-preserved c = turn_member _ _ c.loop-b.invariant (search rules) c.has.ens
   | else-has w ↦ rw (w.if-has.false, w.out-is, w.k-is) put-none
 ])
 
-pub shape_of-out : goal.shape_of-out
-shape_of-out c = c.loop-b.invariant.left.size
-
 pub returns : goal.returns
 unfolding members
-returns c = rw (← c.row-row.ensures) (turn_all c.loop-b.invariant (search rules) refl)
+returns c = rw (← c.neighbours-row.ensures) (turn_all _ c.loop-b.invariant (search rules) (omega arith) refl)

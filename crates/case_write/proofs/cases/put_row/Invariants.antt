@@ -1,5 +1,5 @@
--- Invariant: the lines from a to the buses from b on are left to put, and each took at most line_room bytes. b-end - b falls.
-use Prim.Native.Nat.{◌+◌, ◌-◌}
+-- Invariant: the lines from a to the buses from b on are left to put, and each took at most line_room bytes.
+use Prim.Native.Nat.{◌+◌}
 use Rattle.busset.specs.Sets.{set_of}
 use Rattle.grid.specs.Rows.{circuits}
 use Rattle.case_read.proofs.Lengths.{line_room}
@@ -8,8 +8,5 @@ use Rattle.case_write.proofs.Turns.{Turn}
 use Rattle.case_write.proofs.cases.put_row.Given as goal
 
 abbrev pub invariant-loop-b : goal.invariant-loop-b
-invariant-loop-b l = Turn (members (line_from (circuits l.nbr) l.a) (set_of l.row)) line_room (l.a + 1) (l.n - l.a) l.n l.initial.out l.at
-    l.b-end l.out l.k l.b
-
-abbrev pub decreases-loop-b : goal.decreases-loop-b
-decreases-loop-b l = l.b-end - l.b
+invariant-loop-b l =
+    Turn (members (line_from (circuits l.case.nbr) l.a) (set_of l.row)) line_room (l.a + 1) l.case.n l.initial.out l.at l.out l.k l.b

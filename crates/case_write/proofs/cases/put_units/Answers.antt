@@ -2,19 +2,18 @@
 use mathlib.Core.Path.{refl}
 use native.Mathlib.Omega.{arith}
 use Rattle.case_line.specs.CaseText.{members}
-use Rattle.case_write.proofs.Turns.{turn_first, turn_member, turn_all}
+use Rattle.case_write.proofs.Turns.{turn_member, turn_all}
+use Rattle.text_put.proofs.Putting.{put-none}
 use borrow.Author.Rules.{rules}
 use Rattle.case_write.proofs.cases.put_units.Goals as goal
-
-pub loop-b-init : goal.loop-b-init
-loop-b-init c = turn_first (omega arith) (omega arith)
+use Rattle.case_write.proofs.cases.put_units.Goals.{then-has, else-has}
 
 pub loop-b-preserved : goal.loop-b-preserved
-loop-b-preserved c = search turn_member
-
-pub shape_of-out : goal.shape_of-out
-shape_of-out c = c.loop-b.invariant.left.size
+loop-b-preserved c = turn_member _ _ c.loop-b.invariant (search rules) c.has.ensures (elim c.if-has.branch [
+  | then-has w ↦ rw (w.if-has.true, w.out-is, w.k-is) w.put_line-k.ensures
+  | else-has w ↦ rw (w.if-has.false, w.out-is, w.k-is) put-none
+])
 
 pub returns : goal.returns
 unfolding members
-returns c = turn_all c.loop-b.invariant (search rules) refl
+returns c = turn_all _ c.loop-b.invariant (search rules) (omega arith) refl

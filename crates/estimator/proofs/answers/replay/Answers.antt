@@ -1,9 +1,6 @@
--- A refused case text is the answer. Otherwise the reply of `replay_text` meets its own promise, and the answer is that of the reply.
-use Rattle.estimator.proofs.Reading.{of_read, of_refused}
+-- The set is that of the reply of `replay_text`, which meets its own promise.
+use borrow.Author.Rules.{rules}
 use Rattle.estimator.proofs.answers.replay.Goals as goal
 
-pub returns-in-Read : goal.returns-in-Read
-returns-in-Read c = search of_read
-
-pub returns-in-Refused : goal.returns-in-Refused
-returns-in-Refused c = search of_refused
+pub returns : goal.returns
+returns c = rw (← c.in_ok-case.ensures) (c.in_ok-replay_text.field-0.finished, search rules)

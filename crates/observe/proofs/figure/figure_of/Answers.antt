@@ -12,7 +12,7 @@ use Rattle.observe.proofs.figure.figure_of.Goals as goal
 pub returns : goal.returns
 returns c = let fits : SFits w32 c.signed_sum.result = search rules in
     to_z-of_z fits
-    ∙ figure_law (neighbours c.args.nbr.now) (set_of c.args.s) c.args.i c.args.j
-    c.row-m.ensures c.count-degree.ensures.is
+    ∙ figure_law (neighbours c.args.case.now.nbr) (set_of c.args.s) c.args.i c.args.j
+    c.neighbours-m.ensures c.count-degree.ensures.is
     c.both.ensures c.without.ensures c.count-others.ensures.is c.seen.ensures
     c.signed_sum.ensures

@@ -5,8 +5,8 @@ use Rattle.grid.specs.Rows.{neighbours}
 use Rattle.observe.proofs.Passing.{Spreading}
 use Rattle.observe.proofs.set.spread.Given as goal
 
-abbrev pub invariant-loop-zero : goal.invariant-loop-zero
-invariant-loop-zero l = Spreading (neighbours l.nbr) (set_of l.zero) (set_of l.s) (set_of l.t)
+abbrev pub invariant-loop-r : goal.invariant-loop-r
+invariant-loop-r l = Spreading (neighbours l.case.nbr) (set_of l.case.zero) (set_of l.fn.s) (set_of l.t)
 
-abbrev pub decreases-loop-zero : goal.decreases-loop-zero
-decreases-loop-zero l = width - size (set_of l.t)
+abbrev pub decreases-loop-r : goal.decreases-loop-r
+decreases-loop-r l = width - size (set_of l.t)

@@ -6,13 +6,9 @@ use Rattle.text_put.proofs.Putting.{put_then}
 use Rattle.report_day.proofs.Texts.{verdict-some}
 use Rattle.report_day.proofs.lines.put_verdict.Goals as goal
 
-pub returns-then-alone-eq0 : goal.returns-then-alone-eq0
-unfolding join
-returns-then-alone-eq0 c = rw c.if-alone-eq0.true c.put_all.ensures
-
 pub put_byte-requires : goal.put_byte-requires
 put_byte-requires c = omega (arith, c.put_tagged-a.ensures.next, text_length c.args.alone)
 
-pub returns : goal.returns
+pub returns-else-alone-eq0 : goal.returns-else-alone-eq0
 unfolding join
-returns c = rw (verdict-some _ c.if-alone-eq0.false) (put_then c.put_tagged-a.ensures c.put_byte.ensures)
+returns-else-alone-eq0 c = rw (verdict-some _ c.if-alone-eq0.false) (put_then c.put_tagged-a.ensures c.put_byte.ensures)
