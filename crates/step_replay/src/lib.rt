@@ -14,7 +14,7 @@ use refusals::ReplayError;
 use step_text::check_steps;
 use step_text::taking::step_at;
 
-// The `count` steps of a text, followed one after another.
+// The `count` steps of a text, followed one after another up to the first bad one.
 #[tactic(auto, using(crate::proofs::Onward::replaying))]
 fn follow_text(case: &Case, text: &[u8], count: usize) -> Following
     requires { Sized case.now × (length (steps_of text.now) ≡ count) }
@@ -23,6 +23,9 @@ fn follow_text(case: &Case, text: &[u8], count: usize) -> Following
     let mut st = begin(case, Task::Replay, count);
     let mut at = 0;
     while let Some(taken) = step_at(text, at) {
+        let Ok(()) = st.standing else {
+            return st;
+        };
         st = apply(case, st, taken.step);
         at = taken.next;
     }
