@@ -94,7 +94,7 @@ def imports(file, modules):
     # a list of names may be broken, one to a line
     text = re.sub(r"\{\n((?:  \S+,\n)+)\}", lambda m: "{%s}" % " ".join(m[1].split()).rstrip(","), file.read_text())
     for line in text.splitlines():
-        use = USE.match(line)
+        use = USE.match(line.strip())
         if not use or use[1] not in modules:
             continue
         target = modules[use[1]]

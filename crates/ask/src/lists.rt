@@ -2,13 +2,13 @@
 ghost use Rattle.std.specs.Prelude.{◌≤◌, length};
 
 use crate::printing;
-use arrayvec::ArrayVec;
+use fixed_list::FixedList;
 use wozgrzyt::{Reason, Refusal, Step};
 
 // How many steps a list has at most, and how many records are lent.
 pub const MOST_RECORDS: usize = 1032;
 
-pub type Plan = ArrayVec<Step, MOST_RECORDS>;
+pub type Plan = FixedList<Step, MOST_RECORDS>;
 
 // The reason with this letter: that names bus b, or that names none.
 fn reason_of(letter: u8, b: usize) -> Option<Reason> {
@@ -31,7 +31,7 @@ fn step_of(letter: u8, a: usize, b: usize) -> Step {
 pub fn listed(block: &[u8], from: usize, to: usize) -> Plan
     requires { to ≤ length block.now }
 {
-    let mut steps = Plan::new();
+    let mut steps = Plan::blank(Step::default());
     let mut at = from;
     while at < to {
         if steps.is_full() {

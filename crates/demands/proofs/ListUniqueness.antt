@@ -18,7 +18,7 @@ use Rattle.demands.specs.Determined.{OneReply}
 use Rattle.demands.proofs.Uniqueness.{one-reply}
 
 derives-unique : {g : Grid} {l m : StepList} → Derives g l → Derives g m → l ≡ m
-derives-unique {l = l} {m = m} p q = ap list_of (derived-unique p m.items q)
+derives-unique {l = l} {m = m} p q = p.is ∙ ap list_of (derived-unique p.derived m.items q.derived) ∙ sym q.is
 
 pub derivation : OneReply derivation_call
 derivation c lent =

@@ -4,9 +4,7 @@
 ghost use Rattle.std.specs.Prelude.{◌≡◌, length};
 ghost use Rattle.grid.specs.Cases.{Sized};
 ghost use Rattle.list_follow.specs.Following.{StandsAfter};
-ghost use Rattle.list_follow.specs.Replies.{ReplayReply, WeaveReply, CanPut};
-ghost use Rattle.rules.specs.Weaving.{woven};
-ghost use Rattle.step.specs.Records.{written_into};
+ghost use Rattle.list_follow.specs.Replies.{ReplayReply, WeaveReply, CanPut, put_woven};
 
 use busset::BusSet;
 use grid::Case;
@@ -23,24 +21,27 @@ pub fn follow(case: &Case, task: Task, steps: &[Step]) -> Following
     ensures { StandsAfter case.now task (length steps.now) steps.now result }
 {
     let mut st = begin(case, task, steps.len());
-    for &x in steps {
-        st = apply(case, st, x);
+    for &step in steps {
+        st = apply(case, st, step);
     }
     st
 }
 
-// Writes what weaving writes of the steps. Each step whose bus is not yet reached goes to the record that the number of
-// buses reached before it says.
-pub fn put(steps: &[Step], out: &mut [Step])
-    requires { CanPut steps.now out.old }
-    ensures { out.new ≡ written_into (woven steps.now) out.old }
+// Writes the first m of the steps that weaving writes. Each step goes to the record that the number of buses reached
+// before it says: a step for a bus that is already reached is written over by the next.
+pub fn put(m: usize, steps: &[Step], out: &mut [Step])
+    requires { CanPut m steps.now out.old }
+    ensures { out.new ≡ put_woven m steps.now out.old }
 {
     let mut s = BusSet::none();
+    let mut k = 0;
     for &x in steps {
-        if !s.has(x.bus) {
-            out[s.count()] = x;
-            s = s.with(x.bus);
+        if k == m {
+            return;
         }
+        out[k] = x;
+        s = s.with(x.bus);
+        k = s.count();
     }
 }
 
@@ -57,6 +58,6 @@ pub fn weave(case: Case, steps: &[Step], out: &mut [Step]) -> Result<Wove, Refus
 {
     let st = follow(&case, Task::Weave, steps);
     let woven = settled(st, out.len())?;
-    put(steps, out);
+    put(woven.count, steps, out);
     Ok(woven)
 }

@@ -3,7 +3,8 @@ ghost use Rattle.std.specs.Prelude.{◌≤◌};
 ghost use Rattle.busset.specs.Sets.{Within, set_of};
 ghost use Rattle.grid.specs.Limits.{most_buses};
 ghost use Rattle.grid.specs.Rows.{neighbours};
-ghost use Rattle.grid.specs.Cases.{grid_of, Lines};
+ghost use Rattle.busset.specs.Held.{SetWord};
+ghost use Rattle.grid.specs.Cases.{grid_with, Lines};
 ghost use Rattle.list_derive.specs.Searching.{NextAnswer};
 
 use busset::BusSet;
@@ -12,12 +13,14 @@ use observe::test::{by_unit, by_zero};
 use step::{Reason, Step};
 
 // The next step where s is observed: for the lowest bus that any rule reaches, O before N before Z, lowest p, lowest w.
+// The sites are whatever they are: no reason reads them.
 pub fn next_step(case: &Case, s: BusSet) -> Option<Step>
     requires few { case.now.n ≤ most_buses }
     requires lines { Lines case.now.n (neighbours case.now.nbr) }
     requires zeros { Within case.now.n (set_of case.now.zero) }
     requires units { Within case.now.n (set_of case.now.units) }
-    ensures { NextAnswer (grid_of case.now) (set_of s) result }
+    ensures { (sites : SetWord)
+        → NextAnswer (grid_with case.now.n case.now.nbr case.now.zero sites case.now.units) (set_of s) result }
 {
     'search: {
         for b in 1..=case.n {

@@ -8,6 +8,7 @@ use Prim.Native.Nat.{ℕ, ◌≤◌}
 use native.Mathlib.Omega.{arith}
 use lib.Dec.{leb}
 use lib.ListN.{length}
+use lib.Seq.{take_all}
 use Rattle.basics.specs.Deciding.{Decides}
 use Rattle.busset.specs.Sets.{Sub, size, empty, set_of}
 use Rattle.basics.proofs.Tests.{decides-le, decides-by, decides-no, refutes}
@@ -29,7 +30,7 @@ use Rattle.refusals.proofs.Orders.{itself, passed_then, failed_sooner, failed-la
 use Rattle.grid.specs.Near.{WithNeighbours}
 use Rattle.observe.specs.Passes.{Swept}
 use Rattle.list_follow.specs.Following.{list_checks, Carries, StandsAfter}
-use Rattle.list_follow.specs.Replies.{replay_checks, WeaveReply, AnswersReplay, wove_at, CanPut}
+use Rattle.list_follow.specs.Replies.{replay_checks, WeaveReply, AnswersReplay, wove_at, CanPut, put_woven}
 use Rattle.list_follow.specs.declared.Task.TheVariants.{Weave}
 use Rattle.list_follow.specs.declared.Following.{Following}
 use Rattle.list_follow.specs.declared.Wove.{Wove}
@@ -82,8 +83,8 @@ module _ (c : Case) (st : Following) (xs before : List Step) where
 
   -- what is answered, where it is w: its steps can be put, and where they are put, it is right
   abbrev RightOf : Wove → Type 0
-  RightOf w = CanPut xs before
-      × ((after : List Step) → after ≡ written_into (woven xs) before → WeaveReply c xs before after (Ok w))
+  RightOf w = CanPut w.count xs before
+      × ((after : List Step) → after ≡ put_woven w.count xs before → WeaveReply c xs before after (Ok w))
 
   -- r is right; a refusal is where no record is written
   abbrev Right : Result Wove Refusal → Type 0
@@ -92,12 +93,16 @@ module _ (c : Case) (st : Following) (xs before : List Step) where
 
   fits : Passed checks → Carries xs st → count ≤ length before → RightOf (record { count = count; set = st.set })
   fits ok h l = (
-    record { buses = each-bus Weave c 1 empty xs ok.0.buses.most ok.1.1; room = omega (arith, l, counts h) },
+    record {
+      buses = λ p. each-bus Weave c 1 empty xs ok.0.buses.most ok.1.1;
+      some = omega (arith, counts h);
+      room = l;
+    },
     λ after put. (
       passed_then checks room ok (omega (arith, l, counts h), tt),
       counts h,
       h.set ∙ sym (woven-reaches xs),
-      put,
+      put ∙ ap (λ (ys : List Step). written_into ys before) (take_all count (woven xs) (omega (arith, counts h))),
       word_own _,
     ),
   )
@@ -117,11 +122,12 @@ module _ (c : Case) (st : Following) (xs before : List Step) where
   settles : {r : Result Wove Refusal} → StandsAfter c Weave (length xs) xs st → r ≡ wove_at st (length before) st.standing → Right r
   settles s e = subst⁻¹ Right e (right st.standing s.standing s.carries)
 
-  pub can_put : {w : Wove} → StandsAfter c Weave (length xs) xs st → Ok w ≡ wove_at st (length before) st.standing → CanPut xs before
+  pub can_put : {w : Wove} → StandsAfter c Weave (length xs) xs st → Ok w ≡ wove_at st (length before) st.standing
+      → CanPut w.count xs before
   can_put s e = (settles s e).0
 
   pub weave_law : {w : Wove} (after : List Step) → StandsAfter c Weave (length xs) xs st
-      → Ok w ≡ wove_at st (length before) st.standing → after ≡ written_into (woven xs) before
+      → Ok w ≡ wove_at st (length before) st.standing → after ≡ put_woven w.count xs before
       → WeaveReply c xs before after (Ok w)
   weave_law after s e = (settles s e).1 after
 

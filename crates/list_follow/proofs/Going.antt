@@ -29,6 +29,9 @@ use Rattle.list_follow.proofs.Joining.{standing_then, list-checks_append, reache
 
 -- ---- step after step
 
+pub follows-none : (c : Case) (st : Following) → Follows c st [] st
+follows-none c st = record { leads = λ task count ys l s. subst⁻¹ (λ (zs : List Step). StandsAfter c task count zs st) (append-nil ys) s }
+
 -- the steps xs, one after another: i of them are followed
 pub stands-more : {c : Case} {task : Task} (xs : List Step) (i : ℕ) {st r : Following} → StandsAfter c task (length xs) (take i xs) st
     → i < length xs → Follows c st (get_or xs i no_step ∷ []) r → StandsAfter c task (length xs) (take (i + 1) xs) r

@@ -1,30 +1,45 @@
--- The second pass of weaving: each step whose bus is not yet reached goes to the record that the number of buses reached before it says.
-use mathlib.Core.Path.{◌≡◌, refl, sym, ap, ◌∙◌}
+-- The second pass of weaving: each step goes to the record that the number of buses reached before it says. So a step for a bus that is
+-- already reached goes where the next new one goes, and is written over.
+use mathlib.Core.Path.{◌≡◌, refl, sym, ap, ◌∙◌, subst, subst⁻¹}
 use mathlib.Core.List.{List, [], ◌∷◌, ◌++◌, append-nil}
-use Prim.Native.Nat.{ℕ, suc, ◌+◌, ◌<◌}
+use mathlib.Core.Logic.{⊎_elim}
+use Prim.Native.Nat.{ℕ, zero, suc, ◌+◌, ◌≤◌, ◌<◌}
 use native.Mathlib.Numerals.{add-one}
 use native.Mathlib.Omega.{arith}
-use lib.ListN.{length, take, drop, get_or, set as put, length-append, length-drop, take-append-drop}
-use lib.Seq.{take-suc, drop-cons, set_at, append_snoc}
-use Rattle.busset.specs.Sets.{In, Out, With, Counted, bit, width, empty, add, size}
-use Rattle.busset.proofs.Members.{with-add, add_again}
+use lib.ListN.{length, take, drop, get_or, set as put, length-append, length-set, take-append-drop}
+use lib.Seq.{take-suc, take_all, take_at, drop-cons, set_at, set-set, append_snoc}
+use Rattle.basics.specs.Lists.{Each}
+use Rattle.basics.proofs.Tests.{below_or}
+use Rattle.busset.specs.Sets.{Bus, In, Out, With, Counted, bit, width, empty, add, size, set_of}
+use Rattle.busset.proofs.Members.{in_or, with-add}
 use Rattle.step.specs.Records.{no_step, written_into}
 use Rattle.step.specs.declared.Step.{Step}
 use Rattle.rules.specs.Steps.{reached}
 use Rattle.rules.specs.Weaving.{unless_seen, woven, woven_from}
-use Rattle.list_follow.specs.Replies.{CanPut}
+use Rattle.list_follow.specs.Replies.{CanPut, put_woven}
 use Rattle.list_follow.proofs.Joining.{reached_append, woven_append, woven-size}
 
--- s is what the first i steps reach, and zs holds what weaving writes of them
-pub record PutSoFar (xs before : List Step) (i s : ℕ) (zs : List Step) : Type 0 where
-  pub reaches : s ≡ reached (take i xs)
-  pub is : zs ≡ written_into (woven (take i xs)) before
+-- zs holds what weaving writes of the first i steps, but that the record after those may hold anything until m are written
+pub record PutSoFar (m : ℕ) (xs before : List Step) (i s k : ℕ) (zs : List Step) : Type 0 where
+  pub reaches : set_of s ≡ reached (take i xs)
+  pub count : k ≡ length (woven (take i xs))
+  pub le : k ≤ m
+  pub long : length zs ≡ length before
+  pub next : (x : Step) → put zs k x ≡ put (written_into (woven (take i xs)) before) k x
+  pub all : k ≡ m → zs ≡ written_into (woven (take i xs)) before
 
-pub put-none : (xs before : List Step) {s : ℕ} → s ≡ empty → PutSoFar xs before 0 s before
-put-none xs before e = record { reaches = e; is = refl }
+pub put-none : (m : ℕ) (xs before : List Step) {s : ℕ} → set_of s ≡ empty → PutSoFar m xs before 0 s 0 before
+put-none m xs before e = record { reaches = e; count = refl; le = omega arith; long = refl; next = λ x. refl; all = λ h. refl }
 
-module _ {xs before : List Step} {i s : ℕ} {zs : List Step} (can : CanPut xs before) (w : PutSoFar xs before i s zs)
-    (l : i < length xs) where
+-- ---- while fewer than m are written
+
+each_at : (P : Step → Type 0) (xs : List Step) (i : ℕ) → Each P xs → i < length xs → P (get_or xs i no_step)
+each_at P [] i h l = absurd (omega arith)
+each_at P (x ∷ xs) zero h l = h.0
+each_at P (x ∷ xs) (suc i) h l = each_at P xs i h.1 (omega arith)
+
+module _ {m : ℕ} {xs before : List Step} {i s k : ℕ} {zs : List Step} (can : CanPut m xs before) (w : PutSoFar m xs before i s k zs)
+    (l : k < m) where
   abbrev x : Step
   x = get_or xs i no_step
 
@@ -35,61 +50,86 @@ module _ {xs before : List Step} {i s : ℕ} {zs : List Step} (can : CanPut xs b
   abbrev more : List Step
   more = woven (take (i + 1) xs)
 
+  -- there is a step to come
+  pub step_comes : i < length xs
+  step_comes =
+      ⊎_elim (λ (h : i < length xs). h)
+      (λ (h : length xs ≤ i). absurd (omega (arith, can.some, w.count, ap (λ (ys : List Step). length (woven ys)) (take_all i xs h))))
+      (below_or i (length xs))
+
+  pub bus_comes : Bus width x.bus
+  bus_comes = each_at (λ y. Bus width y.bus) xs i (can.buses (omega arith)) step_comes
+
   taken : take (i + 1) xs ≡ take i xs ++ (x ∷ [])
-  taken = ap (λ (j : ℕ). take j xs) (add-one i) ∙ take-suc xs i no_step l
+  taken = ap (λ (j : ℕ). take j xs) (add-one i) ∙ take-suc xs i no_step step_comes
 
-  more_is : more ≡ ws ++ unless_seen (bit s x.bus) x []
-  more_is =
-      ap woven taken ∙ woven_append empty (take i xs) (x ∷ [])
-      ∙ ap (λ (t : ℕ). ws ++ unless_seen (bit t x.bus) x []) (sym w.reaches)
+  more_is : more ≡ ws ++ unless_seen (bit (reached (take i xs)) x.bus) x []
+  more_is = ap woven taken ∙ woven_append empty (take i xs) (x ∷ [])
 
-  reaches_more : add s x.bus ≡ reached (take (i + 1) xs)
-  reaches_more =
-      ap (λ (t : ℕ). add t x.bus) w.reaches ∙ sym (reached_append empty (take i xs) (x ∷ [])) ∙ ap reached (sym taken)
+  module _ (t : ℕ) {j : ℕ} (with-x : With (set_of s) x.bus (set_of t)) (counted : Counted width (set_of t) j) where
+    reaches_more : set_of t ≡ reached (take (i + 1) xs)
+    reaches_more =
+        with-add with-x ∙ ap (λ (z : ℕ). add z x.bus) w.reaches ∙ sym (reached_append empty (take i xs) (x ∷ []))
+        ∙ ap reached (sym taken)
 
-  -- the bus is reached already
-  pub put_seen : In s x.bus → PutSoFar xs before (i + 1) s zs
-  put_seen h = record {
-    reaches = sym (add_again s x.bus h) ∙ reaches_more;
-    is =
-        w.is
-        ∙ ap (λ (us : List Step). written_into us before)
-        (sym (more_is ∙ ap (λ (d : ℕ). ws ++ unless_seen d x []) h ∙ append-nil ws));
-  }
+    counts_more : j ≡ length more
+    counts_more = counted.is ∙ ap size reaches_more ∙ sym (woven-size (take (i + 1) xs))
 
-  -- it is new
-  module _ (o : Out s x.bus) where
-    is : more ≡ ws ++ (x ∷ [])
-    is = more_is ∙ ap (λ (d : ℕ). ws ++ unless_seen d x []) o
+    after : length more ≤ m → ((y : Step) → put (put zs k x) (length more) y ≡ put (written_into more before) (length more) y)
+        → (length more ≡ m → put zs k x ≡ written_into more before) → PutSoFar m xs before (i + 1) t j (put zs k x)
+    after le next all = record {
+      reaches = reaches_more;
+      count = counts_more;
+      le = omega (arith, counts_more);
+      long = length-set zs k x ∙ w.long;
+      next = λ y. subst⁻¹ (λ (n : ℕ). put (put zs k x) n y ≡ put (written_into more before) n y) counts_more (next y);
+      all = λ e. all (sym counts_more ∙ e);
+    }
 
-    long : length more ≡ suc (length ws)
-    long = ap length is ∙ omega (arith, length-append ws (x ∷ []))
+    -- the bus is not yet reached: the step stays where it is put
+    new : Out (reached (take i xs)) x.bus → PutSoFar m xs before (i + 1) t j (put zs k x)
+    new o = after (omega (arith, long, w.count)) (λ y. ap (λ (r : List Step). put r (length more) y) same) (λ e. same)
+      where
+        is : more ≡ ws ++ (x ∷ [])
+        is = more_is ∙ ap (λ (d : ℕ). ws ++ unless_seen d x []) o
 
-    -- there is room
-    few : length ws < length before
-    few =
-        let rest = woven_from (reached (take (i + 1) xs)) (drop (i + 1) xs) in
-        let parted : woven xs ≡ more ++ rest =
-        ap woven (sym (take-append-drop (i + 1) xs)) ∙ woven_append empty (take (i + 1) xs) (drop (i + 1) xs) in
-        omega (arith, can.room, ap length parted, length-append more rest, long)
+        long : length more ≡ suc (length ws)
+        long = ap length is ∙ omega (arith, length-append ws (x ∷ []))
 
-    -- k buses are reached
-    module _ {k : ℕ} (counted : Counted width s k) where
-      count : k ≡ length ws
-      count = counted.is ∙ ap size w.reaches ∙ sym (woven-size (take i xs))
-
-      pub room_comes : k < length zs
-      room_comes =
-          omega (arith, few, count, ap length w.is, length-append ws (drop (length ws) before), length-drop (length ws) before)
-
-      pub put_new : {t : ℕ} → With s x.bus t → PutSoFar xs before (i + 1) t (put zs k x)
-      put_new with-x = record {
-        reaches = with-add with-x ∙ reaches_more;
-        is =
-            ap (λ (us : List Step). put us k x) w.is
-            ∙ ap (λ (r : List Step). put (ws ++ r) k x) (drop-cons before (length ws) no_step few)
-            ∙ set_at ws (get_or before (length ws) no_step) (drop (suc (length ws)) before) x k (sym count)
+        same : put zs k x ≡ written_into more before
+        same =
+            w.next x
+            ∙ ap (λ (r : List Step). put (ws ++ r) k x) (drop-cons before (length ws) no_step (omega (arith, can.room, w.count)))
+            ∙ set_at ws (get_or before (length ws) no_step) (drop (suc (length ws)) before) x k (sym w.count)
             ∙ sym (append_snoc ws x (drop (suc (length ws)) before))
             ∙ ap (λ (r : List Step). r ++ drop (suc (length ws)) before) (sym is)
-            ∙ ap (λ (n : ℕ). more ++ drop n before) (sym long);
-      }
+            ∙ ap (λ (n : ℕ). more ++ drop n before) (sym long)
+
+    -- the bus is reached: the next step is put over this one
+    seen : In (reached (take i xs)) x.bus → PutSoFar m xs before (i + 1) t j (put zs k x)
+    seen h =
+        after (omega (arith, ap length is, w.count))
+        (λ y. subst⁻¹ (λ (us : List Step). put (put zs k x) (length us) y ≡ put (written_into us before) (length us) y) is (over y))
+        (λ e. absurd (omega (arith, ap length is, w.count)))
+      where
+        is : more ≡ ws
+        is = more_is ∙ ap (λ (d : ℕ). ws ++ unless_seen d x []) h ∙ append-nil ws
+
+        over : (y : Step) → put (put zs k x) (length ws) y ≡ put (written_into ws before) (length ws) y
+        over y =
+            subst (λ (n : ℕ). put (put zs k x) n y ≡ put (written_into ws before) n y) w.count (set-set zs k x y ∙ w.next y)
+
+    pub put_more : PutSoFar m xs before (i + 1) t j (put zs k x)
+    put_more = ⊎_elim seen new (in_or (reached (take i xs)) x.bus)
+
+-- ---- m are written
+
+pub put_all : {m : ℕ} {xs before : List Step} {i s k : ℕ} {zs : List Step} → PutSoFar m xs before i s k zs → m ≤ k
+    → zs ≡ put_woven m xs before
+put_all {m} {xs} {before} {i} w l =
+    let ws = woven (take i xs) in
+    let rest = woven_from (reached (take i xs)) (drop i xs) in
+    let parted : woven xs ≡ ws ++ rest =
+    ap woven (sym (take-append-drop i xs)) ∙ woven_append empty (take i xs) (drop i xs) in
+    w.all (omega (arith, w.le))
+    ∙ ap (λ (us : List Step). written_into us before) (sym (ap (take m) parted ∙ take_at ws rest m (omega (arith, w.le, w.count))))

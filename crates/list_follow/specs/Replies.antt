@@ -1,6 +1,6 @@
 -- What replay and weaving promise.
 use Rattle.refusals.specs.declared.Refusal.{Refusal}
-use Rattle.std.specs.Prelude.{◌≡◌, List, [], ◌∷◌, ◌++◌, cond, ℕ, ◌≤◌, leb, length, Result, Ok, Err}
+use Rattle.std.specs.Prelude.{◌≡◌, List, [], ◌∷◌, ◌++◌, cond, ℕ, ◌≤◌, ◌<◌, leb, length, take, Result, Ok, Err}
 use Rattle.basics.specs.Deciding.{Decides}
 use Rattle.basics.specs.Lists.{Each}
 use Rattle.busset.specs.Sets.{Bus, width, size, set_of}
@@ -80,7 +80,12 @@ wove_at st room (Ok u) =
     cond (leb count room) (Ok (record { count = count; set = st.set })) (Err NoRoom)
 wove_at st room (Err q) = Err q
 
--- what weaving writes of xs can be put into the records that hold `before`
-pub record CanPut (xs before : List Step) : Type 0 where
-  pub buses : Each (λ x. Bus width x.bus) xs
-  pub room : length (woven xs) ≤ length before
+-- the first m of the steps that weaving writes of xs can be put into the records that hold `before`
+pub record CanPut (m : ℕ) (xs before : List Step) : Type 0 where
+  pub buses : 0 < m → Each (λ x. Bus width x.bus) xs
+  pub some : m ≤ length (woven xs)
+  pub room : m ≤ length before
+
+-- the records with the first m of the steps that weaving writes of xs
+abbrev pub put_woven : ℕ → List Step → List Step → List Step
+put_woven m xs before = written_into (take m (woven xs)) before

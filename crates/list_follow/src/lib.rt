@@ -1,12 +1,13 @@
 // Following a desk's list step by step: where it begins, where it is after each step, and how it ends.
 #![tactic(auto)]
 
-ghost use Rattle.std.specs.Prelude.{◌≡◌, [], ◌∷◌};
+ghost use Rattle.std.specs.Prelude.{◌≡◌, [], ◌∷◌, ℕ, suc, ◌<◌};
+ghost use Rattle.grid.specs.Limits.{most_steps};
 ghost use Rattle.basics.specs.Deciding.{Decides};
 ghost use Rattle.busset.specs.Sets.{set_of};
 ghost use Rattle.refusals.specs.Refusals.{CheckedBy};
 ghost use Rattle.rules.specs.Steps.{Finished};
-ghost use Rattle.grid.specs.Cases.{grid_of, Sized};
+ghost use Rattle.grid.specs.Cases.{grid_with, case_of, Sized};
 ghost use Rattle.list_follow.specs.Following.{begin_checks, StandsAfter, Follows, after_refusal};
 ghost use Rattle.list_follow.specs.Replies.{AnswersReplay, wove_at};
 
@@ -72,6 +73,13 @@ pub fn begin(case: &Case, task: Task, count: usize) -> Following
     }
 }
 
+// The number of the step after those read: no list has a step after the most.
+fn next_number(read: usize) -> usize
+    ensures { read < most_steps → result ≡ suc read }
+{
+    if read < MOST_STEPS { read + 1 } else { read }
+}
+
 // The standing after a step that the test refuses with q: weaving passes over an observed bus.
 fn after_refusal(task: Task, q: Refusal) -> Result<(), Refusal>
     ensures { result ≡ after_refusal task q }
@@ -82,9 +90,10 @@ fn after_refusal(task: Task, q: Refusal) -> Result<(), Refusal>
     }
 }
 
-// The list after one step more, by the single-step test. The first bad step stays.
+// The list after one step more, by the single-step test, whatever the sites are. The first bad step stays.
 pub fn apply(case: &Case, st: Following, x: Step) -> Following
-    ensures { Follows case.now st (x ∷ []) result }
+    ensures { (sites : ℕ)
+        → Follows (case_of case.now.n case.now.nbr case.now.zero sites case.now.units) st (x ∷ []) result }
 {
     let Ok(()) = st.standing else {
         return st;
@@ -92,7 +101,7 @@ pub fn apply(case: &Case, st: Following, x: Step) -> Following
     if MOST_BUSES < case.n {
         return st;
     }
-    let read = st.read.saturating_add(1);
+    let read = next_number(st.read);
     match tested_at(case, st.set, x, read) {
         Ok(()) => Following {
             set: st.set.with(x.bus),
@@ -107,9 +116,10 @@ pub fn apply(case: &Case, st: Following, x: Step) -> Following
     }
 }
 
-// Whether no step is allowed where s is observed.
+// Whether no step is allowed where s is observed, whatever n and the sites are.
 pub fn is_finished(case: &Case, s: BusSet) -> bool
-    ensures { Decides (Finished (grid_of case.now) (set_of s)) result }
+    ensures { (n sites : ℕ)
+        → Decides (Finished (grid_with n case.now.nbr case.now.zero sites case.now.units) (set_of s)) result }
 {
     if !case.with_neighbours(case.units).is_subset(s) {
         return false;
@@ -117,9 +127,10 @@ pub fn is_finished(case: &Case, s: BusSet) -> bool
     observe::set::sweep(case, s) == s
 }
 
-// Replay's answer for the list that ends so.
+// Replay's answer for the list that ends so, whatever n and the sites are.
 pub fn ended(case: &Case, st: Following) -> Result<Replayed, Refusal>
-    ensures { AnswersReplay case.now st result }
+    ensures { (n sites : ℕ)
+        → AnswersReplay (case_of n case.now.nbr case.now.zero sites case.now.units) st result }
 {
     st.standing?;
     Ok(Replayed {

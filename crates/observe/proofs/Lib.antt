@@ -2,3 +2,4 @@ pub mod Counting
 pub mod Firing
 pub mod Passing
 pub mod Signed
+pub mod Holding

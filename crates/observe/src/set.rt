@@ -1,5 +1,5 @@
 // The observed set: what the units give by O1, spread by O2.
-ghost use Rattle.std.specs.Prelude.{◌≡◌};
+ghost use Rattle.std.specs.Prelude.{◌≡◌, ℕ};
 ghost use Rattle.busset.specs.Sets.{lack, size, set_of};
 ghost use Rattle.rules.specs.Observation.{ObservedSet};
 ghost use Rattle.grid.specs.Rows.{neighbours};
@@ -56,9 +56,9 @@ pub fn spread(case: &Case, s: BusSet) -> BusSet
     }
 }
 
-// What units on the grid of the case observe: its own, or others.
+// What units on the grid of the case observe, its own or others, whatever n and the sites are: no rule reads them.
 pub fn observed(case: &Case, units: BusSet) -> BusSet
-    ensures { ObservedSet (grid_with case.now.n case.now.nbr case.now.zero case.now.site units) (set_of result) }
+    ensures { (n sites : ℕ) → ObservedSet (grid_with n case.now.nbr case.now.zero sites units) (set_of result) }
 {
     spread(case, case.with_neighbours(units))
 }

@@ -1,11 +1,11 @@
 // The test of one step: the buses that it names, whether its bus is observed, and whether its reason holds.
-ghost use Rattle.std.specs.Prelude.{◌≤◌};
+ghost use Rattle.std.specs.Prelude.{ℕ, ◌≤◌};
 ghost use Rattle.basics.specs.Deciding.{Decides};
 ghost use Rattle.busset.specs.Sets.{Bus, width, set_of};
 ghost use Rattle.refusals.specs.Refusals.{CheckedBy};
 ghost use Rattle.rules.specs.Steps.{ByUnit, ByZero, Holds, Names};
 ghost use Rattle.grid.specs.Rows.{neighbours};
-ghost use Rattle.grid.specs.Cases.{grid_of};
+ghost use Rattle.grid.specs.Cases.{grid_with};
 ghost use Rattle.observe.specs.Testing.{step_checks_at};
 
 use busset::{BusSet, is_bus};
@@ -55,10 +55,13 @@ pub fn by_zero(case: &Case, s: BusSet, b: usize, w: usize) -> bool
     m.is_subset(s.with(b))
 }
 
-// Whether the reason of the step holds where s is observed.
+// Whether the reason of the step holds where s is observed, whatever n and the sites are.
 pub fn holds(case: &Case, s: BusSet, x: Step) -> bool
     requires { Names width x }
-    ensures { Decides (Holds (grid_of case.now) (set_of s) x.bus x.reason) result }
+    ensures { (n sites : ℕ)
+        → Decides
+        (Holds (grid_with n case.now.nbr case.now.zero sites case.now.units) (set_of s) x.bus x.reason)
+        result }
 {
     match x.reason {
         Reason::OwnUnit => case.units.has(x.bus),
@@ -67,10 +70,13 @@ pub fn holds(case: &Case, s: BusSet, x: Step) -> bool
     }
 }
 
-// Whether the step, which is step k, is allowed where s is observed.
+// Whether the step, which is step k, is allowed where s is observed, whatever the sites are.
 pub fn tested_at(case: &Case, s: BusSet, x: Step, k: usize) -> Result<(), Refusal>
     requires { case.now.n ≤ width }
-    ensures { CheckedBy (step_checks_at (grid_of case.now) k (set_of s) x) result }
+    ensures { (sites : ℕ)
+        → CheckedBy
+        (step_checks_at (grid_with case.now.n case.now.nbr case.now.zero sites case.now.units) k (set_of s) x)
+        result }
 {
     if !names(case.n, x) {
         return Err(Refusal::NoSuchBus(k));

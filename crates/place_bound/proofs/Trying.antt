@@ -69,7 +69,7 @@ pub kept_cover : (g : Grid) {free units sites k v : ℕ} {pool : List SetWord} �
     → Sub sites free → Cover (with_units g units) sites k v
     → MeetsKept pool units v
 kept_cover g {free} {units} {sites} {k} {v} {pool} c kept sub w = record {
-  met = λ i d l none. meets-to (set_of (get_or pool i d)) v
+  met = λ i d l some none. meets-to (set_of (get_or pool i d)) v
       (λ b p q. (
         p,
         omega (
@@ -81,7 +81,7 @@ kept_cover g {free} {units} {sites} {k} {v} {pool} c kept sub w = record {
           bit-zero b,
         ),
       ))
-      ((kept.groups i d l).met _ _ (chosen_cover g c sub w));
+      ((kept.groups i d l some).met _ _ (chosen_cover g c sub w));
 }
 
 -- no rule reads the sites

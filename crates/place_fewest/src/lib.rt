@@ -54,7 +54,7 @@ pub fn fewest(case: &Case, budget: usize) -> Option<BusSet>
     ensures { FewestIs (grid_of case.now) budget result }
 {
     let free = case.site.minus(case.units);
-    let mut pool = Pool::new();
+    let mut pool = Pool::blank(BusSet::none());
     seed(case, free, case.units, budget, &mut pool);
     for k in 0..=budget {
         if let Some(m) = search(case, free, case.units, free, k, &mut pool) {

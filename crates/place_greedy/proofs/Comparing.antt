@@ -96,6 +96,14 @@ pub record Adding (g : Grid) (budget u s : ℕ) (sites : List ℕ) : Type 0 wher
   pub least : ObservedSet (with_units g u) s
   pub rest : (ys : List ℕ) → GreedyList (with_units g u) (budget - length sites) ys → GreedyList g budget (sites ++ ys)
 
+-- no site is added yet
+pub adding-none : (g : Grid) (budget : ℕ) {s : ℕ} {sites : List ℕ} → sites ≡ [] → ObservedSet g s → Adding g budget g.units s sites
+adding-none g budget {s} e l =
+    subst⁻¹ (Adding g budget g.units s) e (record { least = l; rest = λ ys h. subst (λ (k : ℕ). GreedyList g k ys) (whole budget) h })
+  where
+    whole : (k : ℕ) → k - 0 ≡ k
+    whole k = omega arith
+
 pub adding-more : {g : Grid} {budget u s v t : ℕ} {sites more : List ℕ} {x : ℕ} → Adding g budget u s sites → length sites < budget
     → Best (with_units g u) x → more ≡ sites ++ (x ∷ []) → v ≡ add u x → ObservedSet (with_units g (add u x)) t
     → Adding g budget v t more

@@ -32,7 +32,8 @@ meets-left {w} {left} {r} {v} h sub = meets-to r v (λ b i j. (omega (arith, h.a
 
 -- the group that is kept at i
 pub kept-meets : {pool xs : List SetWord} {units v : ℕ} {w : SetWord} (i : ℕ) → xs ≡ pool → i < length xs → w ≡ get_or xs i w
-    → MeetsKept pool units v → meet (set_of w) units ≡ empty → Meets (set_of w) v
-kept-meets {pool} {xs} {units} {v} {w} i e l is kept =
-    subst⁻¹ (λ (x : SetWord). meet (set_of x) units ≡ empty → Meets (set_of x) v) (is ∙ ap (λ (ys : List SetWord). get_or ys i w) e)
-    (kept.met i w (subst (λ (ys : List SetWord). i < length ys) e l))
+    → (set_of w ≡ empty → ⊥) → MeetsKept pool units v → meet (set_of w) units ≡ empty → Meets (set_of w) v
+kept-meets {pool} {xs} {units} {v} {w} i e l is some kept =
+    subst⁻¹ (λ (x : SetWord). (set_of x ≡ empty → ⊥) → meet (set_of x) units ≡ empty → Meets (set_of x) v)
+    (is ∙ ap (λ (ys : List SetWord). get_or ys i w) e)
+    (kept.met i w (subst (λ (ys : List SetWord). i < length ys) e l)) some

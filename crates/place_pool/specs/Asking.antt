@@ -8,7 +8,7 @@ use Rattle.place_pool.specs.declared.Hints.{Hints}
 
 -- v has an item of each group that the units do not meet
 pub record MeetsKept (pool : List SetWord) (units v : ℕ) : Type 0 where
-  pub met : All (λ w. meet (set_of w) units ≡ empty → Meets (set_of w) v) pool
+  pub met : All (λ w. (set_of w ≡ empty → ⊥) → meet (set_of w) units ≡ empty → Meets (set_of w) v) pool
 
 -- what the groups that were asked say of v
 pub record Says (a : Hints) (v : ℕ) : Type 0 where

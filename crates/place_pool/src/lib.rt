@@ -7,8 +7,8 @@ ghost use Rattle.busset.specs.Sets.{Sub, empty, meet, size, set_of, width};
 ghost use Rattle.place_pool.specs.Pool.{KeptWith};
 ghost use Rattle.place_pool.specs.Asking.{MeetsKept, Says, Smaller, SaysBeside, SaysMore, SaysUnmet};
 
-use arrayvec::ArrayVec;
 use busset::BusSet;
+use fixed_list::FixedList;
 
 // How many groups are kept.
 pub const MOST_KEPT: usize = 1000;
@@ -16,8 +16,8 @@ pub const MOST_KEPT: usize = 1000;
 // How many are enough for a call that places no more units.
 pub const ENOUGH_KEPT: usize = 200;
 
-// The oldest first.
-pub type Pool = ArrayVec<BusSet, MOST_KEPT>;
+// The oldest first; an empty one ends them.
+pub type Pool = FixedList<BusSet, MOST_KEPT>;
 
 // What the groups that were asked say of a cover by at most k further sites.
 #[derive(Clone, Copy)]
@@ -36,14 +36,16 @@ pub struct Hints {
 
 // ---- the pool
 
-// Keeps a group, in place of the oldest if there is no room.
+// Keeps a group, in place of the oldest if there is no room. The oldest goes for an empty one too, which is not put.
 pub fn keep(pool: &mut Pool, group: BusSet)
     ensures { KeptWith pool.old.items (set_of group) pool.new.items }
 {
     if pool.is_full() {
-        pool.remove(0);
+        pool.drop_first();
     }
-    pool.push(group);
+    if !group.is_none() {
+        pool.push(group);
+    }
 }
 
 // Whether a call that places k more units looks for no group: it places none, and enough are kept.
@@ -148,6 +150,9 @@ pub fn ask_kept(pool: &Pool, units: BusSet, sites: BusSet, k: usize) -> Hints
         apart: 0,
     };
     for &group in pool.iter() {
+        if group.is_none() {
+            return a;
+        }
         a = ask(a, group, units, k);
         if a.apart > k {
             return a;

@@ -57,6 +57,10 @@ gathered-yes {g} {s} {new} {t} {b} h k w =
 pub gathered-no : {g : Grid} {s new b : ℕ} → Gathered g s new b → (Gives g s b → ⊥) → Gathered g s new (b + 1)
 gathered-no h none = gathered-more h (λ a i. i) (λ k. absurd (none k)) h.only
 
+-- past the last bus all are gathered
+pub gathered-all : {g : Grid} {s new b : ℕ} → Proper g → g.n < b → Gathered g s new b → RoundSet g s new
+gathered-all v l h = record { all = λ a k. h.all a (omega (arith, (gives-bus v k).most)) k; only = h.only }
+
 pub gathered-to : {g : Grid} {s : ℕ} {v w : SetWord} {b : ℕ} → v ≡ w → Gathered g s (set_of w) b → Gathered g s (set_of v) b
 gathered-to {g} {s} {b = b} e h = subst⁻¹ (λ (x : SetWord). Gathered g s (set_of x) b) e h
 

@@ -6,22 +6,27 @@ ghost use Rattle.basics.specs.Deciding.{Decides};
 ghost use Rattle.busset.specs.Sets.{Bus, width, set_of};
 ghost use Rattle.rules.specs.Grids.{Proper};
 ghost use Rattle.rules.specs.Rounds.{Gives};
-ghost use Rattle.grid.specs.Cases.{grid_of, Valid};
+ghost use Rattle.busset.specs.Held.{SetWord};
+ghost use Rattle.grid.specs.Cases.{grid_of, grid_with, Valid};
 ghost use Rattle.round_list.specs.Rounds.{SomeReason, RoundSet, HasRounds};
 
-use arrayvec::ArrayVec;
 use busset::BusSet;
+use fixed_list::FixedList;
 use grid::Case;
 use grid::limits::MOST_BUSES;
 use observe::test::{by_unit, by_zero};
 
 // The rounds that add a bus, in order, each the buses that it adds.
-pub type RoundSets = ArrayVec<BusSet, MOST_BUSES>;
+pub type RoundSets = FixedList<BusSet, MOST_BUSES>;
 
 // Whether some reason holds for bus b where s is observed: O, and N and Z by each bus that they may name.
+// The sites are whatever they are: no reason reads them.
 fn has_reason(case: &Case, s: BusSet, b: usize) -> bool
     requires { (case.now.n ≤ width) × Bus width b }
-    ensures { Proper (grid_of case.now) → Decides (SomeReason (grid_of case.now) (set_of s) b) result }
+    ensures { (sites : SetWord) → Proper (grid_with case.now.n case.now.nbr case.now.zero sites case.now.units)
+        → Decides
+        (SomeReason (grid_with case.now.n case.now.nbr case.now.zero sites case.now.units) (set_of s) b)
+        result }
 {
     case.units.has(b) || (1..case.n + 1).any(|p| by_unit(case, b, p) || by_zero(case, s, b, p))
 }
@@ -29,7 +34,8 @@ fn has_reason(case: &Case, s: BusSet, b: usize) -> bool
 // Whether the round that begins with s adds bus b.
 fn is_given(case: &Case, s: BusSet, b: usize) -> bool
     requires { (case.now.n ≤ width) × Bus width b }
-    ensures { Proper (grid_of case.now) → Decides (Gives (grid_of case.now) (set_of s) b) result }
+    ensures { (sites : SetWord) → Proper (grid_with case.now.n case.now.nbr case.now.zero sites case.now.units)
+        → Decides (Gives (grid_with case.now.n case.now.nbr case.now.zero sites case.now.units) (set_of s) b) result }
 {
     !s.has(b) && has_reason(case, s, b)
 }
@@ -37,7 +43,8 @@ fn is_given(case: &Case, s: BusSet, b: usize) -> bool
 // The buses that the round beginning with s adds: every bus is looked at against s itself.
 fn round(case: &Case, s: BusSet) -> BusSet
     requires { case.now.n ≤ width }
-    ensures { Proper (grid_of case.now) → RoundSet (grid_of case.now) (set_of s) (set_of result) }
+    ensures { (sites : SetWord) → Proper (grid_with case.now.n case.now.nbr case.now.zero sites case.now.units)
+        → RoundSet (grid_with case.now.n case.now.nbr case.now.zero sites case.now.units) (set_of s) (set_of result) }
 {
     let mut new = BusSet::none();
     for b in 1..=case.n {
@@ -53,7 +60,7 @@ pub fn rounds(case: &Case) -> RoundSets
     requires { Valid case.now }
     ensures { HasRounds (grid_of case.now) result.items }
 {
-    let mut sets = ArrayVec::new();
+    let mut sets = RoundSets::blank(BusSet::none());
     let mut s = BusSet::none();
     loop {
         let new = round(case, s);

@@ -65,3 +65,24 @@ pub derivation_length : (g : Grid) (xs : List Step) → Derivation g xs → leng
 derivation_length g xs d = accepted_length g xs (derived-accepted d).0
 
 -- ---- two grids in which the same reasons hold
+
+pub record SameReasons (g h : Grid) : Type 0 where
+  pub to : (s b : ℕ) (r : Reason) → Holds g s b r → Holds h s b r
+  pub from : (s b : ℕ) (r : Reason) → Holds h s b r → Holds g s b r
+
+allowed-from : {g h : Grid} {s : ℕ} {x : Step} → SameReasons g h → Allowed h s x → Allowed g s x
+allowed-from {s = s} {x = x} k a = record { new = a.new; holds = k.from s x.bus x.reason a.holds }
+
+pub finished-to : {g h : Grid} {s : ℕ} → SameReasons g h → Finished g s → Finished h s
+finished-to k f x a = f x (allowed-from k a)
+
+pub next-to : {g h : Grid} {s : ℕ} {x : Step} → SameReasons g h → NextIs g s x → NextIs h s x
+next-to {s = s} {x = x} k n = record {
+  allowed = record { new = n.allowed.new; holds = k.to s x.bus x.reason n.allowed.holds };
+  lowest = λ y a. n.lowest y (allowed-from k a);
+  first = λ y a e. n.first y (allowed-from k a) e;
+}
+
+pub derived-to : {g h : Grid} {s : ℕ} {xs : List Step} → SameReasons g h → DerivedFrom g s xs → DerivedFrom h s xs
+derived-to k (finished f) = finished (finished-to k f)
+derived-to k (next n d) = next (next-to k n) (derived-to k d)

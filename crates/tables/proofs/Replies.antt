@@ -186,7 +186,7 @@ sets_right =
     & (λ h. omega (arith, least-unique (seven_grid (3 ∷ [])) _ _ known.at3.least h.1))
     & stop invalid (itself _)
     & (λ h. failed_or_passed (observed_checks (tables.seven_case (3 ∷ []))) InvalidCase h (known.at3.valid, tt))
-    & ((known.at3.valid, tt), is-derivation)
+    & ((known.at3.valid, tt), record { derived = is-derivation; is = refl })
     & stop invalid (itself _)
     & ((known.at3.valid, tt), confirming.itself, word_own _)
     & stop invalid (itself _)

@@ -187,8 +187,8 @@ derivations_right =
     & no_steps
     & sweeping
     & other (drawn_grid sweep) 0 _ _ sweeping (λ l e. omega arith)
-    & is-derivation
-    & other (seven_grid (3 ∷ [])) 0 _ _ is-derivation (λ l e. omega arith)
+    & record { derived = is-derivation; is = refl }
+    & (λ h. other (seven_grid (3 ∷ [])) 0 _ _ is-derivation (λ l e. omega arith) h.derived)
     & tt
   where
     sweeping : Derivation (drawn_grid sweep) (near 3 4 ∷ own 4 ∷ zero_at 2 3 ∷ zero_at 1 2 ∷ [])

@@ -47,6 +47,10 @@ total-none (suc n) f e b h =
     (λ (l : suc n ≤ b). let q : b ≡ suc n = let m = h.most in omega arith in omega (arith, ap f q))
     (below_or b (suc n))
 
+-- two numbers that are not apart are the same
+pub gap-none : (m n : ℕ) → abs_diff m n ≡ 0 → m ≡ n
+gap-none m n e = omega arith
+
 -- 1 at 1, and 0 elsewhere
 unfoldable pub is_one : ℕ → ℕ
 is_one n = 1 - abs_diff n 1

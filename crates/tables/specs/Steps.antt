@@ -1,13 +1,13 @@
 -- Steps: when a reason holds, when a step is allowed, and lists of steps.
-use Rattle.std.specs.Prelude.{List, [], ◌∷◌, ℕ, ◌+◌, slice_get, Option, Some, None}
+use Rattle.std.specs.Prelude.{List, [], ◌∷◌, ℕ, ◌+◌, ◌-◌, replicate}
 use Rattle.grid.specs.Limits.{most_buses}
-use Rattle.step.specs.Records.{written_into, put_first}
+use Rattle.step.specs.Records.{no_step, written_into, put_first}
 use Rattle.step.specs.declared.Reason.{Reason}
 use Rattle.step.specs.declared.Reason.TheVariants.{OwnUnit, NeighbourOf, ZeroInjection}
 use Rattle.step.specs.declared.Step.{Step}
 use Rattle.rules.specs.Steps.{Holds, Allowed, ReasonNames, Names, AcceptedFrom, Accepted, reached, Finished}
 use Rattle.rules.proofs.Reasons.{HasReasoned}
-use Rattle.list_value.specs.Lists.{StepList, listed_steps, list_of}
+use Rattle.list_value.specs.Lists.{StepList, listed_steps, nth_of, list_of}
 use Rattle.tables.specs.Tables.{Right, Row, holds, fails}
 use Rattle.tables.specs.Drawings.{set, own, near, zero_at, seven_grid}
 
@@ -115,10 +115,12 @@ finished_table =
 
 -- ---- lists by value, and records lent
 
--- lists, and the list by value that has them
+-- lists, and the list by value that has them, with blanks up to the most buses
 abbrev pub list_of_table : List (List Step × StepList)
 list_of_table =
-    ([], record { items = [] }) ∷ (near 2 3 ∷ own 3 ∷ [], record { items = near 2 3 ∷ own 3 ∷ [] }) ∷ []
+    ([], record { items = []; free = replicate most_buses no_step })
+    ∷ (near 2 3 ∷ own 3 ∷ [], record { items = near 2 3 ∷ own 3 ∷ []; free = replicate (most_buses - 2) no_step })
+    ∷ []
 
 -- every row is right
 abbrev pub ListOfRight : Type 0
@@ -126,7 +128,7 @@ ListOfRight = Right list_of list_of_table
 
 -- the steps of a list by value
 abbrev pub listed_steps_table : List (StepList × List Step)
-listed_steps_table = (list_of derivation_steps, derivation_steps) ∷ (record { items = own 1 ∷ [] }, own 1 ∷ []) ∷ []
+listed_steps_table = (list_of derivation_steps, derivation_steps) ∷ (record { items = own 1 ∷ []; free = own 2 ∷ [] }, own 1 ∷ []) ∷ []
 
 -- every row is right
 abbrev pub ListedStepsRight : Type 0
@@ -152,10 +154,10 @@ put_first_table = (0, own 7 ∷ own 8 ∷ own 9 ∷ []) ∷ (2, own 1 ∷ own 2 
 abbrev pub PutFirstRight : Type 0
 PutFirstRight = Right (λ k. put_first k (λ i. own (i + 1)) (own 7 ∷ own 8 ∷ own 9 ∷ [])) put_first_table
 
--- a place from 0 in the derivation's list by value, and the step there: none past its end
-abbrev pub nth_of_table : List (ℕ × Option Step)
-nth_of_table = (0, Some (near 2 3)) ∷ (4, Some (near 7 3)) ∷ (5, None) ∷ (most_buses, None) ∷ []
+-- a place from 0 in the derivation's list by value, and the step there
+abbrev pub nth_of_table : List (ℕ × Step)
+nth_of_table = (0, near 2 3) ∷ (4, near 7 3) ∷ (5, no_step) ∷ (most_buses, no_step) ∷ []
 
 -- every row is right
 abbrev pub NthOfRight : Type 0
-NthOfRight = Right (slice_get (listed_steps (list_of derivation_steps))) nth_of_table
+NthOfRight = Right (nth_of (list_of derivation_steps)) nth_of_table

@@ -3,4 +3,4 @@ use Rattle.list_follow.proofs.Ends.{ended-good}
 use Rattle.list_follow.proofs.ended.Goals as goal
 
 pub returns : goal.returns
-returns c = ended-good c.in_ok-st.was c.is_finished.ensures
+returns c n sites = ended-good c.in_ok-st.was (c.is_finished.ensures n sites)

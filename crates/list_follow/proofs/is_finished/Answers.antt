@@ -5,10 +5,10 @@ use Rattle.list_follow.proofs.Ends.{finished_unless_started, finished_test}
 use Rattle.list_follow.proofs.is_finished.Goals as goal
 
 pub returns-then-not-is_subset : goal.returns-then-not-is_subset
-returns-then-not-is_subset c = finished_unless_started c.with_neighbours.ensures
+returns-then-not-is_subset c n sites = finished_unless_started c.with_neighbours.ensures
     (refutes c.is_subset.ensures c.if-not-is_subset.true)
 
 pub returns : goal.returns
-returns c = finished_test c.with_neighbours.ensures
+returns c n sites = finished_test c.with_neighbours.ensures
     (c.is_subset.ensures.yes c.if-not-is_subset.false)
     c.sweep.ensures (same-test _ _ c.eq.ensures)

@@ -3,4 +3,4 @@ use Rattle.busset.proofs.Holding.{word_own}
 use Rattle.observe_calls.proofs.observed_set.Goals as goal
 
 pub returns : goal.returns
-returns c = (c.in_ok-check.ensures, c.observed.ensures, word_own _)
+returns c = (c.in_ok-check.ensures, c.observed.ensures _ _, word_own _)

@@ -12,12 +12,12 @@ returns c =
     let fits : length c.greedy-sites.result.items ≤ length c.args.room.now = omega arith in (
       (
         c.in_ok-check.ensures.0,
-        (few, (greedy-fits _ _ _ c.greedy-sites.ensures fits, tt)),
+        (few, (greedy-fits _ _ _ (c.greedy-sites.ensures _) fits, tt)),
       ),
       record {
         list = c.greedy-sites.result.items;
-        greedy = c.greedy-sites.ensures;
-        count = c.len-count.ensures.value;
-        written = cc (c.copy_from_slice.ensures.after, c.deref.ensures.0);
+        greedy = c.greedy-sites.ensures _;
+        count = c.len-count.ensures;
+        written = cc (c.copy_from_slice.ensures.after, c.deref.ensures);
       },
     )

@@ -4,6 +4,7 @@ use native.Mathlib.Omega.{arith}
 use native.Mathlib.Nat.{le_refl}
 use borrow.Author.Rules.{rules}
 use mathlib.Core.Path.{ap, sym, ◌∙◌, subst⁻¹}
+use Rattle.basics.proofs.Tests.{refutes}
 use Rattle.busset.specs.Sets.{In, Lowest, less, set_of, width}
 use Rattle.busset.proofs.Words.{empty-set}
 use Rattle.busset.proofs.Members.{without_sub, without-less}
@@ -12,8 +13,8 @@ use Rattle.rules.specs.Grids.{Grid, with_sites_and_units}
 use Rattle.rules.specs.Placing.{with_units}
 use Rattle.grid.specs.Cases.{bare_grid}
 use Rattle.grid.specs.declared.Case.{Case}
-use Rattle.rules.proofs.Covering.{full-covers}
-use Rattle.place_light.proofs.Searching.{way-none, no-way-left, passed_none, passed-more, passed-no, passed_first}
+use Rattle.rules.proofs.Covering.{covers-full, full-covers}
+use Rattle.place_light.proofs.Searching.{way-none, no-way-none, no-way-left, passed_none, passed-more, passed-no, passed_first}
 use Rattle.place_light.proofs.Covers.{no_cover-way}
 use Rattle.place_bound.proofs.Trying.{chosen_more, observed_whatever}
 use Rattle.place_fewest.proofs.Finding.{found_take, found_pass}
@@ -37,7 +38,17 @@ returns-then-is_full t c =
     λ sites units ch kept. (
       way-none c.if-k-eq0.true (empty-set c.none.ensures)
           (full-covers (asked c.args.case.now c.args.units sites units)
-          (observed_whatever sites c.observed.ensures) (c.is_full.ensures.yes c.if-is_full.true)),
+          (observed_whatever sites (c.observed.ensures _ 0)) (c.is_full.ensures.yes c.if-is_full.true)),
+      kept,
+    )
+
+pub returns-then-k-eq0 : goal.returns-then-k-eq0
+returns-then-k-eq0 t c =
+    λ sites units ch kept. (
+      no-way-none c.if-k-eq0.true
+          (λ covers. refutes c.is_full.ensures c.if-is_full.false
+          (covers-full (asked c.args.case.now c.args.units sites units)
+          (observed_whatever sites (c.observed.ensures _ 0)) covers)),
       kept,
     )
 

@@ -13,7 +13,7 @@ pub loop-k-init : goal.loop-k-init
 loop-k-init c = (
   no-fewer-none _ _,
   (c.seed.ensures (set_of c.args.case.now.site) (set_of c.args.case.now.units) (chosen_none _ _)
-      (record { groups = λ i d l. absurd (omega (arith, ap length c.new-pool.ensures)) })).1,
+      (record { groups = λ i d l. absurd (omega (arith, ap length c.blank-pool.ensures.items)) })).1,
 )
 
 pub returns-in-Some : goal.returns-in-Some

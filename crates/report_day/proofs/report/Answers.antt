@@ -8,10 +8,12 @@ use Rattle.report_day.proofs.Reports.{derived-named, reported}
 use Rattle.report_day.proofs.report.Goals as goal
 
 pub print-requires : goal.print-requires
-print-requires c = let named : Named c.derive-steps.result.items = derived-named c.requires c.derive-steps.ensures in search rules
+print-requires c =
+    let derived = (c.derive-steps.ensures c.args.case.now.site).derived in
+    let named : Named c.derive-steps.result.items = derived-named c.requires derived in search rules
 
 pub returns : goal.returns
 returns c =
     let steps = c.derive-steps.result.items in
-    printed-by (reported c.derive-steps.ensures c.unconfirmed.ensures c.count-alone.ensures) _ _ _
+    printed-by (reported (c.derive-steps.ensures c.args.case.now.site).derived c.unconfirmed.ensures c.count-alone.ensures) _ _ _
     (c.print.ensures (day_text (length steps) c.args.case.now.n steps c.count-alone.result) (λ lent left k told. search rules))

@@ -25,5 +25,5 @@ returns c =
     let has = c.rounds-sets.ensures in
     let put = c.put_whole.ensures (round_numbers has.rounds) (λ lent left k told. search rules) in
     let some : c.put_whole.result ≡ Some c.in_ok-numbers.numbers = grind arith in
-    let written = rounds_written _ has _ _ (rw some at put) c.len-rounds.ensures.value in
+    let written = rounds_written _ has _ _ (rw some at put) c.len-rounds.ensures in
     ((c.in_ok-check.ensures.0, (written.0, tt)), written.1)

@@ -34,7 +34,7 @@ pub returns-then-has_enough : goal.returns-then-has_enough
 returns-then-has_enough c = (
   open_none (empty-set c.none-then-has_enough.ensures),
   λ sites units ch kept. (
-    try_none _ (missing_none (observed_whatever sites c.observed-s.ensures).closed (refutes c.is_full.ensures c.if-is_full.false)
+    try_none _ (missing_none (observed_whatever sites (c.observed-s.ensures _ 0)).closed (refutes c.is_full.ensures c.if-is_full.false)
         (c.has_enough.ensures c.if-has_enough.true)),
     kept,
   ),
@@ -45,9 +45,9 @@ returns-then-k-eq0 c = (
   open_none (empty-set c.none-then-k-eq0.ensures),
   λ sites units ch kept.
       let misses = refutes c.is_full.ensures c.if-is_full.false in
-      let l = observed_whatever sites c.observed-s.ensures in (
+      let l = observed_whatever sites (c.observed-s.ensures _ 0) in (
         try_none _ (group-none (beside-group _ l.closed misses c.requires.of c.beside-group.ensures) c.if-k-eq0.true),
-        c.keep.ensures.keeps _ _ _ kept (chosen-group ch l.closed misses c.beside-group.ensures),
+        c.keep.ensures.keeps _ _ _ kept (λ some. chosen-group ch l.closed misses c.beside-group.ensures),
       ),
 )
 
@@ -59,8 +59,8 @@ returns c = (
   },
   λ sites units ch kept.
       let misses = refutes c.is_full.ensures c.if-is_full.false in
-      let l = observed_whatever sites c.observed-s.ensures in (
+      let l = observed_whatever sites (c.observed-s.ensures _ 0) in (
         try_group (beside-group _ l.closed misses c.requires.of c.beside-group.ensures) c.both-2.ensures,
-        c.keep.ensures.keeps _ _ _ kept (chosen-group ch l.closed misses c.beside-group.ensures),
+        c.keep.ensures.keeps _ _ _ kept (λ some. chosen-group ch l.closed misses c.beside-group.ensures),
       ),
 )
